@@ -1,0 +1,29 @@
+-- Laws of tests as values: `&&` and `cond` of the kit, by what the test says.
+-- Assumes nothing.
+use mathlib.Core.Path.{_≡_, refl}
+use mathlib.Core.Bool.{Bool, true, false, _&&_, cond}
+use lib.Dec.{T}
+use borrow.Author.Needs.{needs}
+use borrow.Author.Tests.{eq-eqb, ne-eqb, lt-ltb, le-ltb, le-leb, lt-leb}
+
+-- `search tests` closes a need whose `cond`s are decided by the branches on the way there
+pub ruleset tests = (needs, eq-eqb, ne-eqb, lt-ltb, le-ltb, le-leb, lt-leb)
+
+-- what holds by both answers of a test holds
+pub by-test : {P : Type 0} (t : Bool) → (t ≡ true → P) → (t ≡ false → P) → P
+by-test true p q = p refl
+by-test false p q = q refl
+
+-- what holds of a where the test holds, and of b where not, holds of the one chosen
+pub cond-cases : {A : Type 0} (P : A → Type 0) (t : Bool) {a b : A} → (t ≡ true → P a) → (t ≡ false → P b) → P (cond t a b)
+cond-cases P true p q = p refl
+cond-cases P false p q = q refl
+
+-- the parts of a test that holds
+pub and-left : (a b : Bool) → T (a && b) → T a
+and-left true b t = tt
+and-left false b t = t
+
+pub and-right : (a b : Bool) → T (a && b) → T b
+and-right true b t = t
+and-right false b t = absurd t

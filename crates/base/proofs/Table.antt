@@ -1,0 +1,41 @@
+-- A rule of a table, proved at all of its entries by one test that antt computes, one entry after the other.
+-- Entries are of any type; `rows` is the same for a table of rows of w numbers.
+-- Assumes nothing.
+use mathlib.Core.Path.{_≡_, _∙_, subst, sym}
+use mathlib.Core.Bool.{Bool, true, false, _&&_}
+use mathlib.Core.List.{List, [], _∷_}
+use Prim.Native.Nat.{ℕ, zero, suc, _+_, _<_}
+use native.Mathlib.Nat.{add-zero, zero-add, add-suc, suc-add, le-of-suc-le-suc, not-suc-le-zero}
+use lib.Dec.{T, eqb, eqb→eq}
+use lib.ListN.{length, getD}
+use Rattle.base.proofs.Conds.{and-left, and-right}
+
+module _ {A : Type 0} (d : A) where
+  -- the test f passes at each entry of the list and its place, counted from i
+  abbrev pub every : (ℕ → A → Bool) → ℕ → List A → Bool
+  every f i [] = true
+  every f i (x ∷ xs) = f i x && every f (suc i) xs
+
+  from : (f : ℕ → A → Bool) (xs : List A) (i : ℕ) → T (every f i xs) → (k : ℕ) → k < length xs → T (f (i + k) (getD xs k d))
+  from f [] i t k h = absurd (not-suc-le-zero h)
+  from f (x ∷ xs) i t zero h = subst (λ (m : ℕ). T (f m x)) (sym (add-zero i)) (and-left (f i x) (every f (suc i) xs) t)
+  from f (x ∷ xs) i t (suc k) h =
+      subst (λ (m : ℕ). T (f m (getD xs k d))) (suc-add i k ∙ sym (add-suc i k))
+      (from f xs (suc i) (and-right (f i x) (every f (suc i) xs) t) k (le-of-suc-le-suc h))
+
+  pub at : (f : ℕ → A → Bool) (xs : List A) → T (every f 0 xs) → (k : ℕ) → k < length xs → T (f k (getD xs k d))
+  at f xs t k h = subst (λ (m : ℕ). T (f m (getD xs k d))) (zero-add k) (from f xs 0 t k h)
+
+-- a table of rows of w numbers is g at each row and place
+abbrev pub rowIs : (ℕ → ℕ → ℕ) → ℕ → ℕ → List ℕ → Bool
+rowIs g w k row = eqb (length row) w && every 0 (λ m x. eqb x (g k m)) 0 row
+
+pub rows : (g : ℕ → ℕ → ℕ) (w : ℕ) (t : List (List ℕ)) → T (every [] (rowIs g w) 0 t)
+    → (k m : ℕ) → k < length t → m < w → getD (getD t k []) m 0 ≡ g k m
+rows g w t ok k m hk hm =
+    let row : List ℕ = getD t k [] in
+    let test : T (rowIs g w k row) = at [] (rowIs g w) t ok k hk in
+    let rest : Bool = every 0 (λ m x. eqb x (g k m)) 0 row in
+    let long : length row ≡ w = eqb→eq (length row) w (and-left (eqb (length row) w) rest test) in
+    eqb→eq (getD row m 0) (g k m)
+    (at 0 (λ m x. eqb x (g k m)) row (and-right (eqb (length row) w) rest test) m (subst (λ (n : ℕ). m < n) (sym long) hm))
