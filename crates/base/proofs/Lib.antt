@@ -1,2 +1,4 @@
 pub mod Conds
 pub mod Table
+pub mod Lists
+pub mod Numbers

@@ -2,6 +2,8 @@
 //
 // An order of refusals, or a list of ranges, is one value made of tests, so that its proof is one equation and
 // not a case for each way through the code. The kit's `&&`, `||` and `cond` on Bool are what these functions mean.
+pub mod number;
+
 ghost use mathlib.Core.Path.{_≡_};
 ghost use mathlib.Core.Bool.{_&&_, _||_, cond};
 

@@ -1,0 +1,20 @@
+-- Laws of lists that several rooms need and the kit has not.
+-- Assumes nothing.
+use mathlib.Core.Path.{_≡_, refl, sym, ap, _∙_}
+use mathlib.Core.List.{List, [], _∷_, _++_}
+use Prim.Native.Nat.{ℕ, suc, _+_, _≤_, _<_}
+use native.Mathlib.Omega.{arith}
+use native.Mathlib.Nat.{add-zero, add-suc, suc-add}
+use lib.ListN.{length, set}
+use lib.Seq.{sets, set-comm}
+
+-- the values stored one after the other, and one more after them
+pub sets-snoc : (l : List ℕ) (i : ℕ) (vs : List ℕ) (a : ℕ) → sets l i (vs ++ (a ∷ [])) ≡ set (sets l i vs) (i + length vs) a
+sets-snoc l i [] a = rw add-zero
+sets-snoc l i (v ∷ vs) a = rw (add-suc, ← suc-add) (sets-snoc (set l i v) (suc i) vs a)
+
+-- a value stored behind them may be stored first
+pub sets-set : (l : List ℕ) (i p : ℕ) (a : ℕ) (vs : List ℕ) → i + length vs ≤ p → sets (set l p a) i vs ≡ set (sets l i vs) p a
+sets-set l i p a [] h = refl
+sets-set l i p a (v ∷ vs) h =
+    ap (λ (m : List ℕ). sets m (suc i) vs) (set-comm l p i a v (λ e. omega arith)) ∙ sets-set (set l i v) (suc i) p a vs (omega arith)
