@@ -1,4 +1,4 @@
 pub mod Conds
 pub mod Table
-pub mod Lists
-pub mod Numbers
+pub mod ListLaws
+pub mod NumberLaws

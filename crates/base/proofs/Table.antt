@@ -1,5 +1,5 @@
 -- A rule of a table, proved at all of its entries by one test that antt computes, one entry after the other.
--- Entries are of any type; `rows` is the same for a table of rows of w numbers.
+-- Entries are of any type; `rows` is the same for a table of rows of numbers.
 -- Assumes nothing.
 use mathlib.Core.Path.{_≡_, _∙_, subst, sym}
 use mathlib.Core.Bool.{Bool, true, false, _&&_}
@@ -26,16 +26,15 @@ module _ {A : Type 0} (d : A) where
   pub at : (f : ℕ → A → Bool) (xs : List A) → T (every f 0 xs) → (k : ℕ) → k < length xs → T (f k (getD xs k d))
   at f xs t k h = subst (λ (m : ℕ). T (f m (getD xs k d))) (zero-add k) (from f xs 0 t k h)
 
--- a table of rows of w numbers is g at each row and place
-abbrev pub rowIs : (ℕ → ℕ → ℕ) → ℕ → ℕ → List ℕ → Bool
-rowIs g w k row = eqb (length row) w && every 0 (λ m x. eqb x (g k m)) 0 row
+-- the test f passes at each place of a row of w entries, at the row k
+abbrev pub passes : (ℕ → ℕ → ℕ → Bool) → ℕ → ℕ → List ℕ → Bool
+passes f w k row = eqb (length row) w && every 0 (f k) 0 row
 
-pub rows : (g : ℕ → ℕ → ℕ) (w : ℕ) (t : List (List ℕ)) → T (every [] (rowIs g w) 0 t)
-    → (k m : ℕ) → k < length t → m < w → getD (getD t k []) m 0 ≡ g k m
-rows g w t ok k m hk hm =
+-- a table of rows: the test passes at each row and place
+pub rows : (f : ℕ → ℕ → ℕ → Bool) (w : ℕ) (t : List (List ℕ)) → T (every [] (passes f w) 0 t)
+    → (k m : ℕ) → k < length t → m < w → T (f k m (getD (getD t k []) m 0))
+rows f w t ok k m hk hm =
     let row : List ℕ = getD t k [] in
-    let test : T (rowIs g w k row) = at [] (rowIs g w) t ok k hk in
-    let rest : Bool = every 0 (λ m x. eqb x (g k m)) 0 row in
-    let long : length row ≡ w = eqb→eq (length row) w (and-left (eqb (length row) w) rest test) in
-    eqb→eq (getD row m 0) (g k m)
-    (at 0 (λ m x. eqb x (g k m)) row (and-right (eqb (length row) w) rest test) m (subst (λ (n : ℕ). m < n) (sym long) hm))
+    let test : T (passes f w k row) = at [] (passes f w) t ok k hk in
+    let long : length row ≡ w = eqb→eq (length row) w (and-left (eqb (length row) w) (every 0 (f k) 0 row) test) in
+    at 0 (f k) row (and-right (eqb (length row) w) (every 0 (f k) 0 row) test) m (subst (λ (n : ℕ). m < n) (sym long) hm)

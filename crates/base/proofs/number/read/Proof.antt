@@ -6,7 +6,7 @@ use lib.ListN.{take, drop}
 use native.Mathlib.Omega.{arith}
 use borrow.Author.Needs.{needs}
 use Rattle.base.specs.Numbers.{number, spelled}
-use Rattle.base.proofs.Numbers.{number-more, room, grows}
+use Rattle.base.proofs.NumberLaws.{number-more, room, grows}
 use Rattle.base.proofs.number.read.Statement.{statement}
 use Rattle.base.proofs.number.read.Tie as tie
 use Rattle.base.proofs.number.read.Reads as reads

@@ -7,7 +7,7 @@ use lib.Seq.{sets, length-sets}
 use native.Mathlib.Omega.{arith}
 use borrow.Author.Needs.{needs}
 use Rattle.base.specs.Numbers.{octets}
-use Rattle.base.proofs.Numbers.{store-last}
+use Rattle.base.proofs.NumberLaws.{store-last}
 use Rattle.base.proofs.number.write.Statement.{statement}
 use Rattle.base.proofs.number.write.Tie as tie
 use Rattle.base.proofs.number.write.Reads as reads

@@ -18,3 +18,8 @@ pub sets-set : (l : List ℕ) (i p : ℕ) (a : ℕ) (vs : List ℕ) → i + leng
 sets-set l i p a [] h = refl
 sets-set l i p a (v ∷ vs) h =
     ap (λ (m : List ℕ). sets m (suc i) vs) (set-comm l p i a v (λ e. omega arith)) ∙ sets-set (set l i v) (suc i) p a vs (omega arith)
+
+-- two runs stored one after the other are stored as one
+pub sets-append : (l : List ℕ) (i : ℕ) (xs ys : List ℕ) → sets l i (xs ++ ys) ≡ sets (sets l i xs) (i + length xs) ys
+sets-append l i [] ys = rw add-zero
+sets-append l i (x ∷ xs) ys = rw (add-suc, ← suc-add) (sets-append (set l i x) (suc i) xs ys)

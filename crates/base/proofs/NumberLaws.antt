@@ -9,7 +9,7 @@ use native.Mathlib.Nat.{add-zero, zero-add, add-suc, suc-add, mod-lt, div-add-mo
 use lib.ListN.{length, getD, take, drop, set, length-append, length-drop}
 use lib.Seq.{sets, take-suc, getD-drop}
 use Rattle.base.specs.Numbers.{Bytes, spelled, number, octets}
-use Rattle.base.proofs.Lists.{sets-snoc, sets-set}
+use Rattle.base.proofs.ListLaws.{sets-snoc, sets-set}
 
 pub spelled-append : (v : ℕ) (xs ys : List ℕ) → spelled v (xs ++ ys) ≡ spelled (spelled v xs) ys
 unfolding spelled
@@ -73,3 +73,28 @@ octets-after j v (x ∷ xs) (h, b) =
 pub octets-number : (xs : List ℕ) → Bytes xs → octets (length xs) (number xs) ≡ xs
 unfolding octets
 octets-number xs b = rw zero-add at (octets-after 0 0 xs b)
+
+-- ---- bytes
+
+pub bytes-take : (k : ℕ) (xs : List ℕ) → Bytes xs → Bytes (take k xs)
+unfolding Bytes
+bytes-take zero xs b = tt
+bytes-take (suc k) [] b = tt
+bytes-take (suc k) (x ∷ xs) (h, b) = (h, bytes-take k xs b)
+
+pub bytes-drop : (k : ℕ) (xs : List ℕ) → Bytes xs → Bytes (drop k xs)
+unfolding Bytes
+bytes-drop zero xs b = b
+bytes-drop (suc k) [] b = tt
+bytes-drop (suc k) (x ∷ xs) (h, b) = bytes-drop k xs b
+
+spelled-below : (j v : ℕ) (xs : List ℕ) → Bytes xs → v < 256 ^ j → spelled v xs < 256 ^ (j + length xs)
+unfolding Bytes spelled
+spelled-below j v [] b h = rw add-zero h
+spelled-below j v (x ∷ xs) (l, b) h =
+    let e : j + 1 + length xs ≡ j + suc (length xs) = omega arith in
+    rw (← e) (spelled-below (j + 1) (v * 256 + x) xs b (grows j v x h l))
+
+-- k bytes spell a number below 256 ^ k
+pub number-below : (xs : List ℕ) → Bytes xs → number xs < 256 ^ length xs
+number-below xs b = rw zero-add at (spelled-below 0 0 xs b (omega arith))

@@ -1,0 +1,3 @@
+pub mod Segments
+pub mod Instances
+pub mod Inside

@@ -1,0 +1,43 @@
+-- Segments (000, section 2.1.1; document 01, "Segments").
+use Prim.Native.Nat.{ℕ, _+_, _*_, _/_, _%_, _^_, _<_}
+use mathlib.Core.Path.{_≡_}
+use mathlib.Core.Bool.{cond}
+use mathlib.Core.List.{List, [], _∷_, _++_}
+use lib.Dec.{ltb}
+use lib.ListN.{length, take, drop, set, replicate}
+use Rattle.base.specs.Numbers.{Bytes, number, octets}
+use Rattle.wire.specs.declared.segment.Segment.{Segment}
+use Rattle.wire.specs.declared.segment.Header.{Header}
+
+-- eight header bytes
+abbrev pub headerLength : ℕ
+headerLength = 8
+
+-- four bytes of time, two of mode and protocol number, two of payload length; the top bit of the middle two is the mode
+unfoldable pub decoded : List ℕ → Segment
+decoded bs =
+    let word = number (take 2 (drop 4 bs)) in
+    record { time = number (take 4 bs); mode = word / 2 ^ 15; protocol = word % 2 ^ 15; len = number (take 2 (drop 6 bs)) }
+
+unfoldable pub encoded : Segment → List ℕ
+encoded s = octets 4 (s .time) ++ (octets 2 (s .mode * 2 ^ 15 + s .protocol) ++ octets 2 (s .len))
+
+-- what can be said in eight bytes
+pub record Fits (s : Segment) : Type 0 where
+  pub time : s .time < 2 ^ 32
+  pub mode : s .mode < 2
+  pub protocol : s .protocol < 2 ^ 15
+  pub len : s .len < 2 ^ 16
+
+-- T5: reading what was written gives it back, and every eight bytes are those of what they say
+pub record RoundTrip : Type 0 where
+  pub read-written : (s : Segment) → Fits s → decoded (encoded s) ≡ s
+  pub written-read : (bs : List ℕ) → length bs ≡ headerLength → Bytes bs → Fits (decoded bs) × (encoded (decoded bs) ≡ bs)
+
+-- the header record with no byte yet
+abbrev pub empty : Header
+empty = record { bytes = replicate headerLength 0; count = 0 }
+
+-- one byte more; a whole record stays
+unfoldable pub added : Header → ℕ → Header
+added h b = cond (ltb (h .count) headerLength) (record { bytes = set (h .bytes) (h .count) b; count = h .count + 1 }) h
