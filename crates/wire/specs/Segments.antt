@@ -41,3 +41,15 @@ empty = record { bytes = replicate headerLength 0; count = 0 }
 -- one byte more; a whole record stays
 unfoldable pub added : Header → ℕ → Header
 added h b = cond (ltb (h .count) headerLength) (record { bytes = set (h .bytes) (h .count) b; count = h .count + 1 }) h
+
+-- a whole segment: what its header says, and its payload
+pub record Carried : Type 0 where
+  pub header : Segment
+  pub payload : List ℕ
+
+-- A run of bytes by the layout: the whole segments in order, and then what is left, in which bytes break off inside a segment or there are none.
+pub data Divided : List ℕ → List Carried → List ℕ → Type 0 where
+  in-header : {bs : List ℕ} → length bs < headerLength → Divided bs [] bs
+  in-payload : (h p : List ℕ) → length h ≡ headerLength → length p < decoded h .len → Divided (h ++ p) [] (h ++ p)
+  whole : (h p : List ℕ) {bs left : List ℕ} {cs : List Carried} → length h ≡ headerLength → length p ≡ decoded h .len
+      → Divided bs cs left → Divided (h ++ (p ++ bs)) (record { header = decoded h; payload = p } ∷ cs) left

@@ -1,0 +1,37 @@
+-- `listing::then` meets its contract: the test decides whether the segment has ended.
+-- Assumes nothing.
+use borrow.Author.Needs.{needs}
+use mathlib.Core.Path.{refl, _∙_}
+use borrow.Author.Tests.{lt-ltb, le-ltb}
+use Rattle.listing.specs.Lister.{after}
+use Rattle.listing.proofs.then.Statement.{statement}
+use Rattle.listing.proofs.then.Tie as tie
+
+returns : tie.Need-returns
+unfolding after
+returns c = (rw (lt-ltb _ _ (c .before .if1 .taken)) (c .under-way .ensures .0), c .under-way .ensures .1)
+
+returns-2 : tie.Need-returns-2
+unfolding after
+returns-2 c = (
+  rw (
+    le-ltb _ _ (c .before .before .before .before .if1 .left),
+    c .before .before .before .empty .ensures,
+    c .before .before .wrapping-add-u64 .ensures,
+    c .before .wrapping-add-u642 .ensures,
+    c .segment .ensures .0,
+  ),
+  refl,
+)
+
+pub then-spec : {M : Type 1} → statement M
+then-spec =
+    tie.close
+    (tie.spec
+    (λ c κs. search needs)
+    returns
+    (λ c κs. search needs)
+    (λ c κs. search needs)
+    (λ c κs. search needs)
+    (λ c κs. search needs)
+    returns-2)

@@ -1,0 +1,99 @@
+-- The lister (document 01, "Checked examples"): it judges layout only, and has a line for each whole segment.
+use Prim.Native.Nat.{ℕ, _+_, _-_, _%_, _^_, min}
+use mathlib.Core.Path.{_≡_}
+use mathlib.Core.Bool.{Bool, cond}
+use mathlib.Core.List.{List, [], _∷_, _++_, map}
+use lib.Dec.{eqb, leb, ltb}
+use lib.ListN.{length, take}
+use Rattle.wire.specs.declared.segment.Header.{Header}
+use Rattle.wire.specs.declared.segment.Segment.{Segment}
+use Rattle.wire.specs.Segments.{headerLength, empty, added, decoded, Carried, Divided}
+use Rattle.listing.specs.declared.Listing.{Listing}
+use Rattle.listing.specs.declared.Line.{Line}
+use Rattle.listing.specs.declared.Line.the-variants.{None, Whole}
+use Rattle.listing.specs.declared.Turn.{Turn}
+
+-- what bytes come to, and the segments that ended on the way
+pub record Listed : Type 0 where
+  pub listing : Listing
+  pub lines : List Segment
+
+-- counts are kept in 64 bits
+abbrev pub plus : ℕ → ℕ → ℕ
+plus n k = (n + k) % 2 ^ 64
+
+-- k bytes more, after which the header is h and n payload bytes are to come
+abbrev pub going : Listing → Header → ℕ → ℕ → Listed
+going l h n k = record { listing = record { header = h; rest = n; segments = l .segments; bytes = plus (l .bytes) k }; lines = [] }
+
+-- k bytes more, the last of the segment whose header is h
+abbrev pub ending : Listing → Header → ℕ → Listed
+ending l h k =
+    record {
+      listing = record { header = empty; rest = 0; segments = plus (l .segments) 1; bytes = plus (l .bytes) k };
+      lines = decoded (h .bytes) ∷ [];
+    }
+
+-- the one or the other
+unfoldable pub after : Listing → Header → ℕ → ℕ → Listed
+after l h n k = cond (ltb 0 n) (going l h n k) (ending l h k)
+
+-- one byte more of a header; the eighth says how long the payload is
+unfoldable pub headByte : Listing → ℕ → Listed
+headByte l b =
+    let h = added (l .header) b in
+    cond (leb headerLength (h .count)) (after l h (decoded (h .bytes) .len) 1) (going l h 0 1)
+
+-- one byte more, of a payload where one is under way
+unfoldable pub step : Listing → ℕ → Listed
+step l b = cond (ltb 0 (l .rest)) (after l (l .header) (l .rest - 1) 1) (headByte l b)
+
+-- first the one, then the other
+abbrev pub then : Listed → Listed → Listed
+then r q = record { listing = q .listing; lines = r .lines ++ q .lines }
+
+-- the bytes one after the other
+unfoldable pub fed : Listing → List ℕ → Listed
+fed l [] = record { listing = l; lines = [] }
+fed l (b ∷ bs) = then (step l b) (fed (step l b .listing) bs)
+
+-- no byte yet
+abbrev pub begun : Listing
+begun = record { header = empty; rest = 0; segments = 0; bytes = 0 }
+
+-- the bytes end with a whole segment: `end`, else `cut`
+abbrev pub ended : Listing → Bool
+ended l = eqb (l .header .count) 0
+
+abbrev pub linesOf : Line → List Segment
+linesOf None = []
+linesOf (Whole s) = s ∷ []
+
+abbrev pub told : Turn → Listed
+told r = record { listing = r .listing; lines = linesOf (r .line) }
+
+-- a turn uses one byte of a header, or the payload bytes that are there
+unfoldable pub usedOf : Listing → List ℕ → ℕ
+usedOf l bs = min (cond (ltb 0 (l .rest)) (l .rest) 1) (length bs)
+
+-- a turn comes to what the bytes that it uses come to one after the other
+pub record Turned (l : Listing) (bs : List ℕ) (r : Turn) : Type 0 where
+  pub used : r .used ≡ usedOf l bs
+  pub comes : told r ≡ fed l (take (r .used) bs)
+
+-- what the bytes xs come to from the start, by their whole segments and what is left of them
+pub record Lists (xs : List ℕ) (cs : List Carried) (left : List ℕ) : Type 0 where
+  pub lines : fed begun xs .lines ≡ map (λ (c : Carried). c .header) cs
+  pub ending : ended (fed begun xs .listing) ≡ eqb (length left) 0
+  pub segments : fed begun xs .listing .segments ≡ length cs % 2 ^ 64
+  pub bytes : fed begun xs .listing .bytes ≡ length xs % 2 ^ 64
+
+-- T17: every run of bytes has its whole segments and what is left of them, and the lister lists them, by whatever runs they come
+pub record Lister : Type 0 where
+  pub divides : (xs : List ℕ) → (cs : List Carried) × (left : List ℕ) × Divided xs cs left
+  pub lists : (xs left : List ℕ) (cs : List Carried) → Divided xs cs left → Lists xs cs left
+  pub cuts : (l : Listing) (xs ys : List ℕ) → fed l (xs ++ ys) ≡ then (fed l xs) (fed (fed l xs .listing) ys)
+
+-- the contract of a turn leaves one answer
+abbrev pub Once : Type 0
+Once = (l : Listing) (bs : List ℕ) (r q : Turn) → Turned l bs r → Turned l bs q → r ≡ q
