@@ -1,0 +1,5 @@
+pub mod Runs
+pub mod Stores
+pub mod Areas
+pub mod Around
+mod Copies
