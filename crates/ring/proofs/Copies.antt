@@ -6,8 +6,9 @@ use Prim.Native.Nat.{ℕ, _+_, _-_, _%_, _<_, _≤_}
 use native.Mathlib.Omega.{arith}
 use lib.ListN.{length}
 use lib.Seq.{sets}
+use Rattle.base.proofs.ListLaws.{sets-append}
 use Rattle.ring.specs.Ring.{stream, laid, run}
-use Rattle.ring.proofs.Runs.{run-length, run-append, sets-append}
+use Rattle.ring.proofs.Runs.{run-length, run-append}
 use Rattle.ring.proofs.Stores.{stream-straight, stream-wraps, laid-straight, laid-wraps}
 
 module _ (s : List ℕ) (b c n r : ℕ) (at : r ≡ n % c) (src : List ℕ) (i k : ℕ) (in-src : i + k ≤ length src) where

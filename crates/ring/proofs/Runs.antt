@@ -1,13 +1,13 @@
 -- Laws of a run of a list, and of a run stored in a list.
 -- Assumes nothing.
-use mathlib.Core.Path.{_≡_, refl, ap, _∙_}
+use mathlib.Core.Path.{_≡_, ap, _∙_}
 use mathlib.Core.List.{List, [], _∷_, _++_, append-assoc}
-use Prim.Native.Nat.{ℕ, suc, _+_, _<_, _≤_}
+use Prim.Native.Nat.{ℕ, _+_, _<_, _≤_}
 use native.Mathlib.Omega.{arith}
 use native.Mathlib.Numerals.{add-one}
-use native.Mathlib.Nat.{add-zero}
-use lib.ListN.{length, getD, set, take, drop, length-drop}
-use lib.Seq.{sets, sets-eq, set-comm, drop-at, take-append-seam, take-suc, take-add, drop-drop, getD-drop, length-take-le}
+use lib.ListN.{length, getD, take, drop, length-drop}
+use lib.Seq.{sets, sets-eq, drop-at, take-append-seam, take-suc, take-add, drop-drop, getD-drop, length-take-le}
+use Rattle.base.proofs.ListLaws.{sets-append}
 use Rattle.ring.specs.Ring.{run}
 
 pub run-length : (xs : List ℕ) (i k : ℕ) → i + k ≤ length xs → length (run xs i k) ≡ k
@@ -20,23 +20,10 @@ run-more xs i k h = rw (add-one, ← getD-drop i xs k 0) (take-suc (drop i xs) k
 pub run-append : (xs : List ℕ) (i j k : ℕ) → run xs i (j + k) ≡ run xs i j ++ run xs (i + j) k
 run-append xs i j k = rw (take-add j k (drop i xs), drop-drop j i xs)
 
-pub sets-append : (l : List ℕ) (i : ℕ) (xs ys : List ℕ) → sets l i (xs ++ ys) ≡ sets (sets l i xs) (i + length xs) ys
-sets-append l i [] ys = rw add-zero
-sets-append l i (x ∷ xs) ys =
-    let e : suc i + length xs ≡ i + suc (length xs) = omega arith in
-    sets-append (set l i x) (suc i) xs ys ∙ ap (λ (j : ℕ). sets (sets (set l i x) (suc i) xs) j ys) e
-
 -- a run that follows a stored run, stored behind it
 pub sets-on : (l xs : List ℕ) (to i j k : ℕ) {t u : List ℕ} → i + j ≤ length xs
     → t ≡ sets l to (run xs i j) → u ≡ sets t (to + j) (run xs (i + j) k) → u ≡ sets l to (run xs i (j + k))
 sets-on l xs to i j k h e e′ = e′ ∙ rw (e, run-append, sets-append, run-length xs i j h)
-
--- a byte stored behind a run, before the run is
-pub sets-behind : (l : List ℕ) (i j x : ℕ) (xs : List ℕ) → i + length xs ≤ j → sets (set l j x) i xs ≡ set (sets l i xs) j x
-sets-behind l i j x [] h = refl
-sets-behind l i j x (y ∷ ys) h =
-    ap (λ (r : List ℕ). sets r (suc i) ys) (set-comm l j i x y (λ e. omega arith))
-    ∙ sets-behind (set l i y) (suc i) j x ys (omega arith)
 
 -- a run that was stored is there
 pub run-sets : (l : List ℕ) (i : ℕ) (xs : List ℕ) → i + length xs ≤ length l → run (sets l i xs) i (length xs) ≡ xs

@@ -7,8 +7,9 @@ use borrow.Author.Needs.{needs}
 use denote.Ref.{now}
 use lib.ListN.{length, length-set}
 use lib.Seq.{sets}
+use Rattle.base.proofs.ListLaws.{sets-snoc}
 use Rattle.ring.specs.Ring.{run}
-use Rattle.ring.proofs.Runs.{run-length, run-more, sets-append}
+use Rattle.ring.proofs.Runs.{run-length, run-more}
 use Rattle.ring.proofs.copy_bytes.Statement.{statement}
 use Rattle.ring.proofs.copy_bytes.Tie as tie
 
@@ -27,7 +28,7 @@ loop-again c =
     let more : a .i + j < length src = omega arith in (
       search needs,
       simp length-set (inv .1),
-      rw (inv .2, run-more src (a .i) j more, sets-append, run-length src (a .i) j (omega arith)),
+      rw (inv .2, run-more src (a .i) j more, sets-snoc, run-length src (a .i) j (omega arith)),
     )
 
 returns : tie.Need-returns Inv-loop μ-loop
