@@ -8,9 +8,9 @@ use native.Mathlib.Omega.{arith}
 use native.Mathlib.Nat.{add-zero, add-assoc, sub-zero, mod-add-mod, min-zero, zero-add, le-refl}
 use lib.Dec.{eqb, leb, ltb}
 use lib.ListN.{length, getD, take, drop, set, replicate, length-append, length-replicate, length-drop, take-append-drop, drop-of-length-le}
-use lib.Seq.{set-at, take-suc, take-all, drop-cons, take-length, length-take-le}
+use lib.Seq.{set-at, take-suc, take-all, drop-cons, drop-drop, take-length, length-take-le}
 use borrow.Author.Tests.{lt-ltb, le-ltb, le-leb, lt-leb, ltb-true, ltb-false, ne-eqb}
-use Rattle.base.proofs.Conds.{by-test}
+use Rattle.base.proofs.Conds.{by-test, cond-cases}
 use Rattle.wire.specs.declared.segment.Header.{Header}
 use Rattle.wire.specs.declared.segment.Segment.{Segment}
 use Rattle.wire.specs.Segments.{headerLength, empty, added, decoded, Carried, Divided, in-header, in-payload, whole}
@@ -107,6 +107,30 @@ turned-header l run from r none more u e =
     record {
       used = rw (le-ltb 0 (l .rest) (omega arith)) (u ∙ sym n);
       comes = rw (u, drop-cons run from 0 more, fed-one) (e ∙ rw (le-ltb 0 (l .rest) (omega arith)));
+    }
+
+-- ---- turn after turn
+
+-- a turn uses some bytes where there are some, and the rest come to what all of them did
+pub record Onward (l : Listing) (run : List ℕ) (from : ℕ) (r : Turn) : Type 0 where
+  pub some : 0 < r .used
+  pub few : from + r .used ≤ length run
+  pub same : fed (r .listing) (drop (from + r .used) run) .listing ≡ fed l (drop from run) .listing
+
+pub onward : (l : Listing) (run : List ℕ) (from : ℕ) (r : Turn) → from < length run → Turned l (drop from run) r → Onward l run from r
+unfolding usedOf
+onward l run from r more t =
+    let bs = drop from run in
+    let n : length bs ≡ length run - from = length-drop from run in
+    let one : 0 < cond (ltb 0 (l .rest)) (l .rest) 1 = cond-cases (λ (k : ℕ). 0 < k) (ltb 0 (l .rest)) (λ q. ltb-true 0 (l .rest) q) (λ q. omega arith) in
+    let u = t .used in
+    record {
+      some = omega arith;
+      few = omega arith;
+      same =
+          ap (λ (m : Listed). fed (m .listing) (drop (from + r .used) run) .listing) (t .comes)
+          ∙ rw (← drop-drop (r .used) from run)
+          (sym (ap (λ (xs : List ℕ). fed l xs .listing) (sym (take-append-drop (r .used) bs)) ∙ ap (λ (m : Listed). m .listing) (cuts l (take (r .used) bs) (drop (r .used) bs))));
     }
 
 -- ---- a header

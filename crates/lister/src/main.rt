@@ -1,0 +1,26 @@
+// Lists the segments of one direction of a connection, read from standard input to its end: a line for each
+// whole segment, of time, protocol, mode and length, and a last line.
+use libc::STDIN_FILENO;
+use listing::Listing;
+
+fn main() {
+    let mut space = io::large_buffer();
+    let known = read_all(Listing::begin(), &mut space);
+    lines::print_last(known);
+}
+
+// A proved loop has to end, and nothing says that the input does. So the loop counts its turns down, from a
+// number that no run uses up.
+fn read_all(l: Listing, space: &mut [u8]) -> Listing {
+    let mut known = l;
+    let mut turns = u64::MAX;
+    while 0 < turns {
+        let n = io::count(libc::read(STDIN_FILENO, space), space);
+        if n == 0 {
+            return known;
+        }
+        known = lines::print_run(known, &space[..n]);
+        turns -= 1;
+    }
+    known
+}

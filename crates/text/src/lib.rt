@@ -1,0 +1,35 @@
+// Text in a lent buffer, for the programs: each function writes at a place and answers the place behind
+// what it wrote. The rest of the buffer stays as it was.
+ghost use mathlib.Core.Path.{_≡_};
+ghost use Prim.Native.Nat.{_+_, _<_, _≤_};
+ghost use lib.ListN.{length, set, take};
+ghost use lib.Seq.{sets};
+ghost use Rattle.text.specs.Text.{Decimal};
+
+// One byte.
+pub fn byte(out: &mut [u8], at: usize, b: u8) -> usize
+    requires { ⌜ at < length (now out) ⌝ }
+    ensures { λ r. ⌜ (r ≡ at + 1) × (now (out .exit) ≡ set (now (out .entry)) at b) ⌝ }
+{
+    out[at] = b;
+    at + 1
+}
+
+// A number in decimal, without leading zeros.
+pub fn decimal(out: &mut [u8], at: usize, n: u64) -> usize
+    requires { ⌜ at + 20 ≤ length (now out) ⌝ }
+    ensures { λ r. ⌜ Decimal (now (out .entry)) at n (now (out .exit)) r ⌝ }
+{
+    let mut digits = [0u8; 20];
+    let k = io::decimal(n, &mut digits);
+    front(out, at, &digits, k);
+    at + k
+}
+
+// The first k of twenty digits.
+fn front(out: &mut [u8], at: usize, digits: &[u8; 20], k: usize)
+    requires { ⌜ (at + k ≤ length (now out)) × (k ≤ 20) ⌝ }
+    ensures { λ _. ⌜ now (out .exit) ≡ sets (now (out .entry)) at (take k (now (digits .entry))) ⌝ }
+{
+    ring::copy(out, at, digits, 0, k);
+}
