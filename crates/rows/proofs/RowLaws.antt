@@ -1,0 +1,265 @@
+-- Laws of the rows: where a protocol's rows lie in the table, and a search along them.
+-- Assumes nothing.
+use mathlib.Core.Path.{_≡_, refl, sym, ap, subst, _∙_}
+use mathlib.Core.Bool.{Bool, true, false, cond, not, _&&_, _||_}
+use mathlib.Core.List.{List, [], _∷_, _++_, map}
+use Prim.Native.Nat.{ℕ, zero, suc, _+_, _-_, _<_, _≤_}
+use native.Mathlib.Omega.{arith}
+use native.Mathlib.Numerals.{add-one}
+use lib.Dec.{T, eqb, leb, ltb, eqb→eq, leb→le, ltb→lt, eqb·suc-suc, eqb·zero-suc}
+use lib.ListN.{length, getD, take, drop, length-map}
+use lib.Seq.{drop-cons}
+use borrow.Author.Tests.{ne-eqb}
+use Rattle.base.proofs.Conds.{by-test, and-left, and-right}
+use Rattle.base.proofs.Table.{every, at}
+use Rattle.rows.specs.declared.Protocol.{Protocol}
+use Rattle.rows.specs.declared.Protocol.the-variants.{Handshake, ChainSync, BlockFetch, TxSubmission, KeepAlive}
+use Rattle.rows.specs.declared.Agency.{Agency}
+use Rattle.rows.specs.declared.Agency.the-variants.{Initiator, Responder, Nobody}
+use Rattle.rows.specs.declared.Next.{Next}
+use Rattle.rows.specs.declared.Next.the-variants.{To, None}
+use Rattle.rows.specs.Rows.{State, Done, Row, states, doneOf, rowsOf, rowIn, Thirty, fits, nextIn, nextOf, agencyIn, agencyOf, placeIn}
+use Rattle.rows.specs.Inside.{placeOf, protocols, rowsUpTo, allRows, firstOf, countOf, rowCount, rowAt, holder, mark, columns}
+
+-- a table by protocol
+pub by-protocol : (f : Protocol → ℕ) (p : Protocol) → getD (map f protocols) (placeOf p) 0 ≡ f p
+by-protocol f Handshake = refl
+by-protocol f ChainSync = refl
+by-protocol f BlockFetch = refl
+by-protocol f TxSubmission = refl
+by-protocol f KeepAlive = refl
+
+-- a protocol's rows in the table
+rows-at : (p : Protocol) → take (countOf p) (drop (firstOf p) allRows) ≡ rowsOf p
+unfolding rowsUpTo placeIn
+rows-at Handshake = refl
+rows-at ChainSync = refl
+rows-at BlockFetch = refl
+rows-at TxSubmission = refl
+rows-at KeepAlive = refl
+
+pub rows-end : (p : Protocol) → firstOf p + countOf p ≤ rowCount
+unfolding rowsUpTo placeIn
+rows-end Handshake = omega arith
+rows-end ChainSync = omega arith
+rows-end BlockFetch = omega arith
+rows-end TxSubmission = omega arith
+rows-end KeepAlive = omega arith
+
+-- what stands past the table's end
+abbrev nothing : Row
+nothing = record { state = 0; agency = Nobody; kind = 0; flag = 0; next = 0 }
+
+getD-map : {A B : Type 0} (f : A → B) (l : List A) (n : ℕ) (d : A) (e : B) → n < length l → getD (map f l) n e ≡ f (getD l n d)
+getD-map f [] n d e h = absurd (omega arith)
+getD-map f (x ∷ l) zero d e h = refl
+getD-map f (x ∷ l) (suc n) d e h = getD-map f l n d e (omega arith)
+
+-- the table's cells are the rows' columns
+pub cell-row : (i c : ℕ) → i < rowCount → getD (getD (map columns allRows) i []) c 0 ≡ getD (columns (rowAt i)) c 0
+cell-row i c h = ap (λ (r : List ℕ). getD r c 0) (getD-map columns allRows i nothing [] h)
+
+-- ---- a search along the rows from i up to the end e
+
+abbrev pub between : ℕ → ℕ → List Row
+between i e = take (e - i) (drop i allRows)
+
+between-more : (i e : ℕ) → i < e → e ≤ rowCount → between i e ≡ rowAt i ∷ between (i + 1) e
+between-more i e h l =
+    let n : e - i ≡ suc (e - (i + 1)) = omega arith in
+    rw (n, add-one i, drop-cons allRows i nothing (omega arith))
+
+-- from a protocol's first row, as many as it has
+pub between-all : (p : Protocol) (a n : ℕ) → a ≡ firstOf p → n ≡ countOf p → between a (a + n) ≡ rowsOf p
+between-all p a n e f =
+    let k : a + n - a ≡ n = omega arith in
+    rw (k, e, f) (rows-at p)
+
+pub between-none : (i : ℕ) → between i i ≡ []
+between-none i = let z : i - i ≡ 0 = omega arith in rw z
+
+module _ (i e : ℕ) (h : i < e) (l : e ≤ rowCount) where
+  -- a search for where a message leads
+  pub leads : (s k f : ℕ) → fits s k f (rowAt i) ≡ true → nextIn s k f (between i e) ≡ To (rowAt i .next)
+  unfolding nextIn
+  leads s k f t = rw (between-more i e h l, t)
+
+  pub leads-on : (s k f : ℕ) → fits s k f (rowAt i) ≡ false → nextIn s k f (between i e) ≡ nextIn s k f (between (i + 1) e)
+  unfolding nextIn
+  leads-on s k f t = rw (between-more i e h l, t)
+
+  -- a search for who may send
+  pub holds : (s : ℕ) → eqb (rowAt i .state) s ≡ true → agencyIn s (between i e) ≡ rowAt i .agency
+  unfolding agencyIn
+  holds s t = rw (between-more i e h l, t)
+
+  pub holds-on : (s : ℕ) → eqb (rowAt i .state) s ≡ false → agencyIn s (between i e) ≡ agencyIn s (between (i + 1) e)
+  unfolding agencyIn
+  holds-on s t = rw (between-more i e h l, t)
+
+-- no row has nobody's agency
+held : (a : Agency) → Bool
+held a = leb (mark a) 1
+
+all-held : T (every nothing (λ i r. held (r .agency)) 0 allRows)
+unfolding held rowsUpTo placeIn
+all-held = tt
+
+holder-mark : (a : Agency) → T (held a) → holder (mark a) ≡ a
+unfolding held
+holder-mark Initiator t = refl
+holder-mark Responder t = refl
+holder-mark Nobody t = absurd t
+
+-- the number in the agency's column stands for it
+pub holder-row : (i : ℕ) → i < rowCount → holder (mark (rowAt i .agency)) ≡ rowAt i .agency
+holder-row i h = holder-mark (rowAt i .agency) (at nothing (λ i r. held (r .agency)) allRows all-held i h)
+
+-- ---- T8, by tests that antt computes over each protocol's rows
+
+sameAgency : Agency → Agency → Bool
+sameAgency a b = eqb (mark a) (mark b)
+
+same-agency : (a b : Agency) → T (sameAgency a b) → a ≡ b
+unfolding sameAgency
+same-agency Initiator Initiator t = refl
+same-agency Initiator Responder t = absurd t
+same-agency Initiator Nobody t = absurd t
+same-agency Responder Initiator t = absurd t
+same-agency Responder Responder t = refl
+same-agency Responder Nobody t = absurd t
+same-agency Nobody Initiator t = absurd t
+same-agency Nobody Responder t = absurd t
+same-agency Nobody Nobody t = refl
+
+-- where a message leads, as a number: one more than the state, or 0
+reached : Next → ℕ
+reached (To n) = suc n
+reached None = 0
+
+same-next : (r : Next) (n : ℕ) → T (eqb (reached r) (suc n)) → r ≡ To n
+unfolding reached
+same-next (To m) n t = ap To (eqb→eq m n (subst T (eqb·suc-suc m n) t))
+same-next None n t = absurd (subst T (eqb·zero-suc n) t)
+
+module _ (p : Protocol) where
+  -- the row at i is the only one of its state and message
+  alone : ℕ → Row → Bool
+  alone i r = every nothing (λ j q. not (fits (r .state) (r .kind) (r .flag) q) || eqb i j) 0 (rowsOf p)
+
+  sound : ℕ → Row → Bool
+  sound i r =
+      sameAgency (agencyOf p (r .state)) (r .agency)
+      && (eqb (reached (nextOf p (r .state) (r .kind) (r .flag))) (suc (r .next)) && (ltb (r .state) (doneOf p) && leb (r .next) (doneOf p)))
+
+  -- the states before Done
+  agents : ℕ → State → Bool
+  agents i s = eqb i (doneOf p) || not (sameAgency (agencyOf p i) Nobody)
+
+all-alone : (p : Protocol) → T (every nothing (alone p) 0 (rowsOf p))
+unfolding alone placeIn
+all-alone Handshake = tt
+all-alone ChainSync = tt
+all-alone BlockFetch = tt
+all-alone TxSubmission = tt
+all-alone KeepAlive = tt
+
+all-sound : (p : Protocol) → T (every nothing (sound p) 0 (rowsOf p))
+unfolding sound placeIn agencyIn nextIn reached sameAgency
+all-sound Handshake = tt
+all-sound ChainSync = tt
+all-sound BlockFetch = tt
+all-sound TxSubmission = tt
+all-sound KeepAlive = tt
+
+all-agents : (p : Protocol) → T (every Done (agents p) 0 (states p))
+unfolding agents placeIn agencyIn sameAgency
+all-agents Handshake = tt
+all-agents ChainSync = tt
+all-agents BlockFetch = tt
+all-agents TxSubmission = tt
+all-agents KeepAlive = tt
+
+-- the states are those up to Done
+all-states : (p : Protocol) → length (states p) ≡ doneOf p + 1
+unfolding placeIn
+all-states Handshake = refl
+all-states ChainSync = refl
+all-states BlockFetch = refl
+all-states TxSubmission = refl
+all-states KeepAlive = refl
+
+module _ (p : Protocol) (i : ℕ) (h : i < length (rowsOf p)) where
+  abbrev r : Row
+  r = rowIn p i
+
+  abbrev said : Bool
+  said = eqb (reached (nextOf p (r .state) (r .kind) (r .flag))) (suc (r .next))
+
+  abbrev low : Bool
+  low = ltb (r .state) (doneOf p) && leb (r .next) (doneOf p)
+
+  is-sound : T (sameAgency (agencyOf p (r .state)) (r .agency) && (said && low))
+  unfolding sound
+  is-sound = at nothing (sound p) (rowsOf p) (all-sound p) i h
+
+  agreed : agencyOf p (r .state) ≡ r .agency
+  agreed = same-agency (agencyOf p (r .state)) (r .agency) (and-left (sameAgency (agencyOf p (r .state)) (r .agency)) (said && low) is-sound)
+
+  rest : T (said && low)
+  rest = and-right (sameAgency (agencyOf p (r .state)) (r .agency)) (said && low) is-sound
+
+  leads-there : nextOf p (r .state) (r .kind) (r .flag) ≡ To (r .next)
+  leads-there = same-next (nextOf p (r .state) (r .kind) (r .flag)) (r .next) (and-left said low rest)
+
+  last : (r .state < doneOf p) × (r .next ≤ doneOf p)
+  last =
+      let t : T low = and-right said low rest in (
+        ltb→lt (r .state) (doneOf p) (and-left (ltb (r .state) (doneOf p)) (leb (r .next) (doneOf p)) t),
+        leb→le (r .next) (doneOf p) (and-right (ltb (r .state) (doneOf p)) (leb (r .next) (doneOf p)) t),
+      )
+
+  one : (j : ℕ) → j < length (rowsOf p) → fits (r .state) (r .kind) (r .flag) (rowIn p j) ≡ true → i ≡ j
+  unfolding alone
+  one j k e =
+      let f : ℕ → Row → Bool = λ j q. not (fits (r .state) (r .kind) (r .flag) q) || eqb i j in
+      eqb→eq i j (rw e at (at nothing f (rowsOf p) (at nothing (alone p) (rowsOf p) (all-alone p) i h) j k))
+
+-- what a search finds is a row
+abbrev Leads : List Row → ℕ → ℕ → ℕ → ℕ → Type 0
+Leads rs s k f n = (i : ℕ) × (i < length rs) × (fits s k f (getD rs i nothing) ≡ true) × (getD rs i nothing .next ≡ n)
+
+later : (r : Row) (rs : List Row) (s k f n : ℕ) → Leads rs s k f n → Leads (r ∷ rs) s k f n
+later r rs s k f n (i, l, t, e) = (suc i, omega arith, t, e)
+
+only : (rs : List Row) (s k f n : ℕ) → nextIn s k f rs ≡ To n → Leads rs s k f n
+unfolding nextIn
+only [] s k f n e = absurd (let z : _≡_ {A = ℕ} 0 1 = cc in omega arith)
+only (r ∷ rs) s k f n e =
+    by-test (fits s k f r) (λ t. let q : To (r .next) ≡ To n = rw t at e in (0, omega arith, t, cc))
+    (λ t. later r rs s k f n (only rs s k f n (rw t at e)))
+
+ended : (p : Protocol) → agencyOf p (doneOf p) ≡ Nobody
+unfolding placeIn agencyIn
+ended Handshake = refl
+ended ChainSync = refl
+ended BlockFetch = refl
+ended TxSubmission = refl
+ended KeepAlive = refl
+
+going : (p : Protocol) (s : ℕ) → s < doneOf p → agencyOf p s ≡ Nobody → ⊥
+unfolding agents sameAgency
+going p s h e = rw (ne-eqb s (doneOf p) (λ q. omega arith), e) at (at Done (agents p) (states p) (all-agents p) s (omega (arith, all-states p)))
+
+pub thirty : Thirty
+thirty =
+    record {
+      thirty = refl;
+      one = λ p i j h k e. one p i h j k e;
+      agreed = agreed;
+      leads = leads-there;
+      only = λ p s k f n e. only (rowsOf p) s k f n e;
+      last = last;
+      ended = ended;
+      going = going;
+    }

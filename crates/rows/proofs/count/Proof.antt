@@ -1,0 +1,19 @@
+-- `rows::count` meets its contract: the table by protocol has it.
+-- Assumes nothing.
+use borrow.Author.Needs.{needs}
+use Rattle.rows.specs.Inside.{countOf}
+use Rattle.rows.proofs.RowLaws.{by-protocol}
+use Rattle.rows.proofs.count.Statement.{statement}
+use Rattle.rows.proofs.count.Tie as tie
+
+returns : tie.Need-returns
+returns c = rw (c .place .ensures .0) (by-protocol countOf (c .before .args .p))
+
+pub count-spec : {M : Type 1} → statement M
+count-spec =
+    tie.close
+    (tie.spec
+    (λ c κs. search needs)
+    (λ c. search needs)
+    (λ c. search needs)
+    returns)

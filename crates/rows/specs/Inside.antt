@@ -1,0 +1,57 @@
+-- What only this crate's own functions cite: how the table is laid out.
+use Prim.Native.Nat.{ℕ, zero, suc, _+_}
+use mathlib.Core.Bool.{cond}
+use mathlib.Core.List.{List, [], _∷_, _++_, map}
+use lib.Dec.{eqb}
+use lib.ListN.{length, getD, take}
+use Rattle.rows.specs.declared.Protocol.{Protocol}
+use Rattle.rows.specs.declared.Protocol.the-variants.{Handshake, ChainSync, BlockFetch, TxSubmission, KeepAlive}
+use Rattle.rows.specs.declared.Agency.{Agency}
+use Rattle.rows.specs.declared.Agency.the-variants.{Initiator, Responder, Nobody}
+use Rattle.rows.specs.Rows.{Row, rowsOf}
+
+-- the place of a protocol in document 01's order
+abbrev pub placeOf : Protocol → ℕ
+placeOf Handshake = 0
+placeOf ChainSync = 1
+placeOf BlockFetch = 2
+placeOf TxSubmission = 3
+placeOf KeepAlive = 4
+
+abbrev pub protocols : List Protocol
+protocols = Handshake ∷ ChainSync ∷ BlockFetch ∷ TxSubmission ∷ KeepAlive ∷ []
+
+-- all rows, one protocol after the other
+unfoldable pub rowsUpTo : List Protocol → List Row
+rowsUpTo [] = []
+rowsUpTo (p ∷ ps) = rowsOf p ++ rowsUpTo ps
+
+abbrev pub allRows : List Row
+allRows = rowsUpTo protocols
+
+abbrev pub rowCount : ℕ
+rowCount = length allRows
+
+-- row i; what stands past the table's end is no row
+abbrev pub rowAt : ℕ → Row
+rowAt i = getD allRows i (record { state = 0; agency = Nobody; kind = 0; flag = 0; next = 0 })
+
+-- where a protocol's rows begin, and how many they are
+abbrev pub firstOf : Protocol → ℕ
+firstOf p = length (rowsUpTo (take (placeOf p) protocols))
+
+abbrev pub countOf : Protocol → ℕ
+countOf p = length (rowsOf p)
+
+-- the agency that a number in the table stands for, and the number of an agency
+abbrev pub holder : ℕ → Agency
+holder m = cond (eqb m 0) Initiator Responder
+
+abbrev pub mark : Agency → ℕ
+mark Initiator = 0
+mark Responder = 1
+mark Nobody = 2
+
+-- a row's columns: state, agency, kind, flag, next state
+abbrev pub columns : Row → List ℕ
+columns r = r .state ∷ mark (r .agency) ∷ r .kind ∷ r .flag ∷ r .next ∷ []

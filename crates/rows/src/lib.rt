@@ -1,0 +1,172 @@
+// The thirty rows: which message moves which state to which, and who has agency.
+//
+// One table serves taking and putting: `find` gives where a message leads in a state, `agent` who may send
+// there. There is no transition outside the table. States are numbered in row order, Done last.
+ghost use mathlib.Core.Path.{_≡_};
+ghost use Prim.Native.Nat.{_<_};
+ghost use lib.ListN.{getD};
+ghost use Rattle.rows.specs.Rows.{doneOf, fits, nextOf, agencyOf};
+ghost use Rattle.rows.specs.Inside.{placeOf, firstOf, countOf, rowCount, rowAt, columns, holder};
+
+pub enum Protocol {
+    Handshake,
+    ChainSync,
+    BlockFetch,
+    TxSubmission,
+    KeepAlive,
+}
+
+// Who may send in a state.
+pub enum Agency {
+    Initiator,
+    Responder,
+    Nobody,
+}
+
+// Where a message leads.
+pub enum Next {
+    To(u64),
+    None,
+}
+
+// Initiator agency, and responder agency.
+const C: u64 = 0;
+
+const S: u64 = 1;
+
+// State, agency, kind, flag, next state. RequestTxIds, of kind 0, is two messages, told apart by its bool: the flag
+// is 1 for true. The flag of every other message is 0.
+const ROWS: [[u64; 5]; 30] = [
+    // Handshake: Propose 0, Confirm 1, Done 2
+    [0, C, 0, 0, 1],
+    [1, S, 1, 0, 2],
+    [1, S, 2, 0, 2],
+    // Chain-Sync: Idle 0, CanAwait 1, MustReply 2, Intersect 3, Done 4
+    [0, C, 0, 0, 1],
+    [0, C, 4, 0, 3],
+    [0, C, 7, 0, 4],
+    [1, S, 1, 0, 2],
+    [1, S, 2, 0, 0],
+    [1, S, 3, 0, 0],
+    [2, S, 2, 0, 0],
+    [2, S, 3, 0, 0],
+    [3, S, 5, 0, 0],
+    [3, S, 6, 0, 0],
+    // Block-Fetch: Idle 0, Busy 1, Streaming 2, Done 3
+    [0, C, 0, 0, 1],
+    [0, C, 1, 0, 3],
+    [1, S, 2, 0, 2],
+    [1, S, 3, 0, 0],
+    [2, S, 4, 0, 2],
+    [2, S, 5, 0, 0],
+    // TxSubmission: Init 0, Idle 1, Blocking 2, NonBlocking 3, Txs 4, Done 5
+    [0, C, 6, 0, 1],
+    [1, S, 0, 1, 2],
+    [1, S, 0, 0, 3],
+    [1, S, 2, 0, 4],
+    [2, C, 1, 0, 1],
+    [2, C, 4, 0, 5],
+    [3, C, 1, 0, 1],
+    [4, C, 3, 0, 1],
+    // Keep-alive: Client 0, Server 1, Done 2
+    [0, C, 0, 0, 1],
+    [0, C, 2, 0, 2],
+    [1, S, 1, 0, 0],
+];
+
+// By protocol: its first row, its number of rows, and its state Done.
+const FIRST: [usize; 5] = [0, 3, 13, 19, 27];
+
+const COUNT: [usize; 5] = [3, 10, 6, 8, 3];
+
+const DONE: [u64; 5] = [2, 4, 3, 5, 2];
+
+fn place(p: Protocol) -> usize
+    ensures { λ r. ⌜ (r ≡ placeOf p) × (r < 5) ⌝ }
+{
+    match p {
+        Protocol::Handshake => 0,
+        Protocol::ChainSync => 1,
+        Protocol::BlockFetch => 2,
+        Protocol::TxSubmission => 3,
+        Protocol::KeepAlive => 4,
+    }
+}
+
+// The state that a protocol ends in. It is the last of its states by number.
+pub fn done(p: Protocol) -> u64
+    ensures { λ r. ⌜ r ≡ doneOf p ⌝ }
+{
+    let at = place(p);
+    DONE[at]
+}
+
+fn first(p: Protocol) -> usize
+    ensures { λ r. ⌜ r ≡ firstOf p ⌝ }
+{
+    let at = place(p);
+    FIRST[at]
+}
+
+fn count(p: Protocol) -> usize
+    ensures { λ r. ⌜ r ≡ countOf p ⌝ }
+{
+    let at = place(p);
+    COUNT[at]
+}
+
+// What stands in a column of row i.
+fn at(i: usize, column: usize) -> u64
+    requires { ⌜ (i < rowCount) × (column < 5) ⌝ }
+    ensures { λ r. ⌜ r ≡ getD (columns (rowAt i)) column 0 ⌝ }
+{
+    ROWS[i][column]
+}
+
+// Whether row i is that of a message in a state.
+fn is_for(i: usize, state: u64, kind: u64, flag: u64) -> bool
+    requires { ⌜ i < rowCount ⌝ }
+    ensures { λ r. ⌜ r ≡ fits state kind flag (rowAt i) ⌝ }
+{
+    let message = base::and(at(i, 2) == kind, at(i, 3) == flag);
+    base::and(at(i, 0) == state, message)
+}
+
+// Where a message leads in a state.
+pub fn find(p: Protocol, state: u64, kind: u64, flag: u64) -> Next
+    ensures { λ r. ⌜ r ≡ nextOf p state kind flag ⌝ }
+{
+    let mut i = first(p);
+    let end = i + count(p);
+    while i < end {
+        if is_for(i, state, kind, flag) {
+            return Next::To(at(i, 4));
+        }
+        i += 1;
+    }
+    Next::None
+}
+
+// Who may send in a state.
+pub fn agent(p: Protocol, state: u64) -> Agency
+    ensures { λ r. ⌜ r ≡ agencyOf p state ⌝ }
+{
+    let mut i = first(p);
+    let end = i + count(p);
+    while i < end {
+        if at(i, 0) == state {
+            return held_by(at(i, 1));
+        }
+        i += 1;
+    }
+    Agency::Nobody
+}
+
+fn held_by(mark: u64) -> Agency
+    ensures { λ r. ⌜ r ≡ holder mark ⌝ }
+{
+    if mark == C {
+        return Agency::Initiator;
+    }
+    Agency::Responder
+}
