@@ -1,1 +1,3 @@
 pub mod Initial
+pub mod Read
+pub mod Write

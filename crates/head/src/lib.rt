@@ -1,4 +1,8 @@
-// Heads of CBOR data items (RFC 8949, section 3): what an initial byte says.
+// Heads of CBOR data items (RFC 8949, section 3): what an initial byte says; in `read` a head read at a place, in
+// `write` one written as short as can be.
+pub mod read;
+pub mod write;
+
 ghost use mathlib.Core.Path.{_≡_};
 ghost use Rattle.head.specs.Initial.{majorOf, openOf, initial};
 
