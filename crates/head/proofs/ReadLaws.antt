@@ -1,18 +1,21 @@
 -- Laws of a head read at a place: what it is by each test, and how far it reaches.
 -- Assumes nothing.
 use mathlib.Core.Path.{_≡_, refl, sym, ap, subst, _∙_}
-use mathlib.Core.Bool.{Bool, true, false, cond}
-use mathlib.Core.List.{List, [], _∷_, _++_}
-use Prim.Native.Nat.{ℕ, _+_, _*_, _/_, _%_, _^_, _<_, _≤_}
+use mathlib.Core.List.{List, _++_}
+use Prim.Native.Nat.{ℕ, _+_, _/_, _%_, _^_, _<_, _≤_}
 use native.Mathlib.Omega.{arith}
+use native.Mathlib.Decide.{decLt}
 use lib.Pow.{pow-mono}
 use lib.Dec.{lit≤, ltb, leb, eqb}
-use lib.ListN.{length, getD}
-use borrow.Author.Tests.{lt-ltb, le-ltb, le-leb, lt-leb, ltb-true}
+use lib.ListN.{length, getD, drop, length-append, length-drop, List·getD-append}
+use lib.Seq.{getD-drop}
+use borrow.Author.Tests.{lt-ltb, le-ltb, le-leb, lt-leb, ltb-true, leb-true}
 use Rattle.base.specs.Numbers.{number}
 use Rattle.base.proofs.Conds.{cond-cases}
-use Rattle.ring.specs.Ring.{run}
-use Rattle.head.specs.Initial.{majorOf, openOf, initialOf, initial}
+use Rattle.ring.specs.Ring.{run, around}
+use Rattle.ring.proofs.Runs.{run-front, run-drop}
+use Rattle.ring.proofs.Around.{around-length}
+use Rattle.head.specs.Initial.{initial}
 use Rattle.head.specs.Read.{longAt, simpleAt, headBy, headAt}
 use Rattle.head.specs.declared.Major.{Major}
 use Rattle.head.specs.declared.Initial.{Initial}
@@ -53,6 +56,14 @@ module _ (bs : List ℕ) where
   unfolding headAt
   head-none at h = rw (le-ltb at (length bs) h)
 
+-- the same of the n bytes of a ring, as `head_around` comes to it
+pub head-by-around : (s : List ℕ) (from n : ℕ) {at b : ℕ} {r i : Initial} → n ≤ length s → at < n
+    → b ≡ getD (around s from n) at 0 → r ≡ initial b → r ≡ i
+    → headBy i (around s from n) (b / 32) (at + 1) ≡ headAt (around s from n) at
+head-by-around s from n h l e f g =
+    let long : length (around s from n) ≡ n = around-length s from n h in
+    sym (head-by (around s from n) (omega arith) e f g)
+
 -- ---- what an initial byte can say
 
 -- an argument in the byte is below 24; one that follows has 1, 2, 4 or 8 bytes
@@ -91,3 +102,152 @@ unfolding Sound
 long-small b {k} {r} {M} e f =
     let s : Sound (says.Long M k) = subst Sound (sym e ∙ f) (sound b) in
     omega (arith, s .2, pow-mono {j = 3} (s .1))
+
+-- ---- how far a head reaches
+
+Within : List ℕ → ℕ → Head → Type 0
+Within bs at (Definite _ _ next) = (at < next) × (next ≤ length bs)
+Within bs at (Indefinite _ next) = (next ≡ at + 1) × (next ≤ length bs)
+Within bs at (Break next) = (next ≡ at + 1) × (next ≤ length bs)
+Within bs at Short = Unit {0}
+Within bs at Bad = at < length bs
+
+module _ (bs : List ℕ) (at : ℕ) where
+  by-within : (i : Initial) (m : ℕ) → at < length bs → Within bs at (headBy i bs m (at + 1))
+  unfolding headBy longAt simpleAt Within
+  by-within (says.Short _ v) m h = (omega arith, omega arith)
+  by-within (says.Long _ k) m h =
+      cond-cases (Within bs at) (leb (at + 1 + (k + 1)) (length bs)) (λ t. (omega arith, leb-true (at + 1 + (k + 1)) (length bs) t)) (λ _. tt)
+  by-within (says.Indefinite _) m h = (refl, omega arith)
+  by-within says.Simple m h =
+      cond-cases (Within bs at) (ltb (at + 1) (length bs))
+      (λ t.
+      let in-bs : at + 1 < length bs = ltb-true (at + 1) (length bs) t in
+      cond-cases (Within bs at) (ltb (getD bs (at + 1) 0) 32) (λ _. h) (λ _. (omega arith, omega arith)))
+      (λ _. tt)
+  by-within says.Break m h = (refl, omega arith)
+  by-within says.Reserved m h = h
+
+  within : Within bs at (headAt bs at)
+  unfolding headAt Within
+  within =
+      cond-cases (Within bs at) (ltb at (length bs))
+      (λ t. by-within (initial (getD bs at 0)) (getD bs at 0 / 32) (ltb-true at (length bs) t))
+      (λ _. tt)
+
+  pub definite-within : {m v next : ℕ} → headAt bs at ≡ Definite m v next → (at < next) × (next ≤ length bs)
+  unfolding Within
+  definite-within e = subst (Within bs at) e within
+
+  pub indefinite-within : {m next : ℕ} → headAt bs at ≡ Indefinite m next → (next ≡ at + 1) × (next ≤ length bs)
+  unfolding Within
+  indefinite-within e = subst (Within bs at) e within
+
+  pub break-within : {next : ℕ} → headAt bs at ≡ Break next → (next ≡ at + 1) × (next ≤ length bs)
+  unfolding Within
+  break-within e = subst (Within bs at) e within
+
+  pub bad-within : headAt bs at ≡ Bad → at < length bs
+  unfolding Within
+  bad-within e = subst (Within bs at) e within
+
+-- ---- a head in a part
+
+-- a head that is not cut short is the same with more bytes behind
+module _ (bs more : List ℕ) where
+  long-longer : (m k at : ℕ) → (longAt bs m k at ≡ Short → ⊥) → longAt (bs ++ more) m k at ≡ longAt bs m k at
+  long-longer m k at told = elim (decLt (length bs) (at + k)) [
+    | yes y ↦ absurd (told (long-short bs m k at y))
+    | no x ↦
+        let fits : at + k ≤ length bs = omega arith in
+        long-here (bs ++ more) m k at (omega (arith, length-append bs more))
+        ∙ ap (λ (r : List ℕ). Definite m (number r) (at + k)) (run-front bs more at k fits)
+        ∙ sym (long-here bs m k at fits)
+  ]
+
+  simple-longer : (at : ℕ) → (simpleAt bs at ≡ Short → ⊥) → simpleAt (bs ++ more) at ≡ simpleAt bs at
+  unfolding simpleAt
+  simple-longer at told = elim (decLt at (length bs)) [
+    | yes y ↦
+        let y′ : at < length (bs ++ more) = omega (arith, length-append bs more) in
+        rw (lt-ltb at (length bs) y, lt-ltb at (length (bs ++ more)) y′, List·getD-append bs more 0 at y)
+    | no x ↦ absurd (told (simple-short bs at (omega arith)))
+  ]
+
+  by-longer : (i : Initial) (m at : ℕ) → (headBy i bs m at ≡ Short → ⊥) → headBy i (bs ++ more) m at ≡ headBy i bs m at
+  unfolding headBy
+  by-longer (says.Short _ v) m at told = refl
+  by-longer (says.Long _ k) m at told = long-longer m (k + 1) at told
+  by-longer (says.Indefinite _) m at told = refl
+  by-longer says.Simple m at told = simple-longer at told
+  by-longer says.Break m at told = refl
+  by-longer says.Reserved m at told = refl
+
+  pub head-longer : (at : ℕ) → (headAt bs at ≡ Short → ⊥) → headAt (bs ++ more) at ≡ headAt bs at
+  head-longer at told = elim (decLt at (length bs)) [
+    | yes y ↦
+        let b : ℕ = getD bs at 0 in
+        let is : headAt bs at ≡ headBy (initial b) bs (b / 32) (at + 1) = head-by bs y refl refl refl in
+        head-by (bs ++ more) (omega (arith, length-append bs more)) (sym (List·getD-append bs more 0 at y)) refl refl
+        ∙ by-longer (initial b) (b / 32) (at + 1) (λ e. told (is ∙ e))
+        ∙ sym is
+    | no x ↦ absurd (told (head-none bs at (omega arith)))
+  ]
+
+-- a head whose places are counted from n bytes earlier
+unfoldable pub moved : ℕ → Head → Head
+moved n (Definite m v next) = Definite m v (n + next)
+moved n (Indefinite m next) = Indefinite m (n + next)
+moved n (Break next) = Break (n + next)
+moved n Short = Short
+moved n Bad = Bad
+
+-- a head is the same in the part behind n bytes, but for where its places are counted from
+module _ (bs : List ℕ) (n : ℕ) (h : n ≤ length bs) where
+  long-moved : (m k at : ℕ) → longAt bs m k (n + at) ≡ moved n (longAt (drop n bs) m k at)
+  unfolding moved
+  long-moved m k at = elim (decLt (length bs) (n + at + k)) [
+    | yes y ↦
+        rw (long-short bs m k (n + at) y, long-short (drop n bs) m k at (omega (arith, length-drop n bs)))
+    | no x ↦
+        let next : n + at + k ≡ n + (at + k) = omega arith in
+        rw (long-here bs m k (n + at) (omega arith), long-here (drop n bs) m k at (omega (arith, length-drop n bs)), run-drop, next)
+  ]
+
+  simple-moved : (at : ℕ) → simpleAt bs (n + at) ≡ moved n (simpleAt (drop n bs) at)
+  unfolding moved
+  simple-moved at =
+      let byte : getD (drop n bs) at 0 ≡ getD bs (n + at) 0 = getD-drop n bs at 0 in
+      elim (decLt (n + at) (length bs)) [
+        | yes y ↦
+            let y′ : at < length (drop n bs) = omega (arith, length-drop n bs) in
+            elim (decLt (getD bs (n + at) 0) 32) [
+              | yes z ↦ rw (simple-bad bs (n + at) y z, simple-bad (drop n bs) at y′ (omega arith))
+              | no z ↦
+                  let next : n + at + 1 ≡ n + (at + 1) = omega arith in
+                  rw (simple-here bs (n + at) y (omega arith), simple-here (drop n bs) at y′ (omega arith), byte, next)
+            ]
+        | no x ↦ rw (simple-short bs (n + at) (omega arith), simple-short (drop n bs) at (omega (arith, length-drop n bs)))
+      ]
+
+  by-moved : (i : Initial) (m at : ℕ) → headBy i bs m (n + at) ≡ moved n (headBy i (drop n bs) m at)
+  unfolding headBy moved
+  by-moved (says.Short _ v) m at = refl
+  by-moved (says.Long _ k) m at = long-moved m (k + 1) at
+  by-moved (says.Indefinite _) m at = refl
+  by-moved says.Simple m at = simple-moved at
+  by-moved says.Break m at = refl
+  by-moved says.Reserved m at = refl
+
+  pub head-moved : (at : ℕ) → headAt bs (n + at) ≡ moved n (headAt (drop n bs) at)
+  unfolding moved
+  head-moved at = elim (decLt (n + at) (length bs)) [
+    | yes y ↦
+        let b : ℕ = getD bs (n + at) 0 in
+        let next : n + at + 1 ≡ n + (at + 1) = omega arith in
+        head-by bs y refl refl refl
+        ∙ ap (headBy (initial b) bs (b / 32)) next
+        ∙ by-moved (initial b) (b / 32) (at + 1)
+        ∙ ap (moved n) (sym (head-by (drop n bs) (omega (arith, length-drop n bs)) (sym (getD-drop n bs at 0)) refl refl))
+    | no x ↦ rw (head-none bs (n + at) (omega arith), head-none (drop n bs) at (omega (arith, length-drop n bs)))
+  ]

@@ -11,7 +11,7 @@ use lib.Arith.{digits-div, digits-mod}
 use lib.Pow.{pow-pos, pow-mono}
 use lib.Dec.{ltb, leb}
 use lib.ListN.{length, getD, set, take, drop, length-append}
-use lib.Seq.{sets, append-snoc, drop-at, take-at, getD-append-seam}
+use lib.Seq.{sets, sets-eq, length-take-le, append-snoc, drop-at, take-at, getD-append-seam}
 use borrow.Author.Tests.{lt-ltb, leb-true, ltb-true, ltb-false, ne-eqb}
 use Rattle.base.specs.Numbers.{Bytes, number, octets}
 use Rattle.base.proofs.Conds.{by-test, cond-cases}
@@ -20,23 +20,25 @@ use Rattle.ring.specs.Ring.{run}
 use Rattle.ring.proofs.Runs.{run-length}
 use Rattle.head.specs.Initial.{majorOf, initialOf, initial}
 use Rattle.head.specs.Read.{longAt, simpleAt, headBy, headAt}
-use Rattle.head.specs.Write.{infoOf, followOf, lengthOf, shortest, ReadsBack, NoneShorter}
+use Rattle.head.specs.Write.{widthOf, lengthOf, shortest, ReadsBack, NoneShorter}
 use Rattle.head.specs.declared.Initial.{Initial}
 use Rattle.head.specs.declared.Initial.the-variants as says
 use Rattle.head.specs.declared.read.Head.{Head}
 use Rattle.head.specs.declared.read.Head.the-variants.{Definite, Indefinite, Break, Short, Bad}
+use Rattle.head.specs.declared.write.Width.{Width}
 use Rattle.head.proofs.ReadLaws.{long-here, head-by, Sound, sound}
 
 -- it is 1, 2, 3, 5 or 9 bytes long
 pub shortest-length : (m v : ℕ) → length (shortest m v) ≡ lengthOf v
 unfolding shortest
-shortest-length m v = rw length-octets (sym (add-one (followOf v)))
+shortest-length m v = rw length-octets (sym (add-one (widthOf v .bytes)))
 
 -- its first byte stored, and then the bytes of the argument
-pub shortest-stored : (l : List ℕ) (at m v i k : ℕ) {t : List ℕ} → i ≡ infoOf v → k ≡ followOf v
-    → t ≡ sets (set l at (m * 32 + i)) (at + 1) (octets k v) → t ≡ sets l at (shortest m v)
+pub shortest-stored : (l : List ℕ) (at m v : ℕ) {w : Width} {t : List ℕ} → w ≡ widthOf v
+    → t ≡ sets (set l at (m * 32 + w .info)) (at + 1) (octets (w .bytes) v) → t ≡ sets l at (shortest m v)
 unfolding shortest
-shortest-stored l at m v i k e f g = g ∙ rw (e, f, add-one)
+shortest-stored l at m v e g =
+    g ∙ ap (λ (w : Width). sets (set l at (m * 32 + w .info)) (at + 1) (octets (w .bytes) v)) e ∙ rw add-one
 
 -- ---- where the argument is
 
@@ -49,7 +51,7 @@ data Tier (v : ℕ) : ℕ → ℕ → Type 0 where
   inside : v < 24 → Tier v v 0
   behind : (e : ℕ) → e ≤ 3 → v < 256 ^ (2 ^ e) → ((d : ℕ) → d < e → 256 ^ (2 ^ d) ≤ v) → Tier v (24 + e) (2 ^ e)
 
-tier : (v : ℕ) → v < 2 ^ 64 → Tier v (infoOf v) (followOf v)
+tier : (v : ℕ) → v < 2 ^ 64 → Tier v (widthOf v .info) (widthOf v .bytes)
 tier v h =
     by-test (ltb v 24) (λ t. rw t (inside (ltb-true v 24 t)))
     (λ t.
@@ -127,14 +129,26 @@ read-back m v i k before after l (behind e h fits _) =
 pub reads-back : ReadsBack
 unfolding shortest
 reads-back m v before after l h =
-    let next : length before + 1 + followOf v ≡ length before + length (shortest m v) = omega (arith, shortest-length m v) in
-    read-back m v (infoOf v) (followOf v) before after l (tier v h) ∙ ap (Definite m v) next
+    let next : length before + 1 + widthOf v .bytes ≡ length before + length (shortest m v) = omega (arith, shortest-length m v) in
+    read-back m v (widthOf v .info) (widthOf v .bytes) before after l (tier v h) ∙ ap (Definite m v) next
+
+-- so it is read where it was stored
+pub reads-stored : (l : List ℕ) (at m v : ℕ) → m < 7 → v < 2 ^ 64 → at + lengthOf v ≤ length l
+    → headAt (sets l at (shortest m v)) at ≡ Definite m v (at + lengthOf v)
+reads-stored l at m v h fits room =
+    let xs : List ℕ = shortest m v in
+    let long : length xs ≡ lengthOf v = shortest-length m v in
+    let front : length (take at l) ≡ at = length-take-le at l (omega arith) in
+    let rest : List ℕ = drop (at + length xs) l in
+    ap (λ (bs : List ℕ). headAt bs at) (sets-eq xs l at (omega arith) ∙ append-assoc (take at l) xs rest)
+    ∙ rw front at (reads-back m v (take at l) rest h fits)
+    ∙ ap (λ (n : ℕ). Definite m v (at + n)) long
 
 -- ---- no other head is shorter
 
 -- an argument that 2 ^ e bytes can hold is written in no more
-follow-least : (v e : ℕ) → e ≤ 3 → v < 256 ^ (2 ^ e) → followOf v ≤ 2 ^ e
-follow-least v e h fits = least (tier v (omega (arith, widths e 3 h)))
+width-least : (v e : ℕ) → e ≤ 3 → v < 256 ^ (2 ^ e) → widthOf v .bytes ≤ 2 ^ e
+width-least v e h fits = least (tier v (omega (arith, widths e 3 h)))
   where
     least : {i k : ℕ} → Tier v i k → k ≤ 2 ^ e
     least (inside _) = omega arith
@@ -143,8 +157,8 @@ follow-least v e h fits = least (tier v (omega (arith, widths e 3 h)))
       | no x ↦ let le : d ≤ e = omega arith in pow-mono le
     ]
 
-follow-inside : (v : ℕ) → v < 24 → followOf v ≡ 0
-follow-inside v h = rw (lt-ltb v 24 h)
+width-inside : (v : ℕ) → v < 24 → widthOf v .bytes ≡ 0
+width-inside v h = rw (lt-ltb v 24 h)
 
 -- one byte of a list of bytes
 byte-below : (xs : List ℕ) (i : ℕ) → Bytes xs → getD xs i 0 < 256
@@ -155,7 +169,7 @@ byte-below (x ∷ xs) (suc i) (h, b) = byte-below xs i b
 
 -- a head whose initial byte is in front of a place leaves room for the bytes that must follow
 Least : ℕ → Head → Type 0
-Least at (Definite _ v next) = at + followOf v ≤ next
+Least at (Definite _ v next) = at + widthOf v .bytes ≤ next
 Least at (Indefinite _ _) = Unit {0}
 Least at (Break _) = Unit {0}
 Least at Short = Unit {0}
@@ -170,7 +184,7 @@ module _ (bs : List ℕ) (b : Bytes bs) where
       let part : List ℕ = run bs at (2 ^ e) in
       let size : length part ≡ 2 ^ e = run-length bs at (2 ^ e) (leb-true _ _ t) in
       let low : number part < 256 ^ length part = number-below part (bytes-take (2 ^ e) (drop at bs) (bytes-drop at bs b)) in
-      omega (arith, follow-least (number part) e h (rw size at low)))
+      omega (arith, width-least (number part) e h (rw size at low)))
       (λ _. tt)
 
   simple-least : (at : ℕ) → Least at (simpleAt bs at)
@@ -179,24 +193,27 @@ module _ (bs : List ℕ) (b : Bytes bs) where
       cond-cases (Least at) (ltb at (length bs))
       (λ _.
       cond-cases (Least at) (ltb (getD bs at 0) 32) (λ _. tt)
-      (λ _. omega (arith, follow-least (getD bs at 0) 0 (omega arith) (byte-below bs at b))))
+      (λ _. omega (arith, width-least (getD bs at 0) 0 (omega arith) (byte-below bs at b))))
       (λ _. tt)
 
   head-least : (i : Initial) → Sound i → (m at : ℕ) → Least at (headBy i bs m at)
   unfolding headBy Least Sound
-  head-least (says.Short _ v) s m at = omega (arith, follow-inside v s)
+  head-least (says.Short _ v) s m at = omega (arith, width-inside v s)
   head-least (says.Long _ k) (e, h, w) m at = rw w (long-least m e at h)
   head-least (says.Indefinite _) s m at = tt
   head-least says.Simple s m at = simple-least at
   head-least says.Break s m at = tt
   head-least says.Reserved s m at = tt
 
+  least : (at : ℕ) → Least (at + 1) (headAt bs at)
+  unfolding headAt Least
+  least at =
+      cond-cases (Least (at + 1)) (ltb at (length bs))
+      (λ _. head-least (initial (getD bs at 0)) (sound (getD bs at 0)) (getD bs at 0 / 32) (at + 1))
+      (λ _. tt)
+
 pub none-shorter : NoneShorter
-unfolding headAt Least
+unfolding Least
 none-shorter bs at m v next b e =
-    let q : Least (at + 1) (headAt bs at) =
-    cond-cases (Least (at + 1)) (ltb at (length bs))
-    (λ _. head-least bs b (initial (getD bs at 0)) (sound (getD bs at 0)) (getD bs at 0 / 32) (at + 1))
-    (λ _. tt) in
-    let room : at + 1 + followOf v ≤ next = subst (Least (at + 1)) e q in
+    let room : at + 1 + widthOf v .bytes ≤ next = subst (Least (at + 1)) e (least bs b at) in
     omega (arith, shortest-length m v)

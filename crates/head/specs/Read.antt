@@ -1,5 +1,5 @@
 -- A head read at a place (RFC 8949, section 3): its major type, its argument, and the place behind it.
-use Prim.Native.Nat.{ℕ, _+_, _/_, _≤_}
+use Prim.Native.Nat.{ℕ, _+_, _/_}
 use mathlib.Core.Bool.{cond}
 use mathlib.Core.List.{List}
 use lib.Dec.{ltb, leb}

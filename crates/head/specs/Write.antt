@@ -8,22 +8,27 @@ use lib.ListN.{length}
 use Rattle.base.specs.Numbers.{Bytes, octets}
 use Rattle.head.specs.Read.{headAt}
 use Rattle.head.specs.declared.read.Head.the-variants.{Definite}
+use Rattle.head.specs.declared.write.Width.{Width}
 
--- its additional information: the argument itself, or 24 to 27 for 1, 2, 4 or 8 bytes of it
-abbrev pub infoOf : ℕ → ℕ
-infoOf v = cond (ltb v 24) v (cond (ltb v 256) 24 (cond (ltb v 65536) 25 (cond (ltb v 4294967296) 26 27)))
+-- additional information i, and k bytes of the argument that follow
+abbrev pub width : ℕ → ℕ → Width
+width i k = record { info = i; bytes = k }
 
--- how many bytes of the argument follow
-abbrev pub followOf : ℕ → ℕ
-followOf v = cond (ltb v 24) 0 (cond (ltb v 256) 1 (cond (ltb v 65536) 2 (cond (ltb v 4294967296) 4 8)))
+-- the additional information is the argument itself, or 24 to 27 for the 1, 2, 4 or 8 bytes that it needs
+abbrev pub widthOf : ℕ → Width
+widthOf v =
+    cond (ltb v 24) (width v 0)
+    (cond (ltb v (2 ^ 8)) (width 24 1)
+    (cond (ltb v (2 ^ 16)) (width 25 2)
+    (cond (ltb v (2 ^ 32)) (width 26 4) (width 27 8))))
 
--- so it is 1, 2, 3, 5 or 9 bytes long
+-- so the head is 1, 2, 3, 5 or 9 bytes long
 abbrev pub lengthOf : ℕ → ℕ
-lengthOf v = followOf v + 1
+lengthOf v = widthOf v .bytes + 1
 
 -- major type in the upper three bits, additional information in the lower five, then the argument
 unfoldable pub shortest : ℕ → ℕ → List ℕ
-shortest m v = (m * 32 + infoOf v) ∷ octets (followOf v) v
+shortest m v = (m * 32 + widthOf v .info) ∷ octets (widthOf v .bytes) v
 
 -- reading what was written gives it back, wherever it stands; of major type 7 not all arguments can be read
 abbrev pub ReadsBack : Type 0

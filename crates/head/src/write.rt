@@ -3,51 +3,41 @@ ghost use mathlib.Core.Path.{_≡_};
 ghost use Prim.Native.Nat.{_+_, _≤_, _<_};
 ghost use lib.ListN.{length};
 ghost use lib.Seq.{sets};
-ghost use Rattle.head.specs.Write.{infoOf, followOf, lengthOf, shortest};
+ghost use Rattle.head.specs.Write.{widthOf, lengthOf, shortest};
 
-// The additional information of the shortest head.
-fn info(argument: u64) -> u8
-    ensures { λ r. ⌜ (r ≡ infoOf argument) × (r < 28) ⌝ }
-{
-    if argument < 24 {
-        return argument as u8;
-    }
-    if argument < 256 {
-        return 24;
-    }
-    if argument < 65536 {
-        return 25;
-    }
-    if argument < 4294967296 {
-        return 26;
-    }
-    27
+// How the argument of the shortest head is given: its additional information, and how many bytes follow.
+pub struct Width {
+    pub info: u8,
+    pub bytes: usize,
 }
 
-// How many bytes of the argument follow.
-fn follow(argument: u64) -> usize
-    ensures { λ r. ⌜ (r ≡ followOf argument) × (r ≤ 8) ⌝ }
+fn width_of(argument: u64) -> Width
+    ensures { λ r. ⌜ (r ≡ widthOf argument) × (r .info < 28) × (r .bytes ≤ 8) ⌝ }
 {
     if argument < 24 {
-        return 0;
+        return Width {
+            info: argument as u8,
+            bytes: 0,
+        };
     }
     if argument < 256 {
-        return 1;
+        return Width { info: 24, bytes: 1 };
     }
     if argument < 65536 {
-        return 2;
+        return Width { info: 25, bytes: 2 };
     }
     if argument < 4294967296 {
-        return 4;
+        return Width { info: 26, bytes: 4 };
     }
-    8
+    Width { info: 27, bytes: 8 }
 }
 
 // How long the shortest head is.
 pub fn head_len(argument: u64) -> usize
     ensures { λ r. ⌜ (r ≡ lengthOf argument) × (r ≤ 9) ⌝ }
 {
-    follow(argument) + 1
+    let w = width_of(argument);
+    w.bytes + 1
 }
 
 // Writes the shortest head at the place `at`, and hands back the place behind it.
@@ -55,8 +45,9 @@ pub fn write_head(buf: &mut [u8], at: usize, major: u8, argument: u64) -> usize
     requires { ⌜ (major < 8) × (at + lengthOf argument ≤ length (now buf)) ⌝ }
     ensures { λ r. ⌜ (r ≡ at + lengthOf argument) × (now (buf .exit) ≡ sets (now (buf .entry)) at (shortest major argument)) ⌝ }
 {
-    let k = follow(argument);
-    buf[at] = major * 32 + info(argument);
+    let w = width_of(argument);
+    let k = w.bytes;
+    buf[at] = major * 32 + w.info;
     base::number::write(buf, at + 1, k, argument);
     at + 1 + k
 }

@@ -6,8 +6,8 @@ use Prim.Native.Nat.{ℕ, _+_, _-_, _%_, _<_, _≤_}
 use native.Mathlib.Omega.{arith}
 use native.Mathlib.Decide.{decLt}
 use native.Mathlib.Nat.{mod-lt, mod-eq-of-lt, mod-eq-sub-mod, mod-add-mod}
-use lib.ListN.{length, getD, drop, length-append, length-take, length-drop, List·getD-append}
-use lib.Seq.{getD-take, getD-drop, getD-append-add, ext-getD, take-append-seam}
+use lib.ListN.{length, getD, take, drop, length-append, length-take, length-drop, List·getD-append}
+use lib.Seq.{take-take, getD-take, getD-drop, getD-append-add, ext-getD, take-append-seam}
 use Rattle.ring.specs.Ring.{stream, run, around}
 use Rattle.ring.proofs.Runs.{run-length}
 use Rattle.ring.proofs.Stores.{stream-length, stream-at}
@@ -29,6 +29,11 @@ around-far xs i k j h l =
     getD-take k (drop i xs ++ xs) j 0 h
     ∙ ap (λ (m : ℕ). getD (drop i xs ++ xs) m 0) e
     ∙ getD-append-add (drop i xs) xs (j - (length xs - i)) 0
+
+-- fewer bytes are the first of them
+pub around-take : (xs : List ℕ) (i j k : ℕ) → j ≤ k → take j (around xs i k) ≡ around xs i j
+unfolding around
+around-take xs i j k h = take-take j k (drop i xs ++ xs) h
 
 -- a list read from its front to its end does not go around
 pub around-all : (xs : List ℕ) → around xs 0 (length xs) ≡ xs

@@ -6,7 +6,7 @@ use Prim.Native.Nat.{ℕ, _+_, _<_, _≤_}
 use native.Mathlib.Omega.{arith}
 use native.Mathlib.Numerals.{add-one}
 use lib.ListN.{length, getD, take, drop, length-drop}
-use lib.Seq.{sets, sets-eq, drop-at, take-append-seam, take-suc, take-add, drop-drop, getD-drop, length-take-le}
+use lib.Seq.{sets, sets-eq, take-append-le, drop-append-le, drop-at, take-append-seam, take-suc, take-add, drop-drop, getD-drop, length-take-le}
 use Rattle.base.proofs.ListLaws.{sets-append}
 use Rattle.ring.specs.Ring.{run}
 
@@ -19,6 +19,14 @@ run-more xs i k h = rw (add-one, ← getD-drop i xs k 0) (take-suc (drop i xs) k
 
 pub run-append : (xs : List ℕ) (i j k : ℕ) → run xs i (j + k) ≡ run xs i j ++ run xs (i + j) k
 run-append xs i j k = rw (take-add j k (drop i xs), drop-drop j i xs)
+
+-- a run in the front part, and in the part behind
+pub run-front : (xs ys : List ℕ) (i k : ℕ) → i + k ≤ length xs → run (xs ++ ys) i k ≡ run xs i k
+run-front xs ys i k h =
+    ap (take k) (drop-append-le i xs ys (omega arith)) ∙ take-append-le k (drop i xs) ys (omega (arith, length-drop i xs))
+
+pub run-drop : (xs : List ℕ) (n i k : ℕ) → run (drop n xs) i k ≡ run xs (n + i) k
+run-drop xs n i k = ap (take k) (drop-drop i n xs)
 
 -- a run that follows a stored run, stored behind it
 pub sets-on : (l xs : List ℕ) (to i j k : ℕ) {t u : List ℕ} → i + j ≤ length xs

@@ -6,24 +6,25 @@ use borrow.Author.Needs.{needs}
 use denote.Ref.{now}
 use lib.ListN.{length, length-set}
 use lib.Seq.{length-sets}
+use Rattle.head.specs.declared.write.Width.{Width}
 use Rattle.head.proofs.WriteLaws.{shortest-stored}
 use Rattle.head.proofs.write.write_head.Statement.{statement}
 use Rattle.head.proofs.write.write_head.Tie as tie
 
 write-requires : tie.Need-write-requires
-write-requires c κs = simp length-set (omega arith)
+write-requires c κs =
+    let follow = ap (λ (w : Width). w .bytes) (c .before .before .width-of .ensures .0) in
+    simp length-set (omega arith)
 
 same-length : tie.Need-same-length
 same-length c = ap length (c .before .before .write .ensures) ∙ simp (length-sets, length-set)
 
 returns : tie.Need-returns
 returns c =
-    let a = c .before .before .before .before .before .before .before .args in (
-      omega arith,
-      shortest-stored (now (a .buf)) (a .at) (a .major) (a .argument) _ _ (c .before .before .before .before .info .ensures .0)
-          (c .before .before .before .before .before .follow .ensures .0)
-          (c .before .before .write .ensures),
-    )
+    let a = c .before .before .before .before .before .before .before .args in
+    let width = c .before .before .before .before .before .width-of .ensures .0 in
+    let follow = ap (λ (w : Width). w .bytes) width in
+    (omega arith, shortest-stored (now (a .buf)) (a .at) (a .major) (a .argument) width (c .before .before .write .ensures))
 
 pub write-head-spec : {M : Type 1} → statement M
 write-head-spec =
@@ -31,7 +32,6 @@ write-head-spec =
     (tie.spec
     (λ c κs. search needs)
     (λ c. search needs)
-    (λ c κs. search needs)
     (λ c. search needs)
     (λ c. search needs)
     (λ c. search needs)
