@@ -1,0 +1,6 @@
+pub mod Derivative
+pub mod Exact
+pub mod Local
+pub mod Theorem
+pub mod Parts
+pub mod Continue

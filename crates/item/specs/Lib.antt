@@ -1,0 +1,4 @@
+pub mod Grammar
+pub mod Verdict
+pub mod Theorem
+pub mod Continue

@@ -1,0 +1,46 @@
+-- What the verdict means (document 01, "CBOR"), as statements; the proofs are in proofs/Theorem.antt.
+use Prim.Native.Nat.{ℕ, suc, _≤_, _<_}
+use mathlib.Core.List.{List, [], _∷_, _++_}
+use mathlib.Core.Path.{_≡_}
+use mathlib.Core.Logic.{_↔_}
+use lib.ListN.{length, take}
+use Rattle.item.specs.declared.Verdict.{Verdict}
+use Rattle.item.specs.declared.Verdict.the-variants.{Whole, Bad, Incomplete}
+use Rattle.item.specs.Grammar.{Frame, Reads, Item, nesting}
+use Rattle.item.specs.Verdict.{judge, verdict, start}
+
+abbrev pub Octets : List ℕ → Type 0
+Octets [] = Unit {0}
+Octets (x ∷ xs) = (x < 256) × Octets xs
+
+-- Incomplete: a proper prefix of a well-formed item within the nesting.
+abbrev pub Begun : ℕ → List ℕ → Type 0
+Begun d bs = (b : ℕ) × (cs : List ℕ) × Item d (bs ++ (b ∷ cs)) × Octets (b ∷ cs)
+
+-- The first n bytes are a well-formed item within the nesting.
+abbrev pub Begins : ℕ → List ℕ → ℕ → Type 0
+Begins d bs n = (n ≤ length bs) × Item d (take n bs)
+
+-- What each verdict says. Bad at n: an item is still possible after n bytes, and after one byte more none is.
+abbrev pub Says : ℕ → List ℕ → Verdict → Type 0
+Says d bs (Whole n) = Begins d bs n
+Says d bs (Bad n) = (n < length bs) × Begun d (take n bs) × ((cs : List ℕ) → Item d (take (suc n) bs ++ cs) → ⊥)
+Says d bs Incomplete = Begun d bs
+
+-- The verdict is v if and only if what v says holds: one of the three, one only, and the first bad byte.
+abbrev pub Exactly : Type 0
+Exactly = (d : ℕ) (bs : List ℕ) (v : Verdict) → (judge bs 0 (start d) ≡ v) ↔ Says d bs v
+
+-- Bad, in document 01's words: no such prefix, and not beginning with such an item.
+abbrev pub BadIsNeither : Type 0
+BadIsNeither =
+    (d : ℕ) (bs : List ℕ)
+    → ((n : ℕ) × (judge bs 0 (start d) ≡ Bad n)) ↔ ((Begun d bs → ⊥) × ((n : ℕ) → Begins d bs n → ⊥))
+
+-- An item within a nesting is one within a greater nesting.
+abbrev pub NestingMonotone : Type 0
+NestingMonotone = (d : ℕ) (bs : List ℕ) → Item d bs → Item (suc d) bs
+
+-- An item has one end: no item is a proper prefix of another.
+abbrev pub OneEnd : Type 0
+OneEnd = (d : ℕ) (f : Frame) (bs cs ds : List ℕ) → Reads d f bs cs → Reads d f bs ds → cs ≡ ds
