@@ -1,13 +1,14 @@
 -- Laws of instances: the tables of the code say what the bundle does, at each entry by one computed test.
 -- Assumes nothing.
 use mathlib.Core.Path.{_≡_, refl, sym, ap, _∙_}
-use mathlib.Core.Bool.{Bool, true, false, cond, not, _&&_}
+use mathlib.Core.Bool.{Bool, true, false, true≢false, cond, not, _&&_}
 use mathlib.Core.List.{List, [], _∷_, _++_}
 use Prim.Native.Nat.{ℕ, zero, suc, _+_, _-_, _<_, _≤_}
 use native.Mathlib.Omega.{arith}
 use lib.Dec.{T, eqb, ltb, leb, eqb→eq, ltb→lt}
 use lib.ListN.{length, getD}
-use borrow.Author.Tests.{eq-eqb, ne-eqb}
+use borrow.Author.Tests.{eq-eqb, ne-eqb, eqb-false, ltb-true, ltb-false}
+use mathlib.Core.Logic.{_↔_}
 use mathlib.Core.Option.{Option, none, some}
 use Rattle.base.proofs.Conds.{by-test, and-left, and-right}
 use Rattle.base.proofs.Table.{every, at, passes, rows}
@@ -102,6 +103,15 @@ module _ {A : Type 0} (f : A → Bool) (d : A) where
   find-some (x ∷ xs) k i e =
       by-test (f x) (λ t. let h : some k ≡ some i = rw t at e in let q : k ≡ i = cc in (0, omega arith, omega arith, t))
       (λ t. later x xs k i (find-some xs (suc k) i (rw t at e)))
+
+  -- where nothing is found, nothing passes
+  pub find-none-all : (xs : List A) (k : ℕ) → find f k xs ≡ none → (j : ℕ) → j < length xs → f (getD xs j d) ≡ false
+  unfolding find
+  find-none-all [] k e j h = absurd (omega arith)
+  find-none-all (x ∷ xs) k e zero h = by-test (f x) (λ t. absurd (let q : some k ≡ none = rw t at e in let z : _≡_ {A = ℕ} 0 1 = cc in omega arith)) (λ t. t)
+  find-none-all (x ∷ xs) k e (suc j) h =
+      by-test (f x) (λ t. absurd (let q : some k ≡ none = rw t at e in let z : _≡_ {A = ℕ} 0 1 = cc in omega arith))
+      (λ t. find-none-all xs (suc k) (rw t at e) j (omega arith))
 
   -- where nothing passes, nothing is found
   pub find-none : (xs : List A) (k : ℕ) → ((j : ℕ) → j < length xs → f (getD xs j d) ≡ false) → find f k xs ≡ none
@@ -213,9 +223,9 @@ one-mode : (m : ℕ) (b : Bool) → T (eqb m (modeFrom (not b))) → m ≡ 1 - m
 one-mode m true t = eqb→eq m 1 t
 one-mode m false t = eqb→eq m 0 t
 
-only : (side : Side) (p m i : ℕ) → m < 2 → routeOf side p m ≡ To i → (p ≡ protocolOf i) × (m ≡ 1 - modeOf side i)
+only : (side : Side) (p m i : ℕ) → routeOf side p m ≡ To i → (p ≡ protocolOf i) × (m ≡ 1 - modeOf side i)
 unfolding routeOf
-only side p m i two e =
+only side p m i e =
     of (find-some (takes side p m) nobody bundle 0 i (found (find (takes side p m) 0 bundle) (find (λ (x : Instance). eqb (x .protocol) p) 0 bundle) i e))
   where
     of : Found (takes side p m) nobody bundle 0 i → (p ≡ protocolOf i) × (m ≡ 1 - modeOf side i)
@@ -228,5 +238,78 @@ only side p m i two e =
           one-mode m b (and-right (eqb (protocolOf j) p) (eqb m (modeFrom (not b))) u),
         )
 
+-- an unknown number is that of no instance
+known-not : (o q : Option ℕ) → orElse o To (orElse q Wrong Unknown) ≡ Unknown → q ≡ none
+known-not (some j) q e = absurd (let z : _≡_ {A = ℕ} 0 1 = cc in omega arith)
+known-not none (some j) e = absurd (let z : _≡_ {A = ℕ} 0 1 = cc in omega arith)
+known-not none none e = refl
+
+unknown : (side : Side) (p m : ℕ) → (routeOf side p m ≡ Unknown) ↔ ((i : ℕ) → i < instances → p ≡ protocolOf i → ⊥)
+unfolding routeOf
+unknown side p m = (to, from)
+  where
+    f : Instance → Bool
+    f x = eqb (x .protocol) p
+
+    to : routeOf side p m ≡ Unknown → (i : ℕ) → i < instances → p ≡ protocolOf i → ⊥
+    to e i h q =
+        let n : find f 0 bundle ≡ none = known-not (find (takes side p m) 0 bundle) (find f 0 bundle) e in
+        eqb-false (protocolOf i) p (find-none-all f nobody bundle 0 n i h) (sym q)
+
+    from : ((i : ℕ) → i < instances → p ≡ protocolOf i → ⊥) → routeOf side p m ≡ Unknown
+    from h =
+        let no : (j : ℕ) → j < instances → eqb (protocolOf j) p ≡ false = λ j l. ne-eqb (protocolOf j) p (λ e. h j l (sym e)) in
+        rw (
+          find-none (takes side p m) nobody bundle 0 (λ j l. rw (no j l)),
+          find-none f nobody bundle 0 no,
+        )
+
+-- only Handshake's own mode is wrong
+isWrong : Route → Bool
+isWrong Unknown = false
+isWrong (Wrong i) = true
+isWrong (To i) = false
+
+abbrev own : Side → ℕ → ℕ → Bool
+own side p m = eqb p (protocolOf 0) && eqb m (modeOf side 0)
+
+wrongOnly : Side → ℕ → ℕ → ℕ → Bool
+wrongOnly side p m e = cond (own side p m) (same (routeOf side p m) (Wrong 0)) (not (isWrong (routeOf side p m)))
+
+all-wrong : (side : Side) → T (every [] (passes (wrongOnly side) 2) 0 table)
+unfolding wrongOnly isWrong same table routeOf find
+all-wrong Dialler = tt
+all-wrong Accepter = tt
+
+not-wrong : (r : Route) (i : ℕ) → T (not (isWrong r)) → r ≡ Wrong i → ⊥
+unfolding isWrong
+not-wrong r i t e = rw e at t
+
+wrong-at : (side : Side) (p m i : ℕ) → T (wrongOnly side p m (entry p m)) → (routeOf side p m ≡ Wrong i) ↔ ((i ≡ 0) × (p ≡ protocolOf 0) × (m ≡ modeOf side 0))
+unfolding wrongOnly
+wrong-at side p m i t = by-test (own side p m) yes no
+  where
+    yes : own side p m ≡ true → (routeOf side p m ≡ Wrong i) ↔ ((i ≡ 0) × (p ≡ protocolOf 0) × (m ≡ modeOf side 0))
+    yes o =
+        let e : routeOf side p m ≡ Wrong 0 = are-same (routeOf side p m) (Wrong 0) (rw o at t) in
+        let u : T (own side p m) = rw o tt in
+        let ep : p ≡ protocolOf 0 = eqb→eq p (protocolOf 0) (and-left (eqb p (protocolOf 0)) (eqb m (modeOf side 0)) u) in
+        let em : m ≡ modeOf side 0 = eqb→eq m (modeOf side 0) (and-right (eqb p (protocolOf 0)) (eqb m (modeOf side 0)) u) in
+        (λ q. let w : Wrong 0 ≡ Wrong i = sym e ∙ q in (cc, ep, em), λ (q, a, b). e ∙ ap Wrong (sym q))
+
+    no : own side p m ≡ false → (routeOf side p m ≡ Wrong i) ↔ ((i ≡ 0) × (p ≡ protocolOf 0) × (m ≡ modeOf side 0))
+    no o = (
+      λ q. absurd (not-wrong (routeOf side p m) i (rw o at t) q),
+      λ (q, a, b). absurd (true≢false (sym (rw (eq-eqb p (protocolOf 0) a, eq-eqb m (modeOf side 0) b) refl) ∙ o)),
+    )
+
+wrong : (side : Side) (p m i : ℕ) → m < 2 → (routeOf side p m ≡ Wrong i) ↔ ((i ≡ 0) × (p ≡ protocolOf 0) × (m ≡ modeOf side 0))
+unfolding table
+wrong side p m i two = by-test (ltb p (length table)) (λ t. wrong-at side p m i (rows (wrongOnly side) 2 table (all-wrong side) p m (ltb-true p (length table) t) two))
+    (λ t. far (ltb-false p (length table) t))
+  where
+    far : length table ≤ p → (routeOf side p m ≡ Wrong i) ↔ ((i ≡ 0) × (p ≡ protocolOf 0) × (m ≡ modeOf side 0))
+    far h = (λ q. absurd (let w : Unknown ≡ Wrong i = past side p m h ∙ q in let z : _≡_ {A = ℕ} 0 1 = cc in omega arith), λ (q, a, b). absurd (omega arith))
+
 pub one-way : OneWay
-one-way = record { reached = reached; only = only; arrives = arrives; paired = paired }
+one-way = record { reached = reached; only = only; unknown = unknown; wrong = wrong; arrives = arrives; paired = paired }

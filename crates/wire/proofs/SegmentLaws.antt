@@ -5,13 +5,13 @@ use mathlib.Core.List.{List, [], _∷_, _++_}
 use Prim.Native.Nat.{ℕ, zero, suc, _+_, _*_, _/_, _%_, _^_, _<_, _≤_}
 use native.Mathlib.Omega.{arith}
 use native.Mathlib.Nat.{div-add-mod', mod-lt}
-use lib.ListN.{length, take, drop, length-drop, take-append-drop}
+use lib.ListN.{length, take, drop, length-append, length-drop, take-append-drop}
 use lib.Seq.{sets, take-at, drop-at, take-all, take-add, drop-drop, length-take-le}
 use Rattle.base.specs.Numbers.{Bytes, number, octets}
 use Rattle.base.proofs.ListLaws.{sets-append}
 use Rattle.base.proofs.NumberLaws.{length-octets, number-octets, octets-number, number-below, bytes-take, bytes-drop}
 use Rattle.wire.specs.declared.segment.Segment.{Segment}
-use Rattle.wire.specs.Segments.{headerLength, Fits, decoded, encoded, RoundTrip}
+use Rattle.wire.specs.Segments.{headerLength, Fits, decoded, encoded, RoundTrip, Carried, Divided, in-header, in-payload, whole, DividedOnce}
 
 -- the three fields stored one after the other are the header
 pub stored : (l : List ℕ) (s : Segment)
@@ -80,3 +80,43 @@ module _ (bs : List ℕ) (eight : length bs ≡ headerLength) (bytes : Bytes bs)
 
 pub round-trip : RoundTrip
 round-trip = record { read-written = read-written; written-read = written-read }
+
+-- ---- one division
+
+-- fronts of the same length, and what is behind them
+fronts : (a a′ b b′ : List ℕ) → length a ≡ length a′ → a ++ b ≡ a′ ++ b′ → (a ≡ a′) × (b ≡ b′)
+fronts a a′ b b′ n e = (
+  sym (take-at a b (length a) refl) ∙ ap (take (length a)) e ∙ take-at a′ b′ (length a) (sym n),
+  sym (drop-at a b (length a) refl) ∙ ap (drop (length a)) e ∙ drop-at a′ b′ (length a) (sym n),
+)
+
+-- too few bytes for a header
+too-few : (bs h r : List ℕ) → length bs < headerLength → length h ≡ headerLength → bs ≡ h ++ r → ⊥
+too-few bs h r few e q = omega (arith, ap length q ∙ length-append h r)
+
+-- too few bytes for a payload
+too-short : (h p h′ p′ bs : List ℕ) → length h ≡ headerLength → length h′ ≡ headerLength → length p < decoded h .len
+    → length p′ ≡ decoded h′ .len → h ++ p ≡ h′ ++ (p′ ++ bs) → ⊥
+too-short h p h′ p′ bs e e′ few n q =
+    let f = fronts h h′ p (p′ ++ bs) (e ∙ sym e′) q in
+    let l : decoded h .len ≡ decoded h′ .len = ap (λ (x : List ℕ). decoded x .len) (f .0) in
+    omega (arith, ap length (f .1) ∙ length-append p′ bs)
+
+once : {xs ys left left′ : List ℕ} {cs cs′ : List Carried} → Divided xs cs left → Divided ys cs′ left′ → xs ≡ ys → (cs ≡ cs′) × (left ≡ left′)
+once (in-header h) (in-header k) q = (refl, q)
+once (in-header {bs} few) (in-payload h p e n) q = absurd (too-few bs h p few e q)
+once (in-header {bs} few) (whole h p {bs = r} e n d) q = absurd (too-few bs h (p ++ r) few e q)
+once (in-payload h p e n) (in-header {bs} few) q = absurd (too-few bs h p few e (sym q))
+once (in-payload h p e n) (in-payload h′ p′ e′ n′) q = (refl, q)
+once (in-payload h p e few) (whole h′ p′ {bs} e′ n d) q = absurd (too-short h p h′ p′ bs e e′ few n q)
+once (whole h p {bs = r} e n d) (in-header {bs} few) q = absurd (too-few bs h (p ++ r) few e (sym q))
+once (whole h p {bs} e n d) (in-payload h′ p′ e′ few) q = absurd (too-short h′ p′ h p bs e′ e few n (sym q))
+once (whole h p {bs} e n d) (whole h′ p′ {bs = bs′} e′ n′ d′) q =
+    let f = fronts h h′ (p ++ bs) (p′ ++ bs′) (e ∙ sym e′) q in
+    let l : length p ≡ length p′ = n ∙ ap (λ (x : List ℕ). decoded x .len) (f .0) ∙ sym n′ in
+    let g = fronts p p′ bs bs′ l (f .1) in
+    let r = once d d′ (g .1) in
+    (rw (f .0, g .0, r .0), r .1)
+
+pub divided-once : DividedOnce
+divided-once xs left left′ cs cs′ d d′ = once d d′ refl

@@ -3,6 +3,7 @@ use Prim.Native.Nat.{ℕ, zero, suc, _<_, _-_}
 use mathlib.Core.Path.{_≡_}
 use mathlib.Core.Bool.{Bool, true, false, cond, not, _&&_}
 use mathlib.Core.List.{List, [], _∷_, _++_}
+use mathlib.Core.Logic.{_↔_}
 use mathlib.Core.Option.{Option, none, some, Option·getD}
 use lib.Dec.{eqb}
 use lib.ListN.{length, getD}
@@ -99,9 +100,12 @@ unfoldable pub pairOf : ℕ → ℕ
 pairOf i = Option·getD (find (λ x. eqb (x .protocol) (protocolOf i) && opposite (at i .role) (x .role)) 0 bundle) 0
 
 -- T5, the route. Every instance is reached by one protocol number and one mode, those that its other end sends with;
+-- a number is unknown if and only if no instance has it; only a Handshake segment with the mode of our own side is wrong;
 -- and what one side sends as i arrives at the other side's instance that i talks with.
 pub record OneWay : Type 0 where
   pub reached : (side : Side) (i : ℕ) → i < instances → routeOf side (protocolOf i) (1 - modeOf side i) ≡ To i
-  pub only : (side : Side) (p m i : ℕ) → m < 2 → routeOf side p m ≡ To i → (p ≡ protocolOf i) × (m ≡ 1 - modeOf side i)
+  pub only : (side : Side) (p m i : ℕ) → routeOf side p m ≡ To i → (p ≡ protocolOf i) × (m ≡ 1 - modeOf side i)
+  pub unknown : (side : Side) (p m : ℕ) → (routeOf side p m ≡ Unknown) ↔ ((i : ℕ) → i < instances → p ≡ protocolOf i → ⊥)
+  pub wrong : (side : Side) (p m i : ℕ) → m < 2 → (routeOf side p m ≡ Wrong i) ↔ ((i ≡ 0) × (p ≡ protocolOf 0) × (m ≡ modeOf side 0))
   pub arrives : (side : Side) (i : ℕ) → i < instances → routeOf (other side) (protocolOf i) (modeOf side i) ≡ To (pairOf i)
   pub paired : (i : ℕ) → i < instances → pairOf (pairOf i) ≡ i

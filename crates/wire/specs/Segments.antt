@@ -53,3 +53,8 @@ pub data Divided : List ℕ → List Carried → List ℕ → Type 0 where
   in-payload : (h p : List ℕ) → length h ≡ headerLength → length p < decoded h .len → Divided (h ++ p) [] (h ++ p)
   whole : (h p : List ℕ) {bs left : List ℕ} {cs : List Carried} → length h ≡ headerLength → length p ≡ decoded h .len
       → Divided bs cs left → Divided (h ++ (p ++ bs)) (record { header = decoded h; payload = p } ∷ cs) left
+
+-- a run of bytes is divided in one way
+abbrev pub DividedOnce : Type 0
+DividedOnce =
+    (xs left left′ : List ℕ) (cs cs′ : List Carried) → Divided xs cs left → Divided xs cs′ left′ → (cs ≡ cs′) × (left ≡ left′)

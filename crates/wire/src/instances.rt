@@ -29,13 +29,13 @@ const NONE: usize = 255;
 
 const ROWS: [[usize; 2]; 9] = [
     [0, 0],
-    [255, 255],
+    [NONE, NONE],
     [2, 1],
     [4, 3],
     [6, 5],
-    [255, 255],
-    [255, 255],
-    [255, 255],
+    [NONE, NONE],
+    [NONE, NONE],
+    [NONE, NONE],
     [8, 7],
 ];
 
