@@ -1,10 +1,14 @@
 -- Laws of tests as values: `&&` and `cond` of the kit, by what the test says.
 -- Assumes nothing.
-use mathlib.Core.Path.{_≡_, refl}
+use mathlib.Core.Path.{_≡_, refl, subst}
 use mathlib.Core.Bool.{Bool, true, false, _&&_, cond}
-use lib.Dec.{T}
+use Prim.Native.Nat.{ℕ, zero, suc, _+_, _<_}
+use native.Mathlib.Omega.{arith}
+use native.Mathlib.Numerals.{add-one}
+use lib.Dec.{T, ltb}
 use borrow.Author.Needs.{needs}
-use borrow.Author.Tests.{eq-eqb, ne-eqb, lt-ltb, le-ltb, le-leb, lt-leb}
+use borrow.Author.Tests.{eq-eqb, ne-eqb, lt-ltb, le-ltb, le-leb, lt-leb, ltb-true, ltb-false}
+use Rattle.base.specs.Below.{allBelow}
 
 -- `search tests` closes a need whose `cond`s are decided by the branches on the way there
 pub ruleset tests = (needs, eq-eqb, ne-eqb, lt-ltb, le-ltb, le-leb, lt-leb)
@@ -27,3 +31,16 @@ and-left false b t = t
 pub and-right : (a b : Bool) → T (a && b) → T b
 and-right true b t = t
 and-right false b t = absurd t
+
+-- what passes at each number below n passes at one of them
+pub below-at : (f : ℕ → Bool) (n : ℕ) → T (allBelow f n) → (i : ℕ) → i < n → T (f i)
+unfolding allBelow
+below-at f zero t i h = absurd (omega arith)
+below-at f (suc n) t i h =
+    by-test (ltb i n) (λ q. below-at f n (and-left (allBelow f n) (f n) t) i (ltb-true i n q))
+    (λ q. let e : n ≡ i = omega (arith, ltb-false i n q) in subst (λ (k : ℕ). T (f k)) e (and-right (allBelow f n) (f n) t))
+
+-- one number more
+pub below-next : (f : ℕ → Bool) (n : ℕ) → allBelow f (n + 1) ≡ (allBelow f n && f n)
+unfolding allBelow
+below-next f n = rw add-one

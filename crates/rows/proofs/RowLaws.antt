@@ -11,6 +11,7 @@ use lib.ListN.{length, getD, take, drop, length-map}
 use lib.Seq.{drop-cons}
 use borrow.Author.Tests.{ne-eqb}
 use Rattle.base.proofs.Conds.{by-test, and-left, and-right}
+use Rattle.base.proofs.ListLaws.{getD-map}
 use Rattle.base.proofs.Table.{every, at}
 use Rattle.rows.specs.declared.Protocol.{Protocol}
 use Rattle.rows.specs.declared.Protocol.the-variants.{Handshake, ChainSync, BlockFetch, TxSubmission, KeepAlive}
@@ -49,11 +50,6 @@ rows-end KeepAlive = omega arith
 -- what stands past the table's end
 abbrev nothing : Row
 nothing = record { state = 0; agency = Nobody; kind = 0; flag = 0; next = 0 }
-
-getD-map : {A B : Type 0} (f : A → B) (l : List A) (n : ℕ) (d : A) (e : B) → n < length l → getD (map f l) n e ≡ f (getD l n d)
-getD-map f [] n d e h = absurd (omega arith)
-getD-map f (x ∷ l) zero d e h = refl
-getD-map f (x ∷ l) (suc n) d e h = getD-map f l n d e (omega arith)
 
 -- the table's cells are the rows' columns
 pub cell-row : (i c : ℕ) → i < rowCount → getD (getD (map columns allRows) i []) c 0 ≡ getD (columns (rowAt i)) c 0

@@ -1,0 +1,15 @@
+-- `connection::opening::refused` meets its contract.
+-- Assumes nothing.
+use borrow.Author.Needs.{needs}
+use Rattle.connection.proofs.opening.refused.Statement.{statement}
+use Rattle.connection.proofs.opening.refused.Tie as tie
+
+returns : tie.Need-returns
+returns c = rw (c .empty .ensures)
+
+pub refused-spec : {M : Type 1} → statement M
+refused-spec =
+    tie.close
+    (tie.spec
+    (λ c κs. search needs)
+    returns)

@@ -1,0 +1,18 @@
+-- `connection::range::accept_ok` meets its contract: the tests are those of the definition.
+-- Assumes nothing.
+use borrow.Author.Needs.{needs}
+use Rattle.connection.proofs.range.accept_ok.Statement.{statement}
+use Rattle.connection.proofs.range.accept_ok.Tie as tie
+
+returns : tie.Need-returns
+returns c = cc
+
+pub accept-ok-spec : {M : Type 1} → statement M
+accept-ok-spec =
+    tie.close
+    (tie.spec
+    (λ c κs. search needs)
+    (λ c. search needs)
+    (λ c κs. search needs)
+    (λ c κs. search needs)
+    returns)

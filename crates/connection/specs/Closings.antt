@@ -1,0 +1,37 @@
+-- The closing (document 01, "Segments": status).
+use Prim.Native.Nat.{ℕ}
+use mathlib.Core.Bool.{Bool, true, false, _&&_, _||_}
+use mathlib.Core.Option.{Option, none, some}
+use lib.Dec.{eqb, leb, ltb}
+use Rattle.wire.specs.Instances.{instances}
+use Rattle.connection.specs.declared.Closing.{Closing}
+use Rattle.connection.specs.declared.Closing.the-variants.{Bare, Of}
+use Rattle.connection.specs.declared.Gate.{Gate}
+use Rattle.connection.specs.declared.Gate.the-variants.{Open, Closed}
+
+-- a closing names its refusal number and, where one is known, the instance
+abbrev pub numberOf : Closing → ℕ
+numberOf (Bare n) = n
+numberOf (Of n i) = n
+
+abbrev pub instanceOf : Closing → Option ℕ
+instanceOf (Bare n) = none
+instanceOf (Of n i) = some i
+
+-- only the first closing is kept
+abbrev pub closedBy : Gate → Closing → Gate
+closedBy Open x = Closed x
+closedBy (Closed y) x = Closed y
+
+abbrev pub isOpen : Gate → Bool
+isOpen Open = true
+isOpen (Closed x) = false
+
+-- a closing that a fault leaves: no instance for 11; 0 for 12; any for 13 to 17
+abbrev pub faultLeaves : Closing → Bool
+faultLeaves (Bare n) = eqb n 11
+faultLeaves (Of n i) = (eqb n 12 && eqb i 0) || ((leb 13 n && leb n 17) && ltb i instances)
+
+abbrev pub gateOk : Gate → Bool
+gateOk Open = true
+gateOk (Closed x) = faultLeaves x

@@ -1,0 +1,29 @@
+-- What only this crate's own functions cite: the range of an instance's numbers, by the arrays that they lie in.
+use Prim.Native.Nat.{ℕ, _+_, _<_, _≤_}
+use mathlib.Core.Bool.{Bool, not, _&&_, _||_}
+use mathlib.Core.List.{List}
+use lib.Dec.{eqb, leb, ltb}
+use lib.ListN.{getD}
+use Rattle.wire.specs.Instances.{instances}
+use Rattle.rows.specs.Rows.{doneOf}
+use Rattle.connection.specs.Ranges.{capacityOk, restFor, speaks}
+
+abbrev pub capacitiesIn : List ℕ → List ℕ → ℕ → Bool
+capacitiesIn receive send i = capacityOk (getD receive i 0) && capacityOk (getD send i 0)
+
+abbrev pub receivingIn : List ℕ → List ℕ → List ℕ → ℕ → ℕ → ℕ → Bool
+receivingIn caps starts held instance rest i =
+    ltb (getD starts i 0) (getD caps i 0) && leb (getD held i 0 + restFor instance rest i) (getD caps i 0)
+
+abbrev pub sendingIn : List ℕ → List ℕ → List ℕ → ℕ → Bool
+sendingIn caps starts waiting i = ltb (getD starts i 0) (getD caps i 0) && leb (getD waiting i 0) (getD caps i 0)
+
+abbrev pub statesIn : List ℕ → ℕ → Bool
+statesIn states i = leb (getD states i 0) (doneOf (speaks i))
+
+abbrev pub acceptIn : Bool → List ℕ → Bool
+acceptIn accepted states = not accepted || eqb (getD states 0 0) (doneOf (speaks 0))
+
+-- capacities that can be summed
+abbrev pub Small : List ℕ → Type 0
+Small caps = (i : ℕ) → i < instances → getD caps i 0 ≤ 131072

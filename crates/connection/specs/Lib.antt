@@ -1,0 +1,5 @@
+pub mod Closings
+pub mod Ranges
+pub mod Openings
+pub mod Statuses
+pub mod Inside

@@ -1,0 +1,225 @@
+// What of settings and record is in range: exactly document 01's list.
+//
+// Each test is a value, so that the whole is one equation. Capacities are tested before anything is summed.
+use crate::Closing;
+use crate::Connection;
+use crate::Gate;
+use crate::Receiving;
+use crate::Sending;
+use crate::Settings;
+use crate::Talk;
+use rows::Protocol;
+use wire::instances::INSTANCES;
+ghost use mathlib.Core.Path.{_≡_};
+ghost use mathlib.Core.Bool.{_&&_};
+ghost use Prim.Native.Nat.{_+_, _<_};
+ghost use lib.Dec.{leb};
+ghost use Rattle.base.specs.Below.{allBelow};
+ghost use Rattle.rows.specs.Rows.{doneOf};
+ghost use Rattle.ring.specs.Ring.{together};
+ghost use Rattle.wire.specs.Instances.{instances};
+ghost use Rattle.connection.specs.Closings.{faultLeaves, gateOk};
+ghost use Rattle.connection.specs.Ranges.{capacityOk, settingsOk, speaks, restFor, turnOk, headerOk, acceptOk, inRange};
+ghost use Rattle.connection.specs.Inside.{capacitiesIn, receivingIn, sendingIn, statesIn, acceptIn, Small};
+ghost use Rattle.connection.specs.declared.Closing.the-variants.{Of};
+
+fn capacity_ok(c: u64) -> bool
+    ensures { λ r. ⌜ r ≡ capacityOk c ⌝ }
+{
+    base::and(16 <= c, c <= 131072)
+}
+
+fn capacities_ok(receive: [u64; INSTANCES], send: [u64; INSTANCES]) -> bool
+    ensures { λ r. ⌜ r ≡ allBelow (capacitiesIn receive send) instances ⌝ }
+{
+    let mut ok = true;
+    let mut i: usize = 0;
+    while i < INSTANCES {
+        ok = base::and(ok, base::and(capacity_ok(receive[i]), capacity_ok(send[i])));
+        i += 1;
+    }
+    ok
+}
+
+// Settings: the payload limit and the capacities.
+pub fn settings_ok(s: Settings) -> bool
+    ensures { λ r. ⌜ r ≡ settingsOk s ⌝ }
+{
+    let receive = s.receive;
+    let send = s.send;
+    let limit = base::and(1 <= s.limit, s.limit <= 65535);
+    base::and(limit, capacities_ok(receive, send))
+}
+
+// How long a store is: as its capacities together.
+pub fn together(caps: [u64; INSTANCES]) -> usize
+    requires { ⌜ Small caps ⌝ }
+    ensures { λ r. ⌜ r ≡ together caps ⌝ }
+{
+    ring::base_of(&caps, INSTANCES)
+}
+
+// By instance, the protocol that it speaks, and that protocol's last state.
+const SPOKEN: [Protocol; INSTANCES] = [
+    Protocol::Handshake,
+    Protocol::ChainSync,
+    Protocol::ChainSync,
+    Protocol::BlockFetch,
+    Protocol::BlockFetch,
+    Protocol::TxSubmission,
+    Protocol::TxSubmission,
+    Protocol::KeepAlive,
+    Protocol::KeepAlive,
+];
+
+const DONE: [u64; INSTANCES] = [2, 4, 4, 3, 3, 5, 5, 2, 2];
+
+pub fn protocol(i: usize) -> Protocol
+    requires { ⌜ i < instances ⌝ }
+    ensures { λ r. ⌜ r ≡ speaks i ⌝ }
+{
+    SPOKEN[i]
+}
+
+pub fn done(i: usize) -> u64
+    requires { ⌜ i < instances ⌝ }
+    ensures { λ r. ⌜ r ≡ doneOf (speaks i) ⌝ }
+{
+    DONE[i]
+}
+
+// Whether a count and more of it are within a capacity, whatever the numbers.
+pub fn fits(count: u64, more: u64, cap: u64) -> bool
+    ensures { λ r. ⌜ r ≡ leb (count + more) cap ⌝ }
+{
+    if count <= cap {
+        return more <= cap - count;
+    }
+    false
+}
+
+// Of the payload under way, the bytes still to come for instance i.
+fn rest_for(instance: u64, rest: u64, i: usize) -> u64
+    ensures { λ r. ⌜ r ≡ restFor instance rest i ⌝ }
+{
+    if instance == i as u64 { rest } else { 0 }
+}
+
+fn receiving_ok(
+    caps: [u64; INSTANCES],
+    starts: [u64; INSTANCES],
+    held: [u64; INSTANCES],
+    instance: u64,
+    rest: u64,
+) -> bool
+    ensures { λ r. ⌜ r ≡ allBelow (receivingIn caps starts held instance rest) instances ⌝ }
+{
+    let mut ok = true;
+    let mut i: usize = 0;
+    while i < INSTANCES {
+        let room = fits(held[i], rest_for(instance, rest, i), caps[i]);
+        ok = base::and(ok, base::and(starts[i] < caps[i], room));
+        i += 1;
+    }
+    ok
+}
+
+fn sending_ok(caps: [u64; INSTANCES], starts: [u64; INSTANCES], waiting: [u64; INSTANCES]) -> bool
+    ensures { λ r. ⌜ r ≡ allBelow (sendingIn caps starts waiting) instances ⌝ }
+{
+    let mut ok = true;
+    let mut i: usize = 0;
+    while i < INSTANCES {
+        ok = base::and(ok, base::and(starts[i] < caps[i], waiting[i] <= caps[i]));
+        i += 1;
+    }
+    ok
+}
+
+fn states_ok(states: [u64; INSTANCES]) -> bool
+    ensures { λ r. ⌜ r ≡ allBelow (statesIn states) instances ⌝ }
+{
+    let mut ok = true;
+    let mut i: usize = 0;
+    while i < INSTANCES {
+        ok = base::and(ok, states[i] <= done(i));
+        i += 1;
+    }
+    ok
+}
+
+fn header_ok(r: Receiving) -> bool
+    ensures { λ b. ⌜ b ≡ headerOk r ⌝ }
+{
+    let h = r.header;
+    let under_way = base::and(h.count == 0, r.instance < INSTANCES as u64);
+    base::and(
+        h.count < wire::segment::LENGTH,
+        base::or(r.rest == 0, under_way),
+    )
+}
+
+fn accept_ok(accepted: bool, states: [u64; INSTANCES]) -> bool
+    ensures { λ r. ⌜ r ≡ acceptIn accepted states ⌝ }
+{
+    base::or(base::not(accepted), states[0] == done(0))
+}
+
+// A closing that a fault leaves.
+fn fault_leaves(x: Closing) -> bool
+    ensures { λ r. ⌜ r ≡ faultLeaves x ⌝ }
+{
+    match x {
+        Closing::Bare(n) => n == 11,
+        Closing::Of(n, i) => named(n, i),
+    }
+}
+
+// A closing with its instance: 12 is Handshake's, 13 to 17 may be anyone's.
+fn named(n: u64, i: u64) -> bool
+    ensures { λ r. ⌜ r ≡ faultLeaves (Of n i) ⌝ }
+{
+    let late = base::and(base::and(13 <= n, n <= 17), i < INSTANCES as u64);
+    base::or(base::and(n == 12, i == 0), late)
+}
+
+fn gate_ok(g: Gate) -> bool
+    ensures { λ r. ⌜ r ≡ gateOk g ⌝ }
+{
+    match g {
+        Gate::Open => true,
+        Gate::Closed(x) => fault_leaves(x),
+    }
+}
+
+// The turn, the header record, the Accept mark and the closing.
+fn marks_ok(r: Receiving, w: Sending, t: Talk, g: Gate) -> bool
+    ensures { λ b. ⌜ b ≡ (turnOk (w .turn) && (headerOk r && (acceptOk t && gateOk g))) ⌝ }
+{
+    let states = t.states;
+    let turn = base::and(1 <= w.turn, w.turn < INSTANCES as u64);
+    let accept = base::and(accept_ok(t.accepted, states), gate_ok(g));
+    base::and(turn, base::and(header_ok(r), accept))
+}
+
+// Whether a record is in range.
+pub fn in_range(c: Connection) -> bool
+    ensures { λ r. ⌜ r ≡ inRange c ⌝ }
+{
+    let s = c.settings;
+    let r = c.receiving;
+    let w = c.sending;
+    let t = c.talk;
+    let gate = c.gate;
+    let receive = s.receive;
+    let starts = r.starts;
+    let held = r.held;
+    let send = s.send;
+    let firsts = w.starts;
+    let waiting = w.waiting;
+    let states = t.states;
+    let talk = base::and(states_ok(states), marks_ok(r, w, t, gate));
+    let sending = base::and(sending_ok(send, firsts, waiting), talk);
+    let receiving = receiving_ok(receive, starts, held, r.instance, r.rest);
+    base::and(settings_ok(s), base::and(receiving, sending))
+}

@@ -1,0 +1,122 @@
+-- Laws of the ready word: its bits, its ones, its lowest, and that the choice by bits is the choice by counts.
+-- Assumes nothing.
+use mathlib.Core.Path.{_≡_, refl, sym, ap, subst, _∙_}
+use mathlib.Core.Bool.{Bool, true, false, cond}
+use mathlib.Core.List.{List, [], _∷_}
+use Prim.Native.Nat.{ℕ, zero, suc, _+_, _-_, _*_, _/_, _%_, _^_, _<_, _≤_}
+use native.Mathlib.Omega.{arith}
+use native.Mathlib.Numerals.{sub-one}
+use native.Mathlib.Nat.{pow-suc, pow-succ', pow-le-pow-right, div-one, div-div-eq-div-mul}
+use lib.Dec.{eqb, ltb, lit<}
+use lib.ListN.{length, getD, drop, length-drop}
+use lib.Count.{ones, ones-step, trailingZeros, under}
+use lib.Seq.{drop-cons}
+use borrow.Author.Tests.{eq-eqb, ne-eqb, lt-ltb, le-ltb, eqb-true, eqb-false}
+use Rattle.base.proofs.Conds.{cond-cases}
+use Rattle.ready.specs.Ready.{bitOf, wordOf, countOf, lowestFrom, afterOf, seek, chosen, BitByBit, NoMore}
+use Rattle.ready.specs.Inside.{bitSet, seekIn, chosenIn}
+use Rattle.ready.specs.declared.Choice.{Choice}
+use Rattle.ready.specs.declared.Choice.the-variants.{Instance, Nobody}
+
+pub bit-le : (n : ℕ) → bitOf n ≤ 1
+bit-le n = of (eqb n 0)
+  where
+    of : (t : Bool) → cond t 0 1 ≤ 1
+    of true = omega arith
+    of false = omega arith
+
+-- a word ends in a bit
+odd : (n b : ℕ) → b ≤ 1 → (2 * n + b) % 2 ≡ b
+odd n b l = omega arith
+
+half : (n b : ℕ) → b ≤ 1 → (2 * n + b) / 2 ≡ n
+half n b l = omega arith
+
+pub no-more : NoMore
+unfolding wordOf
+no-more [] = lit< tt
+no-more (w ∷ ws) = rw pow-suc (omega (arith, no-more ws, bit-le w))
+
+pub bit-by-bit : BitByBit
+unfolding wordOf
+bit-by-bit [] i h = absurd (omega arith)
+bit-by-bit (w ∷ ws) zero h = rw div-one (odd (wordOf ws) (bitOf w) (bit-le w))
+bit-by-bit (w ∷ ws) (suc i) h =
+    rw (pow-succ' 2 i, ← div-div-eq-div-mul (2 * wordOf ws + bitOf w) 2 (2 ^ i), half (wordOf ws) (bitOf w) (bit-le w)) (bit-by-bit ws i (omega arith))
+
+-- a turn of the loop that makes the word
+turn : (ws : List ℕ) (j : ℕ) → j < length ws → wordOf (drop (suc j) ws) * 2 + bitOf (getD ws j 0) ≡ wordOf (drop j ws)
+unfolding wordOf
+turn ws j h = rw (drop-cons ws j 0 h) (omega arith)
+
+pub word-turn : (ws : List ℕ) (i : ℕ) → 0 < i → i ≤ length ws → wordOf (drop i ws) * 2 + bitOf (getD ws (i - 1) 0) ≡ wordOf (drop (i - 1) ws)
+word-turn ws i p h =
+    let e : suc (i - 1) ≡ i = omega arith in
+    subst (λ (n : ℕ). wordOf (drop n ws) * 2 + bitOf (getD ws (i - 1) 0) ≡ wordOf (drop (i - 1) ws)) e (turn ws (i - 1) (omega arith))
+
+-- a word of the last counts is small
+pub word-small : (ws : List ℕ) (i n : ℕ) → length ws ≡ n → wordOf (drop i ws) < 2 ^ n
+word-small ws i n e = omega (arith, no-more (drop i ws), pow-le-pow-right {n = 2} (omega arith) {i = length (drop i ws)} {j = n} (omega (arith, length-drop i ws)))
+
+-- ---- ones, and the lowest
+
+pub ones-ready : (ws : List ℕ) → ones (wordOf ws) ≡ countOf ws
+unfolding ones wordOf countOf
+ones-ready [] = refl
+ones-ready (w ∷ ws) =
+    ones-step (2 * wordOf ws + bitOf w) ∙ rw (odd (wordOf ws) (bitOf w) (bit-le w), half (wordOf ws) (bitOf w) (bit-le w), ones-ready ws)
+
+-- no bit is set: none is ready
+none-at : (t : Bool) (n i f : ℕ) → (n ≡ 0 → f ≡ 255) → 2 * n + cond t 0 1 ≡ 0 → cond t f i ≡ 255
+none-at true n i f later z = later (omega arith)
+none-at false n i f later z = absurd (omega arith)
+
+pub lowest-none : (i : ℕ) (ws : List ℕ) → wordOf ws ≡ 0 → lowestFrom i ws ≡ 255
+unfolding wordOf lowestFrom
+lowest-none i [] z = refl
+lowest-none i (w ∷ ws) z = none-at (eqb w 0) (wordOf ws) i (lowestFrom (suc i) ws) (lowest-none (suc i) ws) z
+
+-- some bit is set: the lowest is the first that is ready
+some-at : (t : Bool) (n z i f : ℕ) → ((n ≡ 0 → ⊥) → z + suc i ≡ f) → (2 * n + cond t 0 1 ≡ 0 → ⊥) → under (cond t 0 1) z + i ≡ cond t f i
+some-at true n z i f later h = omega (arith, later (λ e. h (omega arith)))
+some-at false n z i f later h = omega arith
+
+pub lowest-some : (k i : ℕ) (ws : List ℕ) → length ws ≤ k → (wordOf ws ≡ 0 → ⊥) → trailingZeros k (wordOf ws) + i ≡ lowestFrom i ws
+unfolding trailingZeros wordOf lowestFrom
+lowest-some k i [] h n = absurd (n refl)
+lowest-some zero i (w ∷ ws) h n = absurd (omega arith)
+lowest-some (suc k) i (w ∷ ws) h n =
+    rw (odd (wordOf ws) (bitOf w) (bit-le w), half (wordOf ws) (bitOf w) (bit-le w))
+    (some-at (eqb w 0) (wordOf ws) (trailingZeros k (wordOf ws)) i (lowestFrom (suc i) ws) (lowest-some k (suc i) ws (omega arith)) n)
+
+-- ---- the choice
+
+waits-bit : (n : ℕ) → eqb (bitOf n) 1 ≡ ltb 0 n
+waits-bit zero = refl
+waits-bit (suc n) = rw (ne-eqb (suc n) 0 (λ e. omega arith), lt-ltb 0 (suc n) (omega arith))
+
+set-waits : (ws : List ℕ) (i : ℕ) → i < length ws → bitSet (wordOf ws) i ≡ ltb 0 (getD ws i 0)
+set-waits ws i h = rw (bit-by-bit ws i h) (waits-bit (getD ws i 0))
+
+pub after-low : (n i : ℕ) → 1 < n → i < n → afterOf n i < n
+after-low n i two h = cond-cases (λ (k : ℕ). k < n) (eqb (i + 1) n) (λ t. two) (λ t. omega (arith, eqb-false (i + 1) n t))
+
+seek-word : (ws : List ℕ) (i k : ℕ) → 1 < length ws → i < length ws → seekIn (length ws) (wordOf ws) i k ≡ seek ws i k
+unfolding seekIn seek
+seek-word ws i zero two h = refl
+seek-word ws i (suc k) two h = rw (set-waits ws i h, seek-word ws (afterOf (length ws) i) k two (after-low (length ws) i two h))
+
+pub chosen-word : (ws : List ℕ) (turn : ℕ) → 1 < length ws → turn < length ws → chosenIn (length ws) (wordOf ws) turn ≡ chosen ws turn
+chosen-word ws turn two h = rw (set-waits ws 0 (omega arith), seek-word ws turn (length ws - 1) two h)
+
+-- ---- a search along the bits
+
+pub seek-hit : (n word i k : ℕ) → 0 < k → bitSet word i ≡ true → seekIn n word i k ≡ Instance i
+unfolding seekIn
+seek-hit n word i zero h t = absurd (omega arith)
+seek-hit n word i (suc k) h t = rw t
+
+pub seek-on : (n word i k : ℕ) → 0 < k → bitSet word i ≡ false → seekIn n word i k ≡ seekIn n word (afterOf n i) (k - 1)
+unfolding seekIn
+seek-on n word i zero h t = absurd (omega arith)
+seek-on n word i (suc k) h t = rw (t, sub-one)
