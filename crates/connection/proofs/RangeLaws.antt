@@ -1,13 +1,13 @@
 -- Laws of the range: the tables by instance, and what a record in range promises.
 -- Assumes nothing.
 use mathlib.Core.Path.{_≡_, refl, sym, ap, _∙_}
-use mathlib.Core.Bool.{Bool, true, false, cond, _&&_}
+use mathlib.Core.Bool.{Bool, true, false, true≢false, cond, not, _&&_, _||_}
 use mathlib.Core.List.{List, [], _∷_, map}
 use Prim.Native.Nat.{ℕ, zero, suc, _+_, _-_, _*_, _^_, _≤_, _<_}
 use native.Mathlib.Omega.{arith}
-use lib.Dec.{T, eqb, leb, leb→le}
+use lib.Dec.{T, eqb, leb, ltb, leb→le, ltb→lt, eqb→eq}
 use lib.ListN.{length, getD}
-use borrow.Author.Tests.{le-leb, lt-leb, leb-true, leb-false}
+use borrow.Author.Tests.{ne-eqb, le-leb, lt-leb, leb-true, leb-false}
 use native.Mathlib.Nat.{le-refl}
 use Rattle.base.specs.Below.{allBelow}
 use Rattle.base.proofs.Conds.{by-test, and-left, and-right, below-at}
@@ -18,9 +18,12 @@ use Rattle.rows.specs.declared.Protocol.the-variants.{Handshake, ChainSync, Blo
 use Rattle.wire.specs.Instances.{Instance, ofSide, bundle, instances, protocolOf}
 use Rattle.ring.specs.Ring.{together}
 use Rattle.ring.proofs.Areas.{base-small}
+use Rattle.wire.specs.Segments.{headerLength}
 use Rattle.connection.specs.declared.Settings.{Settings}
+use Rattle.connection.specs.declared.Connection.{Connection}
+use Rattle.connection.specs.Closings.{gateOk}
 use Rattle.connection.specs.Inside.{Small}
-use Rattle.connection.specs.Ranges.{limitOk, capacityOk, capacitiesOk, settingsOk, speaks, spoken}
+use Rattle.connection.specs.Ranges.{limitOk, capacityOk, capacitiesOk, settingsOk, speaks, spoken, restFor, receivingOk, sendingOk, stateOk, turnOk, headerOk, acceptOk, inRange}
 
 -- a sum within a capacity
 pub fits-left : (a b c : ℕ) → a ≤ c → leb (a + b) c ≡ leb b (c - a)
@@ -65,3 +68,73 @@ settings-set s e =
 pub together-fits : (caps : List ℕ) → length caps ≡ instances → Small caps → together caps < 2 ^ 64
 together-fits caps n small =
     omega (arith, base-small caps 131072 (λ i h. small i (omega arith)) (length caps) (le-refl (length caps)))
+
+-- ---- a record in range
+
+-- what a record in range promises
+pub record Ranged (c : Connection) : Type 0 where
+  pub set : Set (c .settings)
+  pub receiving : (i : ℕ) → i < instances
+      → (getD (c .receiving .starts) i 0 < getD (c .settings .receive) i 0)
+      × (getD (c .receiving .held) i 0 + restFor (c .receiving .instance) (c .receiving .rest) i ≤ getD (c .settings .receive) i 0)
+  pub sending : (i : ℕ) → i < instances
+      → (getD (c .sending .starts) i 0 < getD (c .settings .send) i 0) × (getD (c .sending .waiting) i 0 ≤ getD (c .settings .send) i 0)
+  pub states : (i : ℕ) → i < instances → getD (c .talk .states) i 0 ≤ doneOf (speaks i)
+  pub turn : (1 ≤ c .sending .turn) × (c .sending .turn < instances)
+  pub header : c .receiving .header .count < headerLength
+  pub under-way : 0 < c .receiving .rest → (c .receiving .header .count ≡ 0) × (c .receiving .instance < instances)
+  pub accepted : c .talk .accepted ≡ true → getD (c .talk .states) 0 0 ≡ doneOf (speaks 0)
+  pub closing : gateOk (c .gate) ≡ true
+
+is : (t : Bool) → T t → t ≡ true
+is true h = refl
+is false h = absurd h
+
+-- the parts of a test of two
+both : (a b : Bool) → T (a && b) → T a × T b
+both a b t = (and-left a b t, and-right a b t)
+
+low-and-within : (a b c d : ℕ) → T (ltb a b && leb c d) → (a < b) × (c ≤ d)
+low-and-within a b c d t = let q = both (ltb a b) (leb c d) t in (ltb→lt a b (q .0), leb→le c d (q .1))
+
+-- one of two, the first of which does not hold
+second : (a b : Bool) → T (a || b) → a ≡ false → T b
+second true b t e = absurd (true≢false e)
+second false b t e = t
+
+pub ranged : (c : Connection) → inRange c ≡ true → Ranged c
+unfolding inRange
+ranged c e =
+    let s = c .settings in
+    let r = c .receiving in
+    let w = c .sending in
+    let t = c .talk in
+    let seven = acceptOk t && gateOk (c .gate) in
+    let six = headerOk r && seven in
+    let five = turnOk (w .turn) && six in
+    let four = allBelow (stateOk t) instances && five in
+    let three = allBelow (sendingOk s w) instances && four in
+    let two = allBelow (receivingOk s r) instances && three in
+    let p1 = both (settingsOk s) two (so (settingsOk s && two) e) in
+    let p2 = both (allBelow (receivingOk s r) instances) three (p1 .1) in
+    let p3 = both (allBelow (sendingOk s w) instances) four (p2 .1) in
+    let p4 = both (allBelow (stateOk t) instances) five (p3 .1) in
+    let p5 = both (turnOk (w .turn)) six (p4 .1) in
+    let p6 = both (headerOk r) seven (p5 .1) in
+    let p7 = both (acceptOk t) (gateOk (c .gate)) (p6 .1) in
+    let busy = eqb (r .header .count) 0 && ltb (r .instance) instances in
+    let h = both (ltb (r .header .count) headerLength) (eqb (r .rest) 0 || busy) (p6 .0) in
+    let turning = both (leb 1 (w .turn)) (ltb (w .turn) instances) (p5 .0) in
+    record {
+      set = settings-set s (is (settingsOk s) (p1 .0));
+      receiving = λ i l. low-and-within _ _ _ _ (below-at (receivingOk s r) instances (p2 .0) i l);
+      sending = λ i l. low-and-within _ _ _ _ (below-at (sendingOk s w) instances (p3 .0) i l);
+      states = λ i l. leb→le (getD (t .states) i 0) (doneOf (speaks i)) (below-at (stateOk t) instances (p4 .0) i l);
+      turn = (leb→le 1 (w .turn) (turning .0), ltb→lt (w .turn) instances (turning .1));
+      header = ltb→lt (r .header .count) headerLength (h .0);
+      under-way = λ some.
+          let q = both (eqb (r .header .count) 0) (ltb (r .instance) instances) (second (eqb (r .rest) 0) busy (h .1) (ne-eqb (r .rest) 0 (λ z. omega arith))) in
+          (eqb→eq (r .header .count) 0 (q .0), ltb→lt (r .instance) instances (q .1));
+      accepted = λ a. eqb→eq (getD (t .states) 0 0) (doneOf (speaks 0)) (second (not (t .accepted)) (eqb (getD (t .states) 0 0) (doneOf (speaks 0))) (p7 .0) (ap not a));
+      closing = is (gateOk (c .gate)) (p7 .1);
+    }

@@ -1,4 +1,5 @@
 pub mod Closings
+pub mod Parts
 pub mod Ranges
 pub mod Openings
 pub mod Statuses

@@ -7,6 +7,7 @@ use wire::instances::Side;
 use wire::segment::Header;
 
 pub mod opening;
+pub mod parts;
 pub mod range;
 pub mod telling;
 

@@ -1,0 +1,93 @@
+// A record with one of its parts replaced, and its gate.
+use crate::Closing;
+use crate::Connection;
+use crate::Gate;
+use crate::Receiving;
+use crate::Sending;
+use crate::Talk;
+ghost use mathlib.Core.Path.{_≡_};
+ghost use Rattle.connection.specs.Closings.{closedBy, isOpen};
+ghost use Rattle.connection.specs.Parts.{withReceiving, withSending, withTalk, withGate};
+
+// What feed changes: what was received, and the gate where it faults.
+pub fn with_receiving(c: Connection, receiving: Receiving, gate: Gate) -> Connection
+    ensures { λ r. ⌜ r ≡ withReceiving c receiving gate ⌝ }
+{
+    let settings = c.settings;
+    let sending = c.sending;
+    let talk = c.talk;
+    Connection {
+        settings,
+        receiving,
+        sending,
+        talk,
+        gate,
+    }
+}
+
+pub fn with_sending(c: Connection, sending: Sending) -> Connection
+    ensures { λ r. ⌜ r ≡ withSending c sending ⌝ }
+{
+    let settings = c.settings;
+    let receiving = c.receiving;
+    let talk = c.talk;
+    let gate = c.gate;
+    Connection {
+        settings,
+        receiving,
+        sending,
+        talk,
+        gate,
+    }
+}
+
+pub fn with_talk(c: Connection, talk: Talk) -> Connection
+    ensures { λ r. ⌜ r ≡ withTalk c talk ⌝ }
+{
+    let settings = c.settings;
+    let receiving = c.receiving;
+    let sending = c.sending;
+    let gate = c.gate;
+    Connection {
+        settings,
+        receiving,
+        sending,
+        talk,
+        gate,
+    }
+}
+
+pub fn with_gate(c: Connection, gate: Gate) -> Connection
+    ensures { λ r. ⌜ r ≡ withGate c gate ⌝ }
+{
+    let settings = c.settings;
+    let receiving = c.receiving;
+    let sending = c.sending;
+    let talk = c.talk;
+    Connection {
+        settings,
+        receiving,
+        sending,
+        talk,
+        gate,
+    }
+}
+
+// Only the first closing is kept.
+pub fn close(gate: Gate, why: Closing) -> Gate
+    ensures { λ r. ⌜ r ≡ closedBy gate why ⌝ }
+{
+    match gate {
+        Gate::Open => Gate::Closed(why),
+        Gate::Closed(_) => gate,
+    }
+}
+
+pub fn is_open(gate: Gate) -> bool
+    ensures { λ r. ⌜ r ≡ isOpen gate ⌝ }
+{
+    match gate {
+        Gate::Open => true,
+        Gate::Closed(_) => false,
+    }
+}
