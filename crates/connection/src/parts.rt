@@ -1,10 +1,14 @@
-// A record with one of its parts replaced, and its gate.
+// A record with one of its parts replaced, its gate, and its arrays by instance.
 use crate::Closing;
 use crate::Connection;
 use crate::Gate;
 use crate::Receiving;
 use crate::Sending;
 use crate::Talk;
+use wire::instances::INSTANCES;
+ghost use Prim.Native.Nat.{_<_};
+ghost use lib.ListN.{getD, set};
+ghost use Rattle.wire.specs.Instances.{instances};
 ghost use mathlib.Core.Path.{_≡_};
 ghost use Rattle.connection.specs.Closings.{closedBy, isOpen};
 ghost use Rattle.connection.specs.Parts.{withReceiving, withSending, withTalk, withGate};
@@ -90,4 +94,22 @@ pub fn is_open(gate: Gate) -> bool
         Gate::Open => true,
         Gate::Closed(_) => false,
     }
+}
+
+// What stands at a place of an array by instance.
+pub fn at(a: [u64; INSTANCES], i: usize) -> u64
+    requires { ⌜ i < instances ⌝ }
+    ensures { λ r. ⌜ r ≡ getD a i 0 ⌝ }
+{
+    a[i]
+}
+
+// The array with another number there.
+pub fn changed(a: [u64; INSTANCES], i: usize, n: u64) -> [u64; INSTANCES]
+    requires { ⌜ i < instances ⌝ }
+    ensures { λ r. ⌜ r ≡ set a i n ⌝ }
+{
+    let mut b = a;
+    b[i] = n;
+    b
 }

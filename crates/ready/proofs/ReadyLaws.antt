@@ -109,6 +109,20 @@ seek-word ws i (suc k) two h = rw (set-waits ws i h, seek-word ws (afterOf (leng
 pub chosen-word : (ws : List ℕ) (turn : ℕ) → 1 < length ws → turn < length ws → chosenIn (length ws) (wordOf ws) turn ≡ chosen ws turn
 chosen-word ws turn two h = rw (set-waits ws 0 (omega arith), seek-word ws turn (length ws - 1) two h)
 
+-- whoever is chosen is an instance
+abbrev pub Low : ℕ → Choice → Type 0
+Low n Nobody = Unit {0}
+Low n (Instance i) = i < n
+
+seek-low : (n word i k : ℕ) → 1 < n → i < n → Low n (seekIn n word i k)
+unfolding seekIn
+seek-low n word i zero two h = tt
+seek-low n word i (suc k) two h =
+    cond-cases (Low n) (bitSet word i) (λ t. h) (λ t. seek-low n word (afterOf n i) k two (after-low n i two h))
+
+pub chosen-low : (n word turn : ℕ) → 1 < n → turn < n → Low n (chosenIn n word turn)
+chosen-low n word turn two h = cond-cases (Low n) (bitSet word 0) (λ t. omega arith) (λ t. seek-low n word turn (n - 1) two h)
+
 -- ---- a search along the bits
 
 pub seek-hit : (n word i k : ℕ) → 0 < k → bitSet word i ≡ true → seekIn n word i k ≡ Instance i

@@ -5,6 +5,7 @@
 use wire::instances::INSTANCES;
 ghost use mathlib.Core.Path.{_≡_};
 ghost use Prim.Native.Nat.{_<_, _≤_, _^_};
+ghost use lib.ListN.{length};
 ghost use Rattle.wire.specs.Instances.{instances};
 ghost use Rattle.ready.specs.Ready.{bitOf, wordOf, readyOf, afterOf};
 ghost use Rattle.ready.specs.Inside.{bitSet, chosenIn};
@@ -16,9 +17,9 @@ fn bit(n: u64) -> u64
     if n == 0 { 0 } else { 1 }
 }
 
-// The ready word of the waiting counts.
+// The ready word of the waiting counts, of which there are as many as instances.
 pub fn word(waiting: [u64; INSTANCES]) -> u64
-    ensures { λ r. ⌜ (r ≡ wordOf waiting) × (r < 2 ^ instances) ⌝ }
+    ensures { λ r. ⌜ (r ≡ wordOf waiting) × (r < 2 ^ instances) × (length waiting ≡ instances) ⌝ }
 {
     let mut word: u64 = 0;
     let mut i: usize = INSTANCES;

@@ -3,14 +3,14 @@
 use mathlib.Core.Path.{_≡_, refl, sym, ap, _∙_}
 use mathlib.Core.Bool.{Bool, true, false, true≢false, cond, not, _&&_}
 use mathlib.Core.List.{List, [], _∷_, _++_}
-use Prim.Native.Nat.{ℕ, zero, suc, _+_, _-_, _<_, _≤_}
+use Prim.Native.Nat.{ℕ, zero, suc, _+_, _-_, _^_, _<_, _≤_}
 use native.Mathlib.Omega.{arith}
 use lib.Dec.{T, eqb, ltb, leb, eqb→eq, ltb→lt}
 use lib.ListN.{length, getD}
 use borrow.Author.Tests.{eq-eqb, ne-eqb, eqb-false, ltb-true, ltb-false}
 use mathlib.Core.Logic.{_↔_}
 use mathlib.Core.Option.{Option, none, some}
-use Rattle.base.proofs.Conds.{by-test, and-left, and-right}
+use Rattle.base.proofs.Conds.{by-test, cond-cases, and-left, and-right}
 use Rattle.base.proofs.Table.{every, at, passes, rows}
 use Rattle.wire.specs.declared.instances.Side.{Side}
 use Rattle.wire.specs.declared.instances.Side.the-variants.{Dialler, Accepter}
@@ -313,3 +313,12 @@ wrong side p m i two = by-test (ltb p (length table)) (λ t. wrong-at side p m i
 
 pub one-way : OneWay
 one-way = record { reached = reached; only = only; unknown = unknown; wrong = wrong; arrives = arrives; paired = paired }
+
+-- ---- what a header can hold
+
+pub mode-low : (side : Side) (i : ℕ) → modeOf side i < 2
+mode-low side i = cond-cases (λ (m : ℕ). m < 2) (initiates side (getD bundle i nobody .role)) (λ t. omega arith) (λ t. omega arith)
+
+pub protocol-low : (i : ℕ) → i < instances → protocolOf i < 2 ^ 15
+unfolding numbered table
+protocol-low i h = omega (arith, ltb→lt (protocolOf i) (length table) (at nobody numbered bundle all-numbered i h))

@@ -36,7 +36,7 @@ returns : tie.Need-returns Inv-loop μ-loop
 returns c =
     let l = c .before .loop in
     let z : l .i ≡ 0 = omega arith in
-    (l .inv .2 ∙ ap (λ k. wordOf (drop k (c .before .before .args .t1))) z, l .inv .3)
+    (l .inv .2 ∙ ap (λ k. wordOf (drop k (c .before .before .args .t1))) z, l .inv .3, l .inv .1)
 
 pub word-spec : {M : Type 1} → statement M
 word-spec =

@@ -1,0 +1,127 @@
+-- Laws of next segment.
+-- Assumes nothing.
+use mathlib.Core.Path.{_≡_, refl, sym, ap, subst, _∙_}
+use mathlib.Core.Bool.{true, false}
+use mathlib.Core.List.{List, _++_}
+use Prim.Native.Nat.{ℕ, _+_, _≤_, _<_, _^_, min}
+use native.Mathlib.Omega.{arith}
+use native.Mathlib.Nat.{le-refl}
+use lib.ListN.{length, getD, length-append}
+use lib.Seq.{sets}
+use borrow.Author.Tests.{eq-eqb, ne-eqb, lt-ltb, le-ltb}
+use Rattle.base.specs.Numbers.{octets}
+use Rattle.base.proofs.ListLaws.{sets-append}
+use Rattle.base.proofs.NumberLaws.{length-octets}
+use Rattle.ring.specs.Ring.{baseOf, stream, together}
+use Rattle.ring.proofs.Areas.{base-small, area-in-store}
+use Rattle.wire.specs.declared.segment.Segment.{Segment}
+use Rattle.wire.specs.declared.instances.Side.{Side}
+use Rattle.wire.specs.Segments.{headerLength, encoded, Fits}
+use Rattle.wire.specs.Instances.{instances, modeOf, protocolOf}
+use Rattle.wire.proofs.InstanceLaws.{mode-low, protocol-low}
+use Rattle.ready.specs.Ready.{wordOf, chosen}
+use Rattle.ready.specs.Inside.{chosenIn}
+use Rattle.ready.specs.declared.Choice.{Choice}
+use Rattle.ready.specs.declared.Choice.the-variants.{Instance, Nobody}
+use Rattle.ready.proofs.ReadyLaws.{Low, chosen-word, chosen-low}
+use Rattle.connection.specs.declared.Connection.{Connection}
+use Rattle.connection.specs.Closings.{isOpen}
+use Rattle.connection.specs.Ranges.{inRange}
+use Rattle.connection.proofs.RangeLaws.{Ranged, ranged}
+use Rattle.connection.specs.declared.Sending.{Sending}
+use Rattle.connection.specs.Parts.{withSending}
+use Rattle.sending.specs.NextSegment.{told, much, headed, sentOf, serve, byChoice, nextOf}
+use Rattle.sending.specs.Inside.{unmadeOf, Area, Waits, Chosen}
+
+-- a header has eight bytes
+pub header-long : (s : Segment) → length (encoded s) ≡ headerLength
+unfolding encoded
+header-long s = rw (length-append, length-append, length-octets 4, length-octets 2, length-octets 2)
+
+-- header and payload stored one after the other
+pub joined : (l : List ℕ) (s : Segment) (p : List ℕ) → sets (sets l 0 (encoded s)) headerLength p ≡ sets l 0 (encoded s ++ p)
+joined l s p = sym (sets-append l 0 (encoded s) p ∙ rw (header-long s))
+
+pub header-fits : (side : Side) (i time n : ℕ) → i < instances → time < 2 ^ 32 → n ≤ 65535
+    → Fits (record { time = time; mode = modeOf side i; protocol = protocolOf i; len = n })
+header-fits side i time n h t l = record { time = t; mode = mode-low side i; protocol = protocol-low i h; len = omega arith }
+
+-- the area of an instance is in the store
+pub in-store : (caps store : List ℕ) (i n : ℕ) → length caps ≡ instances → Area caps store i n → baseOf caps i + getD caps i 0 ≤ length store
+in-store caps store i n long a = area-in-store store caps i (a .stored) (omega (arith, a .instance))
+
+pub base-fits : (caps store : List ℕ) (i n : ℕ) → length caps ≡ instances → Area caps store i n → baseOf caps i < 2 ^ 64
+base-fits caps store i n long a =
+    omega (arith, base-small caps 131072 (λ j h. a .small j (omega arith)) i (omega (arith, a .instance)), a .instance)
+
+-- what is sent of an instance is in its area
+pub waits-area : (c : Connection) (store : List ℕ) (i : ℕ) → Waits c store i → Area (c .settings .send) store i (much c i)
+waits-area c store i w =
+    let r = ranged c (w .ranged) in
+    let l = r .set .send i (w .instance) in
+    let k = r .sending i (w .instance) in
+    record {
+      instance = w .instance;
+      small = λ j h. r .set .send j h .1;
+      within = omega arith;
+      some = omega arith;
+      stored = w .stored;
+    }
+
+-- ---- the ways out of serving an instance
+
+pub much-small : (c : Connection) (store : List ℕ) (i : ℕ) → Waits c store i → (much c i ≤ 65535) × (much c i ≤ getD (c .sending .waiting) i 0)
+much-small c store i w = let l = ranged c (w .ranged) .set .limit in (omega arith, omega arith)
+
+module _ (c : Connection) (store : List ℕ) (time : ℕ) (buf : List ℕ) (i n : ℕ) (e : n ≡ much c i) where
+  pub serve-short : length buf < headerLength + n → told (unmadeOf c 18) buf ≡ serve c store time buf i
+  unfolding serve
+  serve-short h = rw (← e, lt-ltb (length buf) (headerLength + n) h)
+
+  pub serve-made : (k : Connection) (w : Sending) (full : List ℕ) → headerLength + n ≤ length buf
+      → w ≡ sentOf (c .sending) (c .settings .send) i n → k ≡ withSending c w
+      → full ≡ sets (sets buf 0 (encoded (headed (c .settings .side) time i n))) headerLength
+      (stream store (baseOf (c .settings .send) i) (getD (c .settings .send) i 0) (getD (c .sending .starts) i 0) n)
+      → told (record { number = 0; len = headerLength + n; connection = k }) full ≡ serve c store time buf i
+  unfolding serve
+  serve-made k w full h ew ek ef =
+      let p = stream store (baseOf (c .settings .send) i) (getD (c .settings .send) i 0) (getD (c .sending .starts) i 0) n in
+      rw (← e, le-ltb (length buf) (headerLength + n) h, ek, ew, ef, joined buf (headed (c .settings .side) time i n) p)
+
+-- ---- the ways out of next segment
+
+module _ (c : Connection) (store : List ℕ) (time : ℕ) (buf : List ℕ) where
+  pub next-unranged : inRange c ≡ false → told (unmadeOf c 23) buf ≡ nextOf c store time buf
+  unfolding nextOf
+  next-unranged r = rw r
+
+  pub next-unstored : inRange c ≡ true → (length store ≡ together (c .settings .send) → ⊥) → told (unmadeOf c 23) buf ≡ nextOf c store time buf
+  unfolding nextOf
+  next-unstored r s = rw (r, ne-eqb (length store) (together (c .settings .send)) s)
+
+  module _ (r : inRange c ≡ true) (s : length store ≡ together (c .settings .send)) where
+    pub next-closed : isOpen (c .gate) ≡ false → told (unmadeOf c 20) buf ≡ nextOf c store time buf
+    unfolding nextOf
+    next-closed o = rw (r, eq-eqb (length store) (together (c .settings .send)) s, o)
+
+    pub next-served : isOpen (c .gate) ≡ true → (x : Choice) → x ≡ chosen (c .sending .waiting) (c .sending .turn)
+        → byChoice c store time buf x ≡ nextOf c store time buf
+    unfolding nextOf
+    next-served o x e = rw (r, eq-eqb (length store) (together (c .settings .send)) s, o, e)
+
+-- whoever the word chooses is whom the counts choose, and an instance
+pub by-word : (c : Connection) (word : ℕ) (x : Choice) → inRange c ≡ true → length (c .sending .waiting) ≡ instances
+    → word ≡ wordOf (c .sending .waiting) → x ≡ chosenIn instances word (c .sending .turn) → x ≡ chosen (c .sending .waiting) (c .sending .turn)
+by-word c word x r long w e =
+    let t = ranged c r .turn in
+    e ∙ ap (λ (k : ℕ). chosenIn instances k (c .sending .turn)) w
+    ∙ ap (λ (n : ℕ). chosenIn n (wordOf (c .sending .waiting)) (c .sending .turn)) (sym long)
+    ∙ chosen-word (c .sending .waiting) (c .sending .turn) (omega arith) (omega arith)
+
+pub is-chosen : (c : Connection) (store : List ℕ) (word : ℕ) (x : Choice) → inRange c ≡ true → length store ≡ together (c .settings .send)
+    → x ≡ chosenIn instances word (c .sending .turn) → Chosen c store x
+is-chosen c store word x r s e = of x (subst (Low instances) (sym e) (chosen-low instances word (c .sending .turn) (omega arith) (ranged c r .turn .1)))
+  where
+    of : (x : Choice) → Low instances x → Chosen c store x
+    of Nobody l = tt
+    of (Instance i) l = record { ranged = r; stored = s; instance = l }

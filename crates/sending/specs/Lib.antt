@@ -1,0 +1,2 @@
+pub mod NextSegment
+pub mod Inside

@@ -1,0 +1,72 @@
+-- Next segment (document 01, "Segments" and "Numbers and their order": 20; notice 4; 18; 23 before all others).
+use Prim.Native.Nat.{ℕ, _+_, _-_, _%_, min}
+use mathlib.Core.Bool.{Bool, cond, _&&_}
+use mathlib.Core.List.{List, _++_}
+use lib.Dec.{ltb}
+use lib.ListN.{length, getD, set}
+use lib.Seq.{sets}
+use Rattle.ring.specs.Ring.{baseOf, stream}
+use Rattle.wire.specs.declared.segment.Segment.{Segment}
+use Rattle.wire.specs.declared.instances.Side.{Side}
+use Rattle.wire.specs.Segments.{headerLength, encoded}
+use Rattle.wire.specs.Instances.{instances, protocolOf, modeOf}
+use Rattle.ready.specs.Ready.{chosen, turnAfter}
+use Rattle.ready.specs.declared.Choice.{Choice}
+use Rattle.ready.specs.declared.Choice.the-variants.{Instance, Nobody}
+use Rattle.connection.specs.declared.Sending.{Sending}
+use Rattle.connection.specs.declared.Connection.{Connection}
+use Rattle.connection.specs.Closings.{isOpen}
+use Rattle.connection.specs.Ranges.{inRange, sendStoreOk}
+use Rattle.connection.specs.Parts.{withSending}
+use Rattle.sending.specs.declared.Made.{Made}
+
+-- an answer, and what the lent buffer then holds
+pub record Told : Type 0 where
+  pub made : Made
+  pub buffer : List ℕ
+
+abbrev pub told : Made → List ℕ → Told
+told m buf = record { made = m; buffer = buf }
+
+-- a refusal or a notice changes nothing
+abbrev pub refused : Connection → List ℕ → ℕ → Told
+refused c buf n = told (record { number = n; len = 0; connection = c }) buf
+
+-- it sends the smaller of S and the bytes waiting
+abbrev pub much : Connection → ℕ → ℕ
+much c i = min (c .settings .limit) (getD (c .sending .waiting) i 0)
+
+-- the header: the caller's time, the mode and protocol number of what we send as instance i, and the payload's length
+abbrev pub headed : Side → ℕ → ℕ → ℕ → Segment
+headed side time i n = record { time = time; mode = modeOf side i; protocol = protocolOf i; len = n }
+
+-- the payload: the first bytes waiting
+abbrev pub payloadOf : Connection → List ℕ → ℕ → List ℕ
+payloadOf c store i =
+    stream store (baseOf (c .settings .send) i) (getD (c .settings .send) i 0) (getD (c .sending .starts) i 0) (much c i)
+
+-- n bytes of instance i are sent: their room is used again, and the turn moves
+abbrev pub sentOf : Sending → List ℕ → ℕ → ℕ → Sending
+sentOf w caps i n =
+    record {
+      starts = set (w .starts) i ((getD (w .starts) i 0 + n) % getD caps i 0);
+      waiting = set (w .waiting) i (getD (w .waiting) i 0 - n);
+      turn = turnAfter instances i (w .turn);
+    }
+
+-- 18 is given when the lent buffer is shorter than header and payload
+unfoldable pub serve : Connection → List ℕ → ℕ → List ℕ → ℕ → Told
+serve c store time buf i =
+    cond (ltb (length buf) (headerLength + much c i)) (refused c buf 18)
+    (told (record { number = 0; len = headerLength + much c i; connection = withSending c (sentOf (c .sending) (c .settings .send) i (much c i)) })
+    (sets buf 0 (encoded (headed (c .settings .side) time i (much c i)) ++ payloadOf c store i)))
+
+abbrev pub byChoice : Connection → List ℕ → ℕ → List ℕ → Choice → Told
+byChoice c store time buf Nobody = refused c buf 4
+byChoice c store time buf (Instance i) = serve c store time buf i
+
+unfoldable pub nextOf : Connection → List ℕ → ℕ → List ℕ → Told
+nextOf c store time buf =
+    cond (inRange c && sendStoreOk (c .settings) (length store))
+    (cond (isOpen (c .gate)) (byChoice c store time buf (chosen (c .sending .waiting) (c .sending .turn))) (refused c buf 20))
+    (refused c buf 23)

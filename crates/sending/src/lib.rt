@@ -1,0 +1,159 @@
+// Next segment: the next instance with bytes to send, in its turn, has the first of them put behind a header.
+//
+// One equation says the answer, the whole next record and every byte of the lent buffer, on every input.
+use connection::Connection;
+use connection::Sending;
+use connection::parts::at;
+use connection::parts::changed;
+use connection::parts::is_open;
+use connection::parts::with_sending;
+use connection::range::in_range;
+use connection::range::together;
+use ready::Choice;
+use wire::instances::INSTANCES;
+use wire::instances::Side;
+use wire::segment::LENGTH;
+use wire::segment::Segment;
+ghost use mathlib.Core.Path.{_≡_};
+ghost use mathlib.Core.Bool.{true};
+ghost use Prim.Native.Nat.{_+_, _<_, _≤_, min};
+ghost use lib.ListN.{length, getD};
+ghost use lib.Seq.{sets};
+ghost use Rattle.ring.specs.Ring.{baseOf, stream};
+ghost use Rattle.wire.specs.Segments.{headerLength, encoded};
+ghost use Rattle.wire.specs.Instances.{instances};
+ghost use Rattle.ready.specs.Ready.{turnAfter};
+ghost use Rattle.sending.specs.NextSegment.{told, headed, sentOf, serve, byChoice, nextOf};
+ghost use Rattle.sending.specs.Inside.{Area, Waits, Chosen, unmadeOf};
+
+// The number; where it is 0, how long header and payload are together; and the record.
+pub struct Made {
+    pub number: u64,
+    pub len: usize,
+    pub connection: Connection,
+}
+
+// Makes the next segment at the front of the lent buffer. The caller gives the time.
+pub fn next_segment(c: Connection, store: &[u8], time: u32, buf: &mut [u8]) -> Made
+    ensures { λ r. ⌜ told r (now (buf .exit)) ≡ nextOf c (now (store .entry)) time (now (buf .entry)) ⌝ }
+{
+    if !in_range(c) {
+        return unmade(c, 23);
+    }
+    let settings = c.settings;
+    let caps = settings.send;
+    if store.len() != together(caps) {
+        return unmade(c, 23);
+    }
+    let gate = c.gate;
+    if !is_open(gate) {
+        return unmade(c, 20);
+    }
+    let sending = c.sending;
+    let waiting = sending.waiting;
+    let choice = ready::choose(ready::word(waiting), sending.turn as usize);
+    serve_choice(c, store, time, buf, choice)
+}
+
+// A refusal or a notice.
+fn unmade(c: Connection, number: u64) -> Made
+    ensures { λ r. ⌜ r ≡ unmadeOf c number ⌝ }
+{
+    Made {
+        number,
+        len: 0,
+        connection: c,
+    }
+}
+
+fn serve_choice(c: Connection, store: &[u8], time: u32, buf: &mut [u8], choice: Choice) -> Made
+    requires { ⌜ Chosen c (now store) choice ⌝ }
+    ensures { λ r. ⌜ told r (now (buf .exit)) ≡ byChoice c (now (store .entry)) time (now (buf .entry)) choice ⌝ }
+{
+    match choice {
+        Choice::Nobody => unmade(c, 4),
+        Choice::Instance(i) => serve_instance(c, store, time, buf, i),
+    }
+}
+
+// The smaller of S and the bytes waiting, where header and payload have room.
+fn serve_instance(c: Connection, store: &[u8], time: u32, buf: &mut [u8], i: usize) -> Made
+    requires { ⌜ Waits c (now store) i ⌝ }
+    ensures { λ r. ⌜ told r (now (buf .exit)) ≡ serve c (now (store .entry)) time (now (buf .entry)) i ⌝ }
+{
+    let settings = c.settings;
+    let caps = settings.send;
+    let sending = c.sending;
+    let starts = sending.starts;
+    let waiting = sending.waiting;
+    let n = smaller(settings.limit, at(waiting, i));
+    let len = LENGTH + n as usize;
+    if buf.len() < len {
+        return unmade(c, 18);
+    }
+    let side = settings.side;
+    put_header(buf, side, time, i, n);
+    put_payload(buf, store, caps, i, at(starts, i), n);
+    Made {
+        number: 0,
+        len,
+        connection: with_sending(c, sent(sending, caps, i, n)),
+    }
+}
+
+fn smaller(a: u64, b: u64) -> u64
+    ensures { λ r. ⌜ r ≡ min a b ⌝ }
+{
+    if a < b { a } else { b }
+}
+
+// The header of n bytes of instance i.
+fn put_header(buf: &mut [u8], side: Side, time: u32, i: usize, n: u64)
+    requires { ⌜ (i < instances) × (n ≤ 65535) × (headerLength ≤ length (now buf)) ⌝ }
+    ensures { λ _. ⌜ now (buf .exit) ≡ sets (now (buf .entry)) 0 (encoded (headed side time i n)) ⌝ }
+{
+    let header = Segment {
+        time,
+        mode: wire::instances::mode(side, i),
+        protocol: wire::instances::protocol(i),
+        len: n as u16,
+    };
+    wire::segment::write(buf, header);
+}
+
+// Behind it, n bytes of instance i from the place of its first waiting byte on.
+fn put_payload(buf: &mut [u8], store: &[u8], caps: [u64; INSTANCES], i: usize, start: u64, n: u64)
+    requires { ⌜ Area caps (now store) i n × (headerLength + n ≤ length (now buf)) ⌝ }
+    ensures { λ _. ⌜ now (buf .exit) ≡ sets (now (buf .entry)) headerLength (stream (now (store .entry)) (baseOf caps i) (getD caps i 0) start n) ⌝ }
+{
+    let cap = at(caps, i) as usize;
+    let base = ring::base_of(&caps, i);
+    ring::read(buf, LENGTH, store, base, cap, start as usize, n as usize);
+}
+
+// n bytes of instance i are sent: their room is used again, and the turn moves.
+fn sent(w: Sending, caps: [u64; INSTANCES], i: usize, n: u64) -> Sending
+    requires { ⌜ (i < instances) × (0 < getD caps i 0) × (getD (w .starts) i 0 + n < 4294967296) × (n ≤ getD (w .waiting) i 0) ⌝ }
+    ensures { λ r. ⌜ r ≡ sentOf w caps i n ⌝ }
+{
+    let starts = w.starts;
+    let waiting = w.waiting;
+    let start = (at(starts, i) + n) % at(caps, i);
+    let left = at(waiting, i) - n;
+    Sending {
+        starts: changed(starts, i, start),
+        waiting: changed(waiting, i, left),
+        turn: turn_after(i, w.turn),
+    }
+}
+
+// Serving 0 does not move the turn.
+fn turn_after(i: usize, turn: u64) -> u64
+    requires { ⌜ i < instances ⌝ }
+    ensures { λ r. ⌜ r ≡ turnAfter instances i turn ⌝ }
+{
+    if i == 0 {
+        return turn;
+    }
+    ready::after(i) as u64
+}
