@@ -29,7 +29,7 @@ pub nothing : {A : Type 0} {a : A} → none ≡ some a → ⊥
 nothing p = let z : _≡_ {A = ℕ} 0 1 = cc in omega arith
 
 -- a byte that an item, or a chunk, begins with is no break
-no-break : (i : Initial) (d : ℕ) {f : Frame} (fs : Stack) (n : Option Stack) → enter d i ≡ some f → orBreak i fs n ≡ n
+pub no-break : (i : Initial) (d : ℕ) {f : Frame} (fs : Stack) (n : Option Stack) → enter d i ≡ some f → orBreak i fs n ≡ n
 unfolding enter
 no-break (Short m v) d fs n p = refl
 no-break (Long m k) d fs n p = refl
@@ -38,7 +38,7 @@ no-break Simple d fs n p = refl
 no-break Break d fs n p = absurd (nothing p)
 no-break Reserved d fs n p = refl
 
-no-break-chunk : (i : Initial) (text : Bool) {f : Frame} (fs : Stack) (n : Option Stack) → enterChunk text i ≡ some f → orBreak i fs n ≡ n
+pub no-break-chunk : (i : Initial) (text : Bool) {f : Frame} (fs : Stack) (n : Option Stack) → enterChunk text i ≡ some f → orBreak i fs n ≡ n
 unfolding enterChunk
 no-break-chunk (Short m v) t fs n p = refl
 no-break-chunk (Long m k) t fs n p = refl

@@ -1,0 +1,99 @@
+-- Walks from the start, and walks that are kept: taking up again equals walking from the start (document 02, K5).
+-- Assumes nothing.
+use Prim.Native.Nat.{ℕ, zero, suc, _+_, _-_, _≤_, _<_}
+use mathlib.Core.List.{List, [], _++_, append-nil, append-assoc}
+use mathlib.Core.Path.{_≡_, refl, sym, ap, ap₂, subst, subst⁻¹, _∙_}
+use lib.ListN.{length, drop, getD, replicate}
+use native.Mathlib.Omega.{arith}
+use Rattle.item.specs.declared.Verdict.{Verdict}
+use Rattle.item.specs.Grammar.{Frame, One, Items, Reads, no-more, nesting}
+use Rattle.item.specs.Verdict.{Stack, nil, push, judge, start, verdict, headsOf}
+use Rattle.item.proofs.Derivative.{Rest, done, then}
+use Rattle.item.proofs.Parts.{judge-same}
+use Rattle.cbor.specs.declared.Walk.{Walk}
+use Rattle.cbor.specs.Walk.{frameOf, levels, stackOf, tell, comes, Good, Outer, Sound, Resumed, walkOf, firstAt, Kept}
+use Rattle.cbor.proofs.Tell.{pair, tell-one, tell-empty}
+
+noughts : (n i : ℕ) → _≡_ {A = ℕ} (getD (replicate n 0) i 0) 0
+noughts zero i = refl
+noughts (suc n) zero = refl
+noughts (suc n) (suc i) = noughts n i
+
+pub first-sound : (at d : ℕ) → Sound (firstAt at d)
+unfolding firstAt
+first-sound at d =
+    record {
+      few = omega arith;
+      good = record { tall = omega arith; low = λ a b. omega arith; none = λ a. absurd (omega arith) };
+      outer = record { kinds-size = refl; counts-size = refl; each = λ i h. rw (noughts 17 i) (omega arith) };
+    }
+
+-- the levels around a walk that begins want nothing
+abbrev empty : ℕ → Stack
+empty n = levels (replicate 17 0) (replicate 17 0) n
+
+empty-top : (n : ℕ) → empty (suc n) ≡ push (nesting - n) (Items zero) (empty n)
+unfolding levels
+empty-top n = ap₂ (λ (i j : ℕ). push (nesting - n) (frameOf i j) (empty n)) (noughts 17 n) (noughts 17 n)
+
+spent-rest : {d : ℕ} {fs : Stack} {bs : List ℕ} → Rest (push d (Items zero) fs) bs → Rest fs bs
+spent-rest (then no-more q) = q
+
+empty-rest : (n : ℕ) (bs : List ℕ) → Rest (empty n) bs → Rest nil bs
+unfolding levels
+empty-rest zero bs r = r
+empty-rest (suc n) bs r = empty-rest n bs (spent-rest (subst (λ (fs : Stack). Rest fs bs) (empty-top n) r))
+
+rest-empty : (n : ℕ) (bs : List ℕ) → Rest nil bs → Rest (empty n) bs
+unfolding levels
+rest-empty zero bs r = r
+rest-empty (suc n) bs r = subst⁻¹ (λ (fs : Stack). Rest fs bs) (empty-top n) (then no-more (rest-empty n bs r))
+
+-- A walk that begins at a place comes to the verdict on the item there.
+pub first-verdict : (xs : List ℕ) (at d : ℕ) → d ≤ nesting → comes xs (firstAt at d) .0 ≡ judge (drop at xs) at (start d)
+unfolding firstAt stackOf
+first-verdict xs at d h =
+    let z : nesting - (nesting - d) ≡ d = omega arith in
+    ap (λ (t : Verdict × ℕ). t .0)
+    (tell-empty xs at 0 0 (push (nesting - (nesting - d)) (Items 1) (empty (nesting - d)))
+    ∙ ap (λ (n : ℕ). tell xs at 0 (push n (Items 1) (empty (nesting - d)))) z ∙ sym (tell-one xs at 0 d (empty (nesting - d))))
+    ∙ judge-same (push d One (empty (nesting - d))) (start d) to back (drop at xs) at
+  where
+    to : (bs : List ℕ) → Rest (push d One (empty (nesting - d))) bs → Rest (start d) bs
+    to bs (then {cs = cs} g r) = then g (empty-rest (nesting - d) cs r)
+
+    back : (bs : List ℕ) → Rest (start d) bs → Rest (push d One (empty (nesting - d))) bs
+    back bs (then {cs = cs} g r) = then g (rest-empty (nesting - d) cs r)
+
+-- The walk from the start comes to the verdict and the heads of the whole.
+pub first-comes : (xs : List ℕ) → comes xs (firstAt 0 nesting) ≡ (verdict xs, headsOf xs)
+unfolding firstAt stackOf levels
+first-comes xs =
+    tell-empty xs 0 0 0 (push nesting (Items 1) nil) ∙ sym (tell-one xs 0 0 nesting nil) ∙ pair refl (omega arith)
+
+-- Such a walk may be kept; it stays one when it is taken up again, and when bytes come.
+pub kept-first : (xs : List ℕ) → Kept xs (firstAt 0 nesting)
+kept-first xs ys = first-comes (xs ++ ys)
+
+pub kept-resumed : (xs : List ℕ) (w u : Walk) (v : Verdict) → Resumed xs w v u → Kept xs w → Kept xs u
+kept-resumed xs w u v r k ys = r .more ys ∙ k ys
+
+pub kept-fed : (xs zs : List ℕ) (w : Walk) → Kept xs w → Kept (xs ++ zs) w
+kept-fed xs zs w k ys = rw append-assoc (k (zs ++ ys))
+
+-- And so each time the verdict and the heads are those of a walk from the start.
+pub kept-told : (xs : List ℕ) (w u : Walk) (v : Verdict) → Resumed xs w v u → Kept xs w → (v ≡ verdict xs) × (u .heads ≡ headsOf xs)
+kept-told xs w u v r k =
+    let e : _≡_ {A = Verdict × ℕ} (v, u .heads) (verdict xs, headsOf xs) =
+    r .told ∙ subst (λ (l : List ℕ). comes l w ≡ (verdict l, headsOf l)) (append-nil xs) (k []) in
+    (ap (λ (t : Verdict × ℕ). t .0) e, ap (λ (t : Verdict × ℕ). t .1) e)
+
+-- The verdict of a walk from its beginning.
+pub first-told : (xs : List ℕ) (at d : ℕ) (w u : Walk) (v : Verdict) → d ≤ nesting → w ≡ firstAt at d → Resumed xs w v u
+    → v ≡ judge (drop at xs) at (start d)
+first-told xs at d w u v h e r =
+    ap (λ (t : Verdict × ℕ). t .0) (r .told) ∙ ap (λ (w : Walk). comes xs w .0) e ∙ first-verdict xs at d h
+
+pub first-place : (w : Walk) (at d n : ℕ) → w ≡ firstAt at d → at ≤ n → w .at ≤ n
+unfolding firstAt
+first-place w at d n e h = let a : w .at ≡ at = ap (λ (u : Walk). u .at) e in omega arith
