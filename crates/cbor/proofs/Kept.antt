@@ -93,7 +93,3 @@ pub first-told : (xs : List ℕ) (at d : ℕ) (w u : Walk) (v : Verdict) → d �
     → v ≡ judge (drop at xs) at (start d)
 first-told xs at d w u v h e r =
     ap (λ (t : Verdict × ℕ). t .0) (r .told) ∙ ap (λ (w : Walk). comes xs w .0) e ∙ first-verdict xs at d h
-
-pub first-place : (w : Walk) (at d n : ℕ) → w ≡ firstAt at d → at ≤ n → w .at ≤ n
-unfolding firstAt
-first-place w at d n e h = let a : w .at ≡ at = ap (λ (u : Walk). u .at) e in omega arith

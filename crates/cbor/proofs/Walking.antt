@@ -32,9 +32,9 @@ pub record Under (xs : List ℕ) (w : Walk) (at h k c d : ℕ) (ks cs : List ℕ
   pub same : (ys : List ℕ) → tell (xs ++ ys) at h (push (nesting - d) (frameOf k c) (levels ks cs d)) ≡ comes (xs ++ ys) w
 
 -- with no bytes after
-now : (xs : List ℕ) (w : Walk) (at h k c d : ℕ) (ks cs : List ℕ) → Under xs w at h k c d ks cs
+now : {xs : List ℕ} {w : Walk} {at h k c d : ℕ} {ks cs : List ℕ} → Under xs w at h k c d ks cs
     → tell xs at h (push (nesting - d) (frameOf k c) (levels ks cs d)) ≡ comes xs w
-now xs w at h k c d ks cs u =
+now {xs} {w} {at} {h} {k} {c} {d} {ks} {cs} u =
     subst (λ (zs : List ℕ). tell zs at h (push (nesting - d) (frameOf k c) (levels ks cs d)) ≡ comes zs w) (append-nil xs) (u .same [])
 
 -- The rest of a string is there, or not all of it.
@@ -108,17 +108,17 @@ counted k c d g h = of (ltb k 4) refl
     of true q = ltb-true _ _ q
     of false q = let z : c ≡ 0 = g .none (ltb-false _ _ q) in absurd (omega arith)
 
-module _ (xs : List ℕ) (w : Walk) (at h k c d : ℕ) (ks cs : List ℕ) (u : Under xs w at h k c d ks cs) where
+module _ {xs : List ℕ} {w : Walk} {at h k c d : ℕ} {ks cs : List ℕ} (u : Under xs w at h k c d ks cs) where
   -- The level becomes another; one is opened within it; it is spent.
-  pub stays : (p : ℕ) (l : Level) → Stays xs at k c d p l → Under xs w p (h + 1) (l .kind) (l .count) d ks cs
-  stays p l m =
+  pub stays : {p : ℕ} {l : Level} → Stays xs at k c d p l → Under xs w p (h + 1) (l .kind) (l .count) d ks cs
+  stays m =
       let f = u .few in
       let o = m .on in
       record { place = m .inside; few = omega arith; good = m .good; outer = u .outer; same = λ ys. sym (m .same ys (levels ks cs d) h) ∙ u .same ys }
 
-  pub downs : (p : ℕ) (l i : Level) → Downs xs at k c d p l i
+  pub downs : {p : ℕ} {l i : Level} → Downs xs at k c d p l i
       → Under xs w p (h + 1) (i .kind) (i .count) (d + 1) (set ks d (l .kind)) (set cs d (l .count))
-  downs p l i m =
+  downs {p} {l} {i} m =
       let f = u .few in
       let o = m .on in
       let a = u .outer .kinds-size in
@@ -160,7 +160,7 @@ module _ (xs : List ℕ) (w : Walk) (at h k c d : ℕ) (ks cs : List ℕ) (u : U
   unfolding stackOf
   rests v e =
       record {
-        told = e ∙ now xs w at h k c d ks cs u;
+        told = e ∙ now u;
         more = λ ys. tell-empty (xs ++ ys) at h 0 (push (nesting - d) (frameOf k c) (levels ks cs d)) ∙ u .same ys;
         place = u .place;
         sound = record { few = u .few; good = u .good; outer = u .outer };
@@ -174,16 +174,16 @@ module _ (xs : List ℕ) (w : Walk) (at h k c d : ℕ) (ks cs : List ℕ) (u : U
   stops v m = rests v (sym (m (levels ks cs d) h))
 
   -- or in a string that goes on after all that is there
-  pub skips : (v n : ℕ) (l : Level) → length xs ≡ n → Skips xs at k c d v l → Resumed xs w Incomplete (walkOf n v (h + 1) (l .kind) (l .count) d ks cs)
+  pub skips : {v n : ℕ} {l : Level} → length xs ≡ n → Skips xs at k c d v l → Resumed xs w Incomplete (walkOf n v (h + 1) (l .kind) (l .count) d ks cs)
   unfolding stackOf
-  skips v n l e m =
+  skips {v} {n} {l} e m =
       let f = u .few in
       let o = m .on in
       let past : (zs : List ℕ) → Stack = λ zs. push 0 (Content v) (push (nesting - d) (frameOf (l .kind) (l .count)) (levels ks cs d)) in
       record {
         told =
             sym
-            (sym (now xs w at h k c d ks cs u)
+            (sym (now u)
             ∙ subst (λ (zs : List ℕ). tell zs at h (push (nesting - d) (frameOf k c) (levels ks cs d)) ≡ tell zs (length xs) (h + 1) (past zs)) (append-nil xs)
             (m .same [] (levels ks cs d) h)
             ∙ tell-starved xs (length xs) (h + 1) v 0 (push (nesting - d) (frameOf (l .kind) (l .count)) (levels ks cs d)) (omega arith) (m .some));
@@ -192,27 +192,28 @@ module _ (xs : List ℕ) (w : Walk) (at h k c d : ℕ) (ks cs : List ℕ) (u : U
         sound = record { few = omega arith; good = m .good; outer = u .outer };
       }
 
-  -- The usual heads, at a level that has a count.
-  pub pass-stays : (p : ℕ) → 0 < c → Passes xs at d p → Stays xs at k c d p (record { kind = k; count = c - 1 })
-  pass-stays p z q =
+  -- The usual heads, at a level that has a count: one is passed; one opens a level; one is a break.
+  pub passes : {p : ℕ} → 0 < c → Passes xs at d p → Under xs w p (h + 1) k (c - 1) d ks cs
+  passes {p} z q =
       let g = u .good in
       let b = counted k c d g z in
-      record {
+      stays
+      (record {
         on = q .on;
         inside = q .inside;
         good = record { tall = g .tall; low = λ a m. g .low a (omega arith); none = λ a. absurd (omega arith) };
         same = λ ys fs n.
             q .same (frameOf k c) (level-wants k c b (omega arith)) ys fs n
             ∙ ap (λ (f : Frame). tell (xs ++ ys) p (n + 1) (push (nesting - d) f fs)) (sym (level-less k c z));
-      }
+      })
 
-  pub enter-downs : (p k′ c′ : ℕ) → 0 < c → Enters xs at d p k′ c′
-      → Downs xs at k c d p (record { kind = k; count = c - 1 }) (record { kind = k′; count = c′ })
-  enter-downs p k′ c′ z q =
+  pub enters : {p i j : ℕ} → 0 < c → Enters xs at d p i j → Under xs w p (h + 1) i j (d + 1) (set ks d k) (set cs d (c - 1))
+  enters {p} {i} {j} z q =
       let b = counted k c d (u .good) z in
       let r = q .room in
-      let i = q .items in
-      record {
+      let y = q .items in
+      downs
+      (record {
         on = q .on;
         inside = q .inside;
         items = b;
@@ -220,12 +221,13 @@ module _ (xs : List ℕ) (w : Walk) (at h k c d : ℕ) (ks cs : List ℕ) (u : U
         good = record { tall = omega arith; low = λ a m. omega arith; none = λ a. absurd (omega arith) };
         same = λ ys fs n.
             q .same (frameOf k c) (level-wants k c b (omega arith)) ys fs n
-            ∙ ap (λ (f : Frame). tell (xs ++ ys) p (n + 1) (push (nesting - (d + 1)) (frameOf k′ c′) (push (nesting - d) f fs))) (sym (level-less k c z));
-      }
+            ∙ ap (λ (f : Frame). tell (xs ++ ys) p (n + 1) (push (nesting - (d + 1)) (frameOf i j) (push (nesting - d) f fs))) (sym (level-less k c z));
+      })
 
-  pub break-stays : (p : ℕ) → 0 < c → Breaks xs at p → breakable (frameOf k c) ≡ true → Stays xs at k c d p (record { kind = 0; count = 0 })
-  break-stays p z q t =
+  pub breaks-off : {p : ℕ} → 0 < c → Breaks xs at p → breakable (frameOf k c) ≡ true → Under xs w p (h + 1) 0 0 d ks cs
+  breaks-off {p} z q t =
       let i = q .inside in
       let e = q .next in
-      subst (λ (n : ℕ). Stays xs at k c d n (record { kind = 0; count = 0 })) (sym (q .next))
-      (ends xs at k c d (omega arith) (omega arith) (u .good) (q .is) t)
+      stays
+      (subst (λ (n : ℕ). Stays xs at k c d n (record { kind = 0; count = 0 })) (sym e)
+      (ends xs at k c d (omega arith) (omega arith) (u .good) (q .is) t))

@@ -522,7 +522,7 @@ fn piece_of(len: usize, from: usize, n: usize, at: usize) -> Piece
 // A walk that begins at a place, for one item within the nesting d.
 pub fn begin_at(at: usize, d: usize) -> Walk
     requires { ⌜ d ≤ nesting ⌝ }
-    ensures { λ r. ⌜ r ≡ firstAt at d ⌝ }
+    ensures { λ r. ⌜ (r ≡ firstAt at d) × (r .at ≡ at) × Sound r ⌝ }
 {
     Walk {
         at: at,
@@ -538,7 +538,7 @@ pub fn begin_at(at: usize, d: usize) -> Walk
 
 // The walk that begins at the front, for one item.
 pub fn begin() -> Walk
-    ensures { λ r. ⌜ r ≡ firstAt 0 nesting ⌝ }
+    ensures { λ r. ⌜ (r ≡ firstAt 0 nesting) × (r .at ≡ 0) × Sound r ⌝ }
 {
     begin_at(0, NESTING)
 }

@@ -37,10 +37,6 @@ simple-requires : tie.Need-simple-requires
 simple-requires c κs =
     let p = c .before .before .before .before .before .before .pre in ((p .0, p .1, omega arith, p .3, p .4), ap initial (sym (c .before .before .before .byte-at .ensures)) ∙ sym (c .before .before .initial-of .ensures) ∙ c .enum-told .given .1)
 
-broken-requires : tie.Need-broken-requires
-broken-requires c κs =
-    omega arith
-
 returns-2 : tie.Need-returns-2
 returns-2 c =
     let a = c .before .before .before .before .before .before .before .before .args in
@@ -97,7 +93,7 @@ any-spec =
     (λ c. search needs)
     simple-requires
     (λ c. search needs)
-    broken-requires
+    (λ c κs. omega arith)
     (λ c. search needs)
     returns-2
     returns-3

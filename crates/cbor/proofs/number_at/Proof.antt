@@ -30,21 +30,9 @@ mul-v : tie.Need-mul-v Inv-loop μ-loop
 mul-v c =
     omega (arith, number-fits (c .before .loop .i) (c .before .loop .v) (c .before .loop .inv .1) (omega arith))
 
-add-byte-at : tie.Need-add-byte-at Inv-loop μ-loop
-add-byte-at c =
-    omega arith
-
 add-v : tie.Need-add-v Inv-loop μ-loop
 add-v c =
     omega (arith, number-fits (c .before .before .before .loop .i) (c .before .before .before .loop .v) (c .before .before .before .loop .inv .1) (omega arith))
-
-add-i : tie.Need-add-i Inv-loop μ-loop
-add-i c =
-    omega arith
-
-loop-less : tie.Need-loop-less Inv-loop μ-loop
-loop-less c =
-    omega arith
 
 loop-again : tie.Need-loop-again Inv-loop μ-loop
 loop-again c =
@@ -75,11 +63,11 @@ number-at-spec =
     μ-loop
     loop-holds
     mul-v
-    add-byte-at
+    (λ c. omega arith)
     (λ c κs. search needs)
     (λ c κs. search needs)
     add-v
-    add-i
-    loop-less
+    (λ c. omega arith)
+    (λ c. omega arith)
     loop-again
     returns)

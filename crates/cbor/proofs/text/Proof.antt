@@ -14,10 +14,6 @@ returns : tie.Need-returns
 returns c =
     λ xs d b e q x i k l. tt
 
-extra-requires : tie.Need-extra-requires
-extra-requires c κs =
-    omega arith
-
 add-p-2 : tie.Need-add-p-2
 add-p-2 c =
     let a = c .before .before .before .args in omega (arith, width-most (a .i))
@@ -53,7 +49,7 @@ text-spec =
     returns
     (λ c κs. search needs)
     (λ c. search needs)
-    extra-requires
+    (λ c κs. omega arith)
     add-p-2
     sub-if2
     add-t12

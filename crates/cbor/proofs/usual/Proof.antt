@@ -136,10 +136,6 @@ returns-4 c =
     let e : b ≡ getD xs (a .at) 0 = spot-here (a .s .now) (a .from) (a .n) (a .at) (a .p) (p .1) q in
     c .nested .ensures xs (omega arith) e
 
-returns-5 : tie.Need-returns-5
-returns-5 c =
-    tt
-
 add-t19 : tie.Need-add-t19
 add-t19 c =
     let a = c .before .before .before .before .before .before .before .args in
@@ -190,7 +186,7 @@ usual-spec =
     returns-3
     nested-requires
     returns-4
-    returns-5
+    (λ c. tt)
     add-t19
     (λ c κs. search needs)
     (λ c κs. search needs)
