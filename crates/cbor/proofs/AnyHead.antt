@@ -24,8 +24,11 @@ use Rattle.cbor.specs.declared.Level.{Level}
 use Rattle.cbor.specs.Walk.{frameOf, tell, Good}
 use Rattle.cbor.specs.Inside.Frames.{kept, spent, Holds, begins, breakable, roomFor, chunkOf, mayBegin, number}
 use Rattle.cbor.specs.Inside.Moves.{Goes, Stays, Downs, Skips, Stops, Leaves, Asked, Doubles}
-use Rattle.cbor.proofs.Tell.{tell-none, tell-one, tell-empty, tell-content, tell-string, tell-argument, tell-cut, tell-high, tell-low, tell-no-second, number-more}
-use Rattle.cbor.proofs.Frames.{NoBreak, tell-into, tell-refused, tell-broken, tell-out, level-holds, level-unspent, may-short, may-not-short, may-long, may-not-long, chunk-simple, chunk-indefinite, never-break, never-reserved, item-simple, item-indefinite, indefinite-some, indefinite-none}
+use Rattle.cbor.proofs.Tell.{tell-none, tell-one, tell-empty, tell-content, tell-string, tell-argument, tell-cut, tell-high, tell-low}
+use Rattle.cbor.proofs.Tell.{tell-no-second, number-more}
+use Rattle.cbor.proofs.Frames.{NoBreak, tell-into, tell-refused, tell-broken, tell-out, level-holds, level-unspent, may-short, may-not-short}
+use Rattle.cbor.proofs.Frames.{may-long, may-not-long, chunk-simple, chunk-indefinite, never-break, never-reserved, item-simple}
+use Rattle.cbor.proofs.Frames.{item-indefinite, indefinite-some, indefinite-none}
 
 -- A byte that is there stays where it is when more come.
 pub here : (xs ys : List ℕ) (at : ℕ) → at < length xs → {i : Initial} → initial (getD xs at 0) ≡ i → initial (getD (xs ++ ys) at 0) ≡ i
@@ -117,7 +120,8 @@ module _ (xs : List ℕ) (at k c d : ℕ) (l : at < length xs) (s : 0 < k + c) w
         inside = omega arith;
         good = record { tall = g .tall; low = λ a b. absurd (omega arith); none = λ a. refl };
         same = λ ys fs h.
-            tell-broken (xs ++ ys) at h (nesting - d) (frameOf k c) fs (longer xs ys at l) (level-holds k c) (level-unspent k c s) (here xs ys at l e) p
+            tell-broken (xs ++ ys) at h (nesting - d) (frameOf k c) fs (longer xs ys at l) (level-holds k c) (level-unspent k c s)
+            (here xs ys at l e) p
             ∙ sym (tell-none (xs ++ ys) (at + 1) (h + 1) (nesting - d) fs);
       }
 
@@ -185,7 +189,8 @@ module _ (xs : List ℕ) (at k c d : ℕ) (l : at < length xs) (s : 0 < k + c) w
               ∙ left (xs ++ ys) (p + v) (h + 1) (λ gs. gs) fs;
         }
 
-    pub string-cut : (p v w : ℕ) → p ≤ length xs → length xs - p < v → w ≡ v - (length xs - p) → Asked xs at k c d (Content v) p → Skips xs at k c d w o
+    pub string-cut : (p v w : ℕ) → p ≤ length xs → length xs - p < v → w ≡ v - (length xs - p)
+        → Asked xs at k c d (Content v) p → Skips xs at k c d w o
     string-cut p v w b q z t =
         record {
           on = l;
@@ -201,7 +206,8 @@ module _ (xs : List ℕ) (at k c d : ℕ) (l : at < length xs) (s : 0 < k + c) w
         }
 
     pub goes-down : (p : ℕ) (a : Frame) (i : Level) → at < p → p ≤ length xs → k < 4 → d < 17 → Good (i .kind) (i .count) (d + 1)
-        → ((zs : List ℕ) (h : ℕ) (fs : Stack) → tell zs p h (push (nesting - d - 1) a fs) ≡ tell zs p h (push (nesting - d - 1) (frameOf (i .kind) (i .count)) fs))
+        → ((zs : List ℕ) (h : ℕ) (fs : Stack)
+        → tell zs p h (push (nesting - d - 1) a fs) ≡ tell zs p h (push (nesting - d - 1) (frameOf (i .kind) (i .count)) fs))
         → Asked xs at k c d a p → Downs xs at k c d p o i
     goes-down p a i b q hk hd gi same t =
         record {
@@ -214,7 +220,8 @@ module _ (xs : List ℕ) (at k c d : ℕ) (l : at < length xs) (s : 0 < k + c) w
               let z : nesting - d - 1 ≡ nesting - (d + 1) = omega arith in
               t ys fs h ∙ same (xs ++ ys) (h + 1) (push (nesting - d) (kept (frameOf k c)) fs)
               ∙ left (xs ++ ys) p (h + 1) (λ gs. push (nesting - d - 1) (frameOf (i .kind) (i .count)) gs) fs
-              ∙ ap (λ (n : ℕ). tell (xs ++ ys) p (h + 1) (push n (frameOf (i .kind) (i .count)) (push (nesting - d) (frameOf (o .kind) (o .count)) fs))) z;
+              ∙ ap (λ (n : ℕ). tell (xs ++ ys) p (h + 1) (push n (frameOf (i .kind) (i .count)) (push (nesting - d) (frameOf (o .kind) (o .count)) fs)))
+              z;
         }
 
     -- a level of indefinite length
@@ -228,14 +235,16 @@ module _ (xs : List ℕ) (at k c d : ℕ) (l : at < length xs) (s : 0 < k + c) w
         tell-into (xs ++ ys) at h (nesting - d) (frameOf k c) fs (longer xs ys at l) (level-holds k c) (level-unspent k c s) (Indefinite m) a
         (here xs ys at l e′) (item-indefinite k c (nesting - d) m hk ∙ indefinite-some m d r a q))
 
-    pub open-bytes : initial (getD xs at 0) ≡ Indefinite Bytes → k < 4 → roomFor Bytes d ≡ true → Downs xs at k c d (at + 1) o (record { kind = 4; count = 0 })
+    pub open-bytes : initial (getD xs at 0) ≡ Indefinite Bytes → k < 4 → roomFor Bytes d ≡ true
+        → Downs xs at k c d (at + 1) o (record { kind = 4; count = 0 })
     unfolding indefinite
     open-bytes i hk r =
         let z = g .low hk s in
         opens Bytes (Chunks false) (record { kind = 4; count = 0 }) i hk r refl refl
         (record { tall = omega arith; low = λ a b. absurd (omega arith); none = λ a. refl })
 
-    pub open-text : initial (getD xs at 0) ≡ Indefinite Text → k < 4 → roomFor Text d ≡ true → Downs xs at k c d (at + 1) o (record { kind = 5; count = 0 })
+    pub open-text : initial (getD xs at 0) ≡ Indefinite Text → k < 4 → roomFor Text d ≡ true
+        → Downs xs at k c d (at + 1) o (record { kind = 5; count = 0 })
     unfolding indefinite
     open-text i hk r =
         let z = g .low hk s in
@@ -311,7 +320,8 @@ module _ (xs : List ℕ) (at k c d : ℕ) (p : ℕ) (o : Level) (b : at < p) (q 
   follow-array v r t =
       let y = deep-room k d r in
       let y₁ = y .1 in
-      goes-down xs at k c d (omega arith) s o e g p (Items v) (record { kind = 0; count = v }) b q (y .0) (omega arith) (deep-good 0 v d (omega arith) y₁)
+      goes-down xs at k c d (omega arith) s o e g p (Items v) (record { kind = 0; count = v }) b q (y .0) (omega arith)
+      (deep-good 0 v d (omega arith) y₁)
       (λ zs h fs. refl) t
 
   pub follow-map : (v : ℕ) (i : Level) → Doubles v i → mayBegin k d Map ≡ true → Asked xs at k c d (content Map v) p → Downs xs at k c d p o i

@@ -15,7 +15,8 @@ use Rattle.head.specs.declared.Major.the-variants.{Number, Bytes, Text, Array, 
 use Rattle.head.specs.declared.Initial.{Initial}
 use Rattle.head.specs.declared.Initial.the-variants.{Short, Long, Indefinite, Simple, Break, Reserved}
 use Rattle.item.specs.declared.Verdict.the-variants.{Bad, Incomplete}
-use Rattle.item.specs.Grammar.{Frame, One, Items, Elements, Pairs, Value, Chunks, Content, Second, Argument, content, within, nest, indefinite, alike, enter, enterChunk, nesting}
+use Rattle.item.specs.Grammar.{Frame, One, Items, Elements, Pairs, Value, Chunks, Content, Second, Argument, content, within, nest, indefinite, alike}
+use Rattle.item.specs.Grammar.{enter, enterChunk, nesting}
 use Rattle.item.specs.Verdict.{Stack, push, into, orBreak, alone, step, met, tally}
 use Rattle.item.proofs.Derivative.{nothing, no-break, no-break-chunk}
 use Rattle.item.proofs.Exact.{clash}
@@ -102,7 +103,8 @@ step-none One d fs b h p e q = no-way d (enter d (initial b)) (push d (Items zer
 step-none (Items zero) d fs b h p e q = absurd (clash (sym p))
 step-none (Items (suc n)) d fs b h p e q = no-way d (enter d (initial b)) (push d (Items n) fs) e
 step-none Elements d fs b h p e q =
-    or-no-way (initial b) Elements fs (into d (enter d (initial b)) (push d Elements fs)) (no-way d (enter d (initial b)) (push d Elements fs) e) q refl
+    or-no-way (initial b) Elements fs (into d (enter d (initial b)) (push d Elements fs))
+    (no-way d (enter d (initial b)) (push d Elements fs) e) q refl
 step-none Pairs d fs b h p e q =
     or-no-way (initial b) Pairs fs (into d (enter d (initial b)) (push d Value fs)) (no-way d (enter d (initial b)) (push d Value fs) e) q refl
 step-none Value d fs b h p e q = no-way d (enter d (initial b)) (push d Pairs fs) e
@@ -201,7 +203,8 @@ level-chunks (suc (suc zero)) c h = absurd (omega arith)
 level-chunks (suc (suc (suc zero))) c h = absurd (omega arith)
 level-chunks (suc (suc (suc (suc zero)))) c h = refl
 level-chunks (suc (suc (suc (suc (suc k))))) c h =
-    ap (λ (t : Bool). Chunks (cond t false true)) (sym (ne-eqb (suc (suc (suc (suc (suc k))))) 4 (λ (e : suc (suc (suc (suc (suc k)))) ≡ 4). omega arith)))
+    ap (λ (t : Bool). Chunks (cond t false true))
+    (sym (ne-eqb (suc (suc (suc (suc (suc k))))) 4 (λ (e : suc (suc (suc (suc (suc k)))) ≡ 4). omega arith)))
 
 -- a break may come
 break-cond : (t : Bool) → t ≡ breakable (cond t Pairs Value)

@@ -26,7 +26,8 @@ spot-byte s from n i p j l q h =
 
 pub spot-here : (s : List ℕ) (from n i p : ℕ) → n ≤ length s → Spot (length s) from n i p → getD s p 0 ≡ getD (around s from n) i 0
 spot-here s from n i p l q =
-    ap (λ (k : ℕ). getD s k 0) (sym (add-zero p)) ∙ spot-byte s from n i p 0 l q (omega arith) ∙ ap (λ (k : ℕ). getD (around s from n) k 0) (add-zero i)
+    ap (λ (k : ℕ). getD s k 0) (sym (add-zero p)) ∙ spot-byte s from n i p 0 l q (omega arith) ∙ ap (λ (k : ℕ). getD (around s from n) k 0)
+    (add-zero i)
 
 -- the piece up to the end of the slice, and the one from its front on
 pub pieces-near : (len from n at m : ℕ) → from ≤ len → m ≤ n → m ≤ len - from → Pieces len from n at from 0 (m - 8)

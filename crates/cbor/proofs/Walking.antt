@@ -18,10 +18,38 @@ use Rattle.cbor.specs.declared.Level.{Level}
 use Rattle.cbor.specs.declared.Walk.{Walk}
 use Rattle.cbor.specs.Walk.{frameOf, levels, stackOf, tell, comes, Good, Outer, Sound, Resumed, walkOf}
 use Rattle.cbor.specs.Inside.Frames.{kept, breakable}
-use Rattle.cbor.specs.Inside.Moves.{Stays, Downs, Skips, Stops, Passes, Enters, Breaks}
+use Rattle.cbor.specs.declared.Move.{Move}
+use Rattle.cbor.specs.declared.Move.the-variants.{Stay, Down, Skip, Fault, Lack}
+use Rattle.cbor.specs.declared.Quick.{Quick}
+use Rattle.cbor.specs.declared.Quick.the-variants.{Past, Asks, Opens, Ends}
+use Rattle.cbor.specs.Inside.Moves.{Stays, Downs, Skips, Stops, Moves, Passes, Enters, Breaks, Quickly}
 use Rattle.cbor.proofs.Tell.{tell-nil, tell-none, tell-empty, tell-content, tell-string, tell-starved}
 use Rattle.cbor.proofs.Frames.{level-wants, level-less}
 use Rattle.cbor.proofs.AnyHead.{ends}
+
+-- What was promised of an answer, by what the answer is.
+module _ {xs : List ℕ} {at : ℕ} (d : ℕ) {q : Quick} (h : Quickly xs at d q) where
+  pub if-past : {p : ℕ} → q ≡ Past p → Passes xs at d p
+  if-past e = subst (Quickly xs at d) e h
+
+  pub if-asks : {p c : ℕ} → q ≡ Asks p c → Enters xs at d p 0 c
+  if-asks e = subst (Quickly xs at d) e h
+
+  pub if-opens : {p k : ℕ} → q ≡ Opens p k → Enters xs at d p k 9223372036854775808
+  if-opens e = subst (Quickly xs at d) e h
+
+  pub if-ends : {p : ℕ} → q ≡ Ends p → Breaks xs at p
+  if-ends e = subst (Quickly xs at d) e h
+
+module _ {xs : List ℕ} {at k c d : ℕ} {m : Move} (h : Moves xs at k c d m) where
+  pub if-stay : {p : ℕ} {l : Level} → m ≡ Stay p l → Stays xs at k c d p l
+  if-stay e = subst (Moves xs at k c d) e h
+
+  pub if-down : {p : ℕ} {l i : Level} → m ≡ Down p l i → Downs xs at k c d p l i
+  if-down e = subst (Moves xs at k c d) e h
+
+  pub if-skip : {v : ℕ} {l : Level} → m ≡ Skip v l → Skips xs at k c d v l
+  if-skip e = subst (Moves xs at k c d) e h
 
 -- A walk that began as w is at a place, in a level within others.
 pub record Under (xs : List ℕ) (w : Walk) (at h k c d : ℕ) (ks cs : List ℕ) : Type 0 where
@@ -69,8 +97,10 @@ starts-cut xs w n r e s a l q =
     around = push (nesting - w .depth) (frameOf (w .kind) (w .count)) (levels (w .kinds) (w .counts) (w .depth))
 
     goes : (zs : List ℕ) → n - w .at ≤ length zs - w .at
-        → tell zs (w .at) (w .heads) (push 0 (Content (w .skip)) (push (nesting - w .depth) (frameOf (w .kind) (w .count)) (levels (w .kinds) (w .counts) (w .depth))))
-        ≡ tell zs n (w .heads) (push 0 (Content r) (push (nesting - w .depth) (frameOf (w .kind) (w .count)) (levels (w .kinds) (w .counts) (w .depth))))
+        → tell zs (w .at) (w .heads)
+        (push 0 (Content (w .skip)) (push (nesting - w .depth) (frameOf (w .kind) (w .count)) (levels (w .kinds) (w .counts) (w .depth))))
+        ≡ tell zs n (w .heads)
+        (push 0 (Content r) (push (nesting - w .depth) (frameOf (w .kind) (w .count)) (levels (w .kinds) (w .counts) (w .depth))))
     goes zs m =
         let z : w .at + (n - w .at) ≡ n = omega arith in
         tell-content zs (w .at) (w .heads) (n - w .at) (w .skip) 0 0 around (omega arith) m
@@ -81,7 +111,8 @@ levels-set : (ks cs : List ℕ) (n i k c : ℕ) → n ≤ i → levels (set ks i
 unfolding levels
 levels-set ks cs zero i k c h = refl
 levels-set ks cs (suc n) i k c h =
-    rw (getD-set-other ks i n k 0 (λ (e : n ≡ i). omega arith), getD-set-other cs i n c 0 (λ (e : n ≡ i). omega arith), levels-set ks cs n i k c (omega arith))
+    rw
+    (getD-set-other ks i n k 0 (λ (e : n ≡ i). omega arith), getD-set-other cs i n c 0 (λ (e : n ≡ i). omega arith), levels-set ks cs n i k c (omega arith))
 
 levels-put : (ks cs : List ℕ) (d k c : ℕ) → d < length ks → d < length cs
     → levels (set ks d k) (set cs d c) (d + 1) ≡ push (nesting - d) (frameOf k c) (levels ks cs d)
@@ -170,8 +201,14 @@ module _ {xs : List ℕ} {w : Walk} {at h k c d : ℕ} {ks cs : List ℕ} (u : U
   unfolding levels
   whole e z q = rests (Whole at) (sym (nothing-here xs e z ∙ ap (λ (n : ℕ). tell xs at h (levels ks cs n)) q ∙ tell-nil xs at h))
 
-  pub stops : (v : Verdict) → Stops xs at k c d v → Resumed xs w v (walkOf at 0 h k c d ks cs)
+  stops : (v : Verdict) → Stops xs at k c d v → Resumed xs w v (walkOf at 0 h k c d ks cs)
   stops v m = rests v (sym (m (levels ks cs d) h))
+
+  pub faults : {m : Move} {p : ℕ} → m ≡ Fault p → Moves xs at k c d m → Resumed xs w (Bad p) (walkOf at 0 h k c d ks cs)
+  faults {m} {p} e q = stops (Bad p) (subst (Moves xs at k c d) e q)
+
+  pub lacks : {m : Move} → m ≡ Lack → Moves xs at k c d m → Resumed xs w Incomplete (walkOf at 0 h k c d ks cs)
+  lacks e q = stops Incomplete (subst (Moves xs at k c d) e q)
 
   -- or in a string that goes on after all that is there
   pub skips : {v n : ℕ} {l : Level} → length xs ≡ n → Skips xs at k c d v l → Resumed xs w Incomplete (walkOf n v (h + 1) (l .kind) (l .count) d ks cs)
@@ -184,7 +221,8 @@ module _ {xs : List ℕ} {w : Walk} {at h k c d : ℕ} {ks cs : List ℕ} (u : U
         told =
             sym
             (sym (now u)
-            ∙ subst (λ (zs : List ℕ). tell zs at h (push (nesting - d) (frameOf k c) (levels ks cs d)) ≡ tell zs (length xs) (h + 1) (past zs)) (append-nil xs)
+            ∙ subst (λ (zs : List ℕ). tell zs at h (push (nesting - d) (frameOf k c) (levels ks cs d)) ≡ tell zs (length xs) (h + 1) (past zs))
+            (append-nil xs)
             (m .same [] (levels ks cs d) h)
             ∙ tell-starved xs (length xs) (h + 1) v 0 (push (nesting - d) (frameOf (l .kind) (l .count)) (levels ks cs d)) (omega arith) (m .some));
         more = λ ys. ap (λ (j : ℕ). tell (xs ++ ys) j (h + 1) (past xs)) (sym e) ∙ sym (m .same ys (levels ks cs d) h) ∙ u .same ys;
@@ -221,7 +259,8 @@ module _ {xs : List ℕ} {w : Walk} {at h k c d : ℕ} {ks cs : List ℕ} (u : U
         good = record { tall = omega arith; low = λ a m. omega arith; none = λ a. absurd (omega arith) };
         same = λ ys fs n.
             q .same (frameOf k c) (level-wants k c b (omega arith)) ys fs n
-            ∙ ap (λ (f : Frame). tell (xs ++ ys) p (n + 1) (push (nesting - (d + 1)) (frameOf i j) (push (nesting - d) f fs))) (sym (level-less k c z));
+            ∙ ap (λ (f : Frame). tell (xs ++ ys) p (n + 1) (push (nesting - (d + 1)) (frameOf i j) (push (nesting - d) f fs)))
+            (sym (level-less k c z));
       })
 
   pub breaks-off : {p : ℕ} → 0 < c → Breaks xs at p → breakable (frameOf k c) ≡ true → Under xs w p (h + 1) 0 0 d ks cs

@@ -36,10 +36,12 @@ goes-on (b ∷ bs) ys at fs p = of (met fs) (step fs b) (λ gs q. goes-on bs ys 
   where
     of : (t : Bool) (n : Option Stack)
         → ((gs : Stack) → judge bs (suc at) gs ≡ Incomplete
-        → (judge (bs ++ ys) (suc at) gs ≡ judge ys (suc at + length bs) (stands bs gs)) × (heads (bs ++ ys) gs ≡ heads bs gs + heads ys (stands bs gs)))
+        → (judge (bs ++ ys) (suc at) gs ≡ judge ys (suc at + length bs) (stands bs gs)) ×
+        (heads (bs ++ ys) gs ≡ heads bs gs + heads ys (stands bs gs)))
         → onward t at n (λ gs. judge bs (suc at) gs) ≡ Incomplete
         → (onward t at n (λ gs. judge (bs ++ ys) (suc at) gs) ≡ judge ys (at + suc (length bs)) (moved t n fs (λ gs. stands bs gs)))
-        × (counting t (tally fs b) n (λ gs. heads (bs ++ ys) gs) ≡ counting t (tally fs b) n (λ gs. heads bs gs) + heads ys (moved t n fs (λ gs. stands bs gs)))
+        ×
+        (counting t (tally fs b) n (λ gs. heads (bs ++ ys) gs) ≡ counting t (tally fs b) n (λ gs. heads bs gs) + heads ys (moved t n fs (λ gs. stands bs gs)))
     of true n h q = absurd (whole-not q)
     of false none h q = absurd (bad-not q)
     of false (some gs) h q =

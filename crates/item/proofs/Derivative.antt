@@ -12,7 +12,8 @@ use borrow.Author.Tests.{le-leb, leb-true}
 use Rattle.head.specs.Initial.{initial}
 use Rattle.head.specs.declared.Initial.{Initial}
 use Rattle.head.specs.declared.Initial.the-variants.{Short, Long, Indefinite, Simple, Break, Reserved}
-use Rattle.item.specs.Grammar.{Frame, One, Items, Elements, Pairs, Value, Chunks, Content, Second, Argument, enter, enterChunk, Reads, one, no-more, item, end-array, element, end-map, key, value, end-string, chunk, no-byte, byte, simple, last, digit}
+use Rattle.item.specs.Grammar.{Frame, One, Items, Elements, Pairs, Value, Chunks, Content, Second, Argument, enter, enterChunk, Reads, one}
+use Rattle.item.specs.Grammar.{no-more, item, end-array, element, end-map, key, value, end-string, chunk, no-byte, byte, simple, last, digit}
 use Rattle.item.specs.Verdict.{Stack, nil, push, into, orBreak, step}
 
 -- The bytes are all that the stack wants.
@@ -61,7 +62,7 @@ forth (then (end-string p) r) = rw p r
 forth (then (chunk {b = b} {text = t} p g h) r) = rw (no-break-chunk (initial b) t _ _ p, p) (then g (then h r))
 forth (then no-byte r) = forth r
 forth (then (byte g) r) = then g r
-forth (then (simple {x = x} h) r) = rw (le-leb 32 x h) r
+forth (then (simple {x = x} h) r) = rw (le-leb 32 x (omega arith)) r
 forth (then (last g) r) = then g r
 forth (then (digit g) r) = then g r
 

@@ -15,7 +15,8 @@ use Rattle.head.specs.declared.Major.the-variants.{Number, Bytes, Text, Array, 
 use Rattle.head.specs.declared.Initial.the-variants.{Break}
 use Rattle.item.specs.declared.Verdict.{Verdict}
 use Rattle.item.specs.declared.Verdict.the-variants.{Whole, Bad, Incomplete}
-use Rattle.item.specs.Grammar.{Frame, One, Items, Elements, Pairs, Value, Chunks, Content, Second, Argument, content, enter, nest, Reads, one, no-more, item, end-array, element, end-map, key, value, end-string, chunk, no-byte, byte, simple, last, digit}
+use Rattle.item.specs.Grammar.{Frame, One, Items, Elements, Pairs, Value, Chunks, Content, Second, Argument, content, enter, nest, Reads, one}
+use Rattle.item.specs.Grammar.{no-more, item, end-array, element, end-map, key, value, end-string, chunk, no-byte, byte, simple, last, digit}
 use Rattle.item.specs.Verdict.{Stack, nil, push, step, met, onward, judge}
 use Rattle.item.specs.Theorem.{Octets}
 use Rattle.item.proofs.Derivative.{Rest, done, then, After, forth, back}
@@ -41,8 +42,8 @@ contents : (d : ℕ) (m : Major) (v : ℕ) (cs : List ℕ) → Meets d (content 
 contents d Number v cs = bytes d 0 cs
 contents d Bytes v cs = bytes d v cs
 contents d Text v cs = bytes d v cs
-contents d Array v cs = items d v cs
-contents d Map v cs = items d (v * 2) cs
+contents d Array v cs = items d _ cs
+contents d Map v cs = items d _ cs
 contents d Tag v cs = nought d cs
 
 arguments : (d : ℕ) (m : Major) (v k : ℕ) (cs : List ℕ) → Meets d (Argument m v k) cs
@@ -72,7 +73,7 @@ pub clash : false ≡ true → ⊥
 clash p = let z : _≡_ {A = ℕ} 0 1 = cc in omega arith
 
 -- `met` is right
-met-rest : (fs : Stack) → met fs ≡ true → Rest fs []
+pub met-rest : (fs : Stack) → met fs ≡ true → Rest fs []
 unfolding met
 met-rest nil p = done
 met-rest (push d One fs) p = absurd (clash p)
@@ -91,7 +92,7 @@ abbrev Some : List ℕ → Type 0
 Some [] = ⊥
 Some (b ∷ bs) = Unit {0}
 
-some-byte : {d : ℕ} {bs cs : List ℕ} → Reads d One bs cs → Some bs
+pub some-byte : {d : ℕ} {bs cs : List ℕ} → Reads d One bs cs → Some bs
 some-byte (one p g) = tt
 
 rest-met : {fs : Stack} → Rest fs [] → met fs ≡ true
@@ -105,7 +106,7 @@ rest-met (then (value g h) r) = absurd (some-byte g)
 rest-met (then no-byte r) = rest-met r
 
 -- where nothing more is wanted, nothing more is read
-met-none : {fs : Stack} {b : ℕ} {bs : List ℕ} → Rest fs [] → Rest fs (b ∷ bs) → ⊥
+pub met-none : {fs : Stack} {b : ℕ} {bs : List ℕ} → Rest fs [] → Rest fs (b ∷ bs) → ⊥
 met-none (then no-more r) (then no-more q) = met-none r q
 met-none (then (item g h) r) q = absurd (some-byte g)
 met-none (then (element g h) r) q = absurd (some-byte g)

@@ -4,3 +4,4 @@ pub mod Local
 pub mod Theorem
 pub mod Parts
 pub mod Continue
+pub mod Heads

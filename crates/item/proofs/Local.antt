@@ -11,7 +11,8 @@ use Rattle.head.specs.declared.Major.{Major}
 use Rattle.head.specs.declared.Major.the-variants.{Number, Bytes, Text, Array, Map, Tag}
 use Rattle.head.specs.declared.Initial.{Initial}
 use Rattle.head.specs.declared.Initial.the-variants.{Short, Long, Indefinite, Simple, Break, Reserved}
-use Rattle.item.specs.Grammar.{Frame, Argument, content, within, nest, indefinite, enter, Reads, one, no-more, item, end-array, element, end-map, key, value, end-string, chunk, no-byte, byte, simple, last, digit}
+use Rattle.item.specs.Grammar.{Frame, Argument, content, within, nest, indefinite, enter, Reads, one, no-more, item, end-array, element}
+use Rattle.item.specs.Grammar.{end-map, key, value, end-string, chunk, no-byte, byte, simple, last, digit}
 use Rattle.item.proofs.Derivative.{nothing}
 
 pub longer : {d : ℕ} {f : Frame} {bs cs : List ℕ} (ys : List ℕ) → Reads d f bs cs → Reads d f (bs ++ ys) (cs ++ ys)

@@ -78,7 +78,7 @@ one-end d f bs cs ds g h = of (cuts g) (cuts h)
         let l : length b ≡ length a = cc in
         sym (drop-at a cs (length a) refl) ∙ ap (drop (length a)) (sym p ∙ q) ∙ drop-at b ds (length a) l
 
--- P7 to P10 of document 01, and lengths of 64 bits, which are merely incomplete
+-- P7 to P10 of document 01; chunks of the same type; pairs; and lengths of 64 bits, which are merely incomplete
 p7 : (verdict (0xf8 ∷ 0x1f ∷ []) ≡ Bad 1) × (verdict (0xf8 ∷ 0x20 ∷ []) ≡ Whole 2) × (verdict (0xf8 ∷ []) ≡ Incomplete)
 unfolding judge step met initial enter nest indefinite alike enterChunk
 p7 = (refl, refl, refl)
@@ -94,6 +94,14 @@ p9 = refl
 p10 : (verdict (replicate 16 0x81 ++ (0x00 ∷ [])) ≡ Whole 17) × (verdict (replicate 17 0x81) ≡ Bad 16) × (verdict (replicate 16 0x81 ++ (0x98 ∷ [])) ≡ Bad 16)
 unfolding judge step met initial enter nest indefinite alike enterChunk
 p10 = (refl, refl, refl)
+
+strings : (verdict (0x5f ∷ 0x41 ∷ 0x00 ∷ 0xff ∷ []) ≡ Whole 4) × (verdict (0x5f ∷ 0x61 ∷ []) ≡ Bad 1) × (verdict (0x7f ∷ 0x61 ∷ 0x00 ∷ 0xff ∷ []) ≡ Whole 4)
+unfolding judge step met initial enter nest indefinite alike enterChunk
+strings = (refl, refl, refl)
+
+maps : (verdict (0xa1 ∷ 0x00 ∷ 0x01 ∷ []) ≡ Whole 3) × (verdict (0xa1 ∷ 0x00 ∷ []) ≡ Incomplete)
+unfolding judge step met initial enter nest indefinite alike enterChunk
+maps = (refl, refl)
 
 huge : (verdict (0xbb ∷ replicate 8 0xff) ≡ Incomplete) × (verdict (0x5b ∷ replicate 8 0xff) ≡ Incomplete)
 unfolding judge step met initial enter nest indefinite alike enterChunk

@@ -1,13 +1,14 @@
 -- What the verdict means (document 01, "CBOR"), as statements; the proofs are in proofs/Theorem.antt.
-use Prim.Native.Nat.{ℕ, suc, _≤_, _<_}
+use Prim.Native.Nat.{ℕ, suc, _+_, _≤_, _<_}
 use mathlib.Core.List.{List, [], _∷_, _++_}
 use mathlib.Core.Path.{_≡_}
 use mathlib.Core.Logic.{_↔_}
 use lib.ListN.{length, take}
 use Rattle.item.specs.declared.Verdict.{Verdict}
 use Rattle.item.specs.declared.Verdict.the-variants.{Whole, Bad, Incomplete}
-use Rattle.item.specs.Grammar.{Frame, Reads, Item, nesting}
-use Rattle.item.specs.Verdict.{judge, verdict, start}
+use Rattle.item.specs.Grammar.{Frame, Reads, one, no-more, item, end-array, element, end-map, key, value, end-string, chunk, no-byte, byte}
+use Rattle.item.specs.Grammar.{simple, last, digit, Item}
+use Rattle.item.specs.Verdict.{judge, heads, start}
 
 abbrev pub Octets : List ℕ → Type 0
 Octets [] = Unit {0}
@@ -44,3 +45,25 @@ NestingMonotone = (d : ℕ) (bs : List ℕ) → Item d bs → Item (suc d) bs
 -- An item has one end: no item is a proper prefix of another.
 abbrev pub OneEnd : Type 0
 OneEnd = (d : ℕ) (f : Frame) (bs cs ds : List ℕ) → Reads d f bs cs → Reads d f bs ds → cs ≡ ds
+
+-- The heads of what the grammar reads: each item and each chunk has one, and each break is one.
+abbrev pub headsIn : {d : ℕ} {f : Frame} {bs cs : List ℕ} → Reads d f bs cs → ℕ
+headsIn (one p g) = 1 + headsIn g
+headsIn no-more = 0
+headsIn (item g h) = headsIn g + headsIn h
+headsIn (end-array p) = 1
+headsIn (element g h) = headsIn g + headsIn h
+headsIn (end-map p) = 1
+headsIn (key g h) = headsIn g + headsIn h
+headsIn (value g h) = headsIn g + headsIn h
+headsIn (end-string p) = 1
+headsIn (chunk p g h) = 1 + headsIn g + headsIn h
+headsIn no-byte = 0
+headsIn (byte g) = headsIn g
+headsIn (simple p) = 0
+headsIn (last g) = headsIn g
+headsIn (digit g) = headsIn g
+
+-- The heads counted in the bytes of an item are those that the grammar reads.
+abbrev pub HeadsRead : Type 0
+HeadsRead = (d : ℕ) (bs : List ℕ) (g : Item d bs) → heads bs (start d) ≡ headsIn g

@@ -9,7 +9,8 @@ use Rattle.head.specs.declared.Initial.{Initial}
 use Rattle.head.specs.declared.Initial.the-variants.{Short, Long, Indefinite, Simple, Break, Reserved}
 use Rattle.item.specs.declared.Verdict.{Verdict}
 use Rattle.item.specs.declared.Verdict.the-variants.{Whole, Bad, Incomplete}
-use Rattle.item.specs.Grammar.{Frame, One, Items, Elements, Pairs, Value, Chunks, Content, Second, Argument, content, enter, enterChunk, nesting}
+use Rattle.item.specs.Grammar.{Frame, One, Items, Elements, Pairs, Value, Chunks, Content, Second, Argument, content, enter, enterChunk}
+use Rattle.item.specs.Grammar.{nesting}
 
 -- What is wanted, the next first, each within its nesting.
 pub data Stack : Type 0 where

@@ -35,7 +35,9 @@ indefinite-requires c κs =
 
 simple-requires : tie.Need-simple-requires
 simple-requires c κs =
-    let p = c .before .before .before .before .before .before .pre in ((p .0, p .1, omega arith, p .3, p .4), ap initial (sym (c .before .before .before .byte-at .ensures)) ∙ sym (c .before .before .initial-of .ensures) ∙ c .enum-told .given .1)
+    let p = c .before .before .before .before .before .before .pre in
+    let e = ap initial (sym (c .before .before .before .byte-at .ensures)) ∙ sym (c .before .before .initial-of .ensures) ∙ c .enum-told .given .1 in
+    ((p .0, p .1, omega arith, p .3, p .4), e)
 
 returns-2 : tie.Need-returns-2
 returns-2 c =
@@ -43,7 +45,8 @@ returns-2 c =
     let p = c .before .before .before .before .before .before .before .before .pre in
     let xs = around (a .s .now) (a .from) (a .n) in
     let len = around-length (a .s .now) (a .from) (a .n) (p .1) in
-    c .short .ensures xs len (ap initial (sym (c .before .before .before .before .before .byte-at .ensures)) ∙ sym (c .before .before .before .before .initial-of .ensures) ∙ c .before .before .i .given .1)
+    let e = ap initial (sym (c .before .before .before .before .before .byte-at .ensures)) ∙ sym (c .before .before .before .before .initial-of .ensures) ∙ c .before .before .i .given .1 in
+    c .short .ensures xs len e
 
 returns-3 : tie.Need-returns-3
 returns-3 c =
@@ -55,7 +58,8 @@ returns-4 c =
     let p = c .before .before .before .before .before .before .before .before .pre in
     let xs = around (a .s .now) (a .from) (a .n) in
     let len = around-length (a .s .now) (a .from) (a .n) (p .1) in
-    c .indefinite .ensures xs (omega arith) (ap initial (sym (c .before .before .before .before .before .byte-at .ensures)) ∙ sym (c .before .before .before .before .initial-of .ensures) ∙ c .before .before .i3 .given .1)
+    let e = ap initial (sym (c .before .before .before .before .before .byte-at .ensures)) ∙ sym (c .before .before .before .before .initial-of .ensures) ∙ c .before .before .i3 .given .1 in
+    c .indefinite .ensures xs (omega arith) e
 
 returns-5 : tie.Need-returns-5
 returns-5 c =
@@ -67,7 +71,8 @@ returns-6 c =
     let p = c .before .before .before .before .before .before .before .pre in
     let xs = around (a .s .now) (a .from) (a .n) in
     let len = around-length (a .s .now) (a .from) (a .n) (p .1) in
-    c .broken .ensures xs (a .depth) (omega arith) (p .3) (p .4) (ap initial (sym (c .before .before .before .before .byte-at .ensures)) ∙ sym (c .before .before .before .initial-of .ensures) ∙ c .before .enum-told2 .given .1)
+    let e = ap initial (sym (c .before .before .before .before .byte-at .ensures)) ∙ sym (c .before .before .before .initial-of .ensures) ∙ c .before .enum-told2 .given .1 in
+    c .broken .ensures xs (a .depth) (omega arith) (p .3) (p .4) e
 
 returns-7 : tie.Need-returns-7
 returns-7 c =
@@ -75,7 +80,8 @@ returns-7 c =
     let p = c .before .before .before .before .before .before .pre in
     let xs = around (a .s .now) (a .from) (a .n) in
     let len = around-length (a .s .now) (a .from) (a .n) (p .1) in
-    no-reserved xs (a .at) (a .kind) (a .count) (a .depth) (omega arith) (p .4) (ap initial (sym (c .before .before .before .byte-at .ensures)) ∙ sym (c .before .before .initial-of .ensures) ∙ c .enum-told3 .given .1)
+    let e = ap initial (sym (c .before .before .before .byte-at .ensures)) ∙ sym (c .before .before .initial-of .ensures) ∙ c .enum-told3 .given .1 in
+    no-reserved xs (a .at) (a .kind) (a .count) (a .depth) (omega arith) (p .4) e
 
 pub any-spec : {M : Type 1} → statement M
 any-spec =

@@ -22,7 +22,8 @@ returns-2 c =
     let a = c .before .before .before .before .before .args in
     let p = c .before .before .before .before .before .pre in
     λ xs l i.
-    c .opened .ensures xs (a .kind) (a .count) (a .depth) l (p .1) (p .2) (omega arith) (sym (c .before .before .before .room-for .ensures) ∙ c .before .before .if2 .taken) (c .before .left-of .ensures) i
+    c .opened .ensures xs (a .kind) (a .count) (a .depth) l (p .1) (p .2) (omega arith)
+    (sym (c .before .before .before .room-for .ensures) ∙ c .before .before .if2 .taken) (c .before .left-of .ensures) i
 
 returns-3 : tie.Need-returns-3
 returns-3 c =

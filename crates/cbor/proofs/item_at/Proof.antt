@@ -14,7 +14,8 @@ resume-requires c κs =
 returns : tie.Need-returns
 returns c =
     let a = c .before .before .before .args in
-    first-told (around (a .s .now) (a .from) (a .n)) (a .at) (a .d) (c .before .begin-at .result) (c .resume .result .walk) (c .resume .result .verdict) (c .before .before .before .pre .3) (c .before .begin-at .ensures .0) (c .resume .ensures)
+    first-told (around (a .s .now) (a .from) (a .n)) (a .at) (a .d) (c .before .begin-at .result) (c .resume .result .walk)
+    (c .resume .result .verdict) (c .before .before .before .pre .3) (c .before .begin-at .ensures .0) (c .resume .ensures)
 
 pub item-at-spec : {M : Type 1} → statement M
 item-at-spec =

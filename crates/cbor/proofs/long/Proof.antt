@@ -20,7 +20,8 @@ returns c =
     let p = c .before .before .before .before .pre in
     let xs = around (a .s .now) (a .from) (a .n) in
     let len = around-length (a .s .now) (a .from) (a .n) (p .0 .1) in
-    cut-long xs (a .at) (a .kind) (a .count) (a .depth) (omega arith) (p .0 .5) (a .m) (a .k) (p .1) (sym (c .before .before .may-begin .ensures) ∙ c .before .if1 .taken) (omega arith)
+    cut-long xs (a .at) (a .kind) (a .count) (a .depth) (omega arith) (p .0 .5) (a .m) (a .k) (p .1)
+    (sym (c .before .before .may-begin .ensures) ∙ c .before .if1 .taken) (omega arith)
 
 number-at-requires : tie.Need-number-at-requires
 number-at-requires c κs =
@@ -37,7 +38,8 @@ returns-2 c =
     let xs = around (a .s .now) (a .from) (a .n) in
     let len = around-length (a .s .now) (a .from) (a .n) (p .0 .1) in
     let may : mayBegin (a .kind) (a .depth) (a .m) ≡ true = sym (c .before .before .before .before .before .may-begin .ensures) ∙ c .before .before .before .before .if1 .taken in
-    c .follows .ensures xs (a .at) (a .kind) (a .count) (a .depth) len (omega arith) (omega arith) (p .0 .5) (p .0 .4) (c .before .left-of .ensures) may
+    c .follows .ensures xs (a .at) (a .kind) (a .count) (a .depth) len (omega arith) (omega arith) (p .0 .5) (p .0 .4)
+    (c .before .left-of .ensures) may
     (subst⁻¹ (λ (v : ℕ). Asked xs (a .at) (a .kind) (a .count) (a .depth) (content (a .m) v) (a .at + 1 + (a .k + 1))) (c .before .before .number-at .ensures)
     (asked-long xs (a .at) (a .kind) (a .count) (a .depth) (omega arith) (p .0 .5) (a .m) (a .k) (p .1) may (omega arith)))
 
@@ -47,7 +49,8 @@ returns-3 c =
     let p = c .before .before .before .pre in
     let xs = around (a .s .now) (a .from) (a .n) in
     let len = around-length (a .s .now) (a .from) (a .n) (p .0 .1) in
-    no-long xs (a .at) (a .kind) (a .count) (a .depth) (omega arith) (p .0 .5) (a .m) (a .k) (p .1) (sym (c .before .may-begin .ensures) ∙ c .if1 .left)
+    no-long xs (a .at) (a .kind) (a .count) (a .depth) (omega arith) (p .0 .5) (a .m) (a .k) (p .1)
+    (sym (c .before .may-begin .ensures) ∙ c .if1 .left)
 
 pub long-spec : {M : Type 1} → statement M
 long-spec =

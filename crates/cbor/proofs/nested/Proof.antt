@@ -22,7 +22,8 @@ returns-2 c =
     let a = c .before .before .before .before .args in
     let p = c .before .before .before .before .pre in
     λ xs l e.
-    enter-tag xs (a .at) (a .depth) (a .b) l e (a .at + 1 + c .size .result) (ap (λ (w : ℕ). a .at + 1 + w) (c .size .ensures ∙ c .before .width .ensures)) (p .3) (omega arith) (omega arith) (p .2)
+    enter-tag xs (a .at) (a .depth) (a .b) l e (a .at + 1 + c .size .result)
+    (ap (λ (w : ℕ). a .at + 1 + w) (c .size .ensures ∙ c .before .width .ensures)) (p .3) (omega arith) (omega arith) (p .2)
 
 returns-3 : tie.Need-returns-3
 returns-3 c =
@@ -33,14 +34,16 @@ returns-4 c =
     let a = c .before .before .before .before .before .args in
     let p = c .before .before .before .before .before .pre in
     λ xs l e.
-    subst (Enters xs (a .at) (a .depth) (a .at + 1) 0) (sym (c .wide .ensures)) (enter-array xs (a .at) (a .depth) (a .b) l e (omega arith) (omega arith) (p .1) (omega arith))
+    subst (Enters xs (a .at) (a .depth) (a .at + 1) 0) (sym (c .wide .ensures))
+    (enter-array xs (a .at) (a .depth) (a .b) l e (omega arith) (omega arith) (p .1) (omega arith))
 
 returns-5 : tie.Need-returns-5
 returns-5 c =
     let a = c .before .before .before .before .before .args in
     let p = c .before .before .before .before .before .pre in
     λ xs l e.
-    subst (λ (v : ℕ). Enters xs (a .at) (a .depth) (a .at + 1) 0 (v * 2)) (sym (c .wide2 .ensures)) (enter-map xs (a .at) (a .depth) (a .b) l e (omega arith) (omega arith) (omega arith) (omega arith))
+    subst (λ (v : ℕ). Enters xs (a .at) (a .depth) (a .at + 1) 0 (v * 2)) (sym (c .wide2 .ensures))
+    (enter-map xs (a .at) (a .depth) (a .b) l e (omega arith) (omega arith) (omega arith) (omega arith))
 
 pub nested-spec : {M : Type 1} → statement M
 nested-spec =

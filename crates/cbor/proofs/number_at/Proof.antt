@@ -32,7 +32,8 @@ mul-v c =
 
 add-v : tie.Need-add-v Inv-loop μ-loop
 add-v c =
-    omega (arith, number-fits (c .before .before .before .loop .i) (c .before .before .before .loop .v) (c .before .before .before .loop .inv .1) (omega arith))
+    omega
+    (arith, number-fits (c .before .before .before .loop .i) (c .before .before .before .loop .v) (c .before .before .before .loop .inv .1) (omega arith))
 
 loop-again : tie.Need-loop-again Inv-loop μ-loop
 loop-again c =

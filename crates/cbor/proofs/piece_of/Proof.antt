@@ -12,12 +12,14 @@ use Rattle.cbor.proofs.piece_of.Tie as tie
 returns : tie.Need-returns
 returns c =
     let a = c .before .before .before .args in
-    subst⁻¹ (Pieces (a .len) (a .from) (a .n) (a .at) (a .from) 0) (c .less .ensures) (pieces-near (a .len) (a .from) (a .n) (a .at) (c .before .least .result) (omega arith) (omega arith) (omega arith))
+    subst⁻¹ (Pieces (a .len) (a .from) (a .n) (a .at) (a .from) 0) (c .less .ensures)
+    (pieces-near (a .len) (a .from) (a .n) (a .at) (c .before .least .result) (omega arith) (omega arith) (omega arith))
 
 returns-2 : tie.Need-returns-2
 returns-2 c =
     let a = c .before .before .args in
-    subst⁻¹ (Pieces (a .len) (a .from) (a .n) (a .at) 0 (a .len - a .from)) (c .less2 .ensures) (pieces-far (a .len) (a .from) (a .n) (a .at) (omega arith) (omega arith) (omega arith))
+    subst⁻¹ (Pieces (a .len) (a .from) (a .n) (a .at) 0 (a .len - a .from)) (c .less2 .ensures)
+    (pieces-far (a .len) (a .from) (a .n) (a .at) (omega arith) (omega arith) (omega arith))
 
 pub piece-of-spec : {M : Type 1} → statement M
 piece-of-spec =

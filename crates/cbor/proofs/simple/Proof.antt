@@ -47,7 +47,8 @@ returns-4 c =
     let xs = around (a .s .now) (a .from) (a .n) in
     let len = around-length (a .s .now) (a .from) (a .n) (p .0 .1) in
     let b = c .before .before .byte-at .ensures in
-    simple-high xs (a .at) (a .kind) (a .count) (a .depth) (omega arith) (p .0 .4) (c .left-of .result) (c .left-of .ensures) (p .0 .3) (p .1) (omega arith) (omega arith) (omega arith)
+    simple-high xs (a .at) (a .kind) (a .count) (a .depth) (omega arith) (p .0 .4) (c .left-of .result) (c .left-of .ensures) (p .0 .3) (p .1)
+    (omega arith) (omega arith) (omega arith)
 
 pub simple-spec : {M : Type 1} → statement M
 simple-spec =

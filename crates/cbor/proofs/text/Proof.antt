@@ -36,7 +36,8 @@ returns-2 c =
     let m = width-most (a .i) in
     let z : a .at + 1 + c .before .extra .result ≡ a .at + 1 + widthOf (b % 32) = ap (λ (j : ℕ). a .at + 1 + j) (w ∙ ap widthOf i) in
     let v : c .before .before .small .result ≡ smallOf (b % 32) (getD xs (a .at + 1) 0) = c .before .before .small .ensures ∙ cc in
-    pass-string xs (a .at) d b (omega arith) q (a .at + 1 + c .before .extra .result) (c .before .before .small .result) z (omega arith) k l v (omega arith)
+    pass-string xs (a .at) d b (omega arith) q (a .at + 1 + c .before .extra .result) (c .before .before .small .result) z (omega arith) k l v
+    (omega arith)
 
 returns-3 : tie.Need-returns-3
 returns-3 c =

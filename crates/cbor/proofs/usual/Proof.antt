@@ -72,7 +72,8 @@ returns-2 c =
     let len = around-length (a .s .now) (a .from) (a .n) (p .1) in
     let b = getD (a .s .now) (a .p) 0 in
     let e : b ≡ getD xs (a .at) 0 = spot-here (a .s .now) (a .from) (a .n) (a .at) (a .p) (p .1) q in
-    pass-number xs (a .at) (a .depth) b (omega arith) e (a .at + 1 + c .size .result) (ap (λ (w : ℕ). a .at + 1 + w) (c .size .ensures ∙ c .before .width .ensures)) (omega arith) (omega arith)
+    pass-number xs (a .at) (a .depth) b (omega arith) e (a .at + 1 + c .size .result)
+    (ap (λ (w : ℕ). a .at + 1 + w) (c .size .ensures ∙ c .before .width .ensures)) (omega arith) (omega arith)
 
 add-text : tie.Need-add-text
 add-text c =
@@ -112,7 +113,8 @@ returns-3 c =
     let len = around-length (a .s .now) (a .from) (a .n) (p .1) in
     let b = getD (a .s .now) (a .p) 0 in
     let e : b ≡ getD xs (a .at) 0 = spot-here (a .s .now) (a .from) (a .n) (a .at) (a .p) (p .1) q in
-    c .text .ensures xs (a .depth) b len e (spot-byte (a .s .now) (a .from) (a .n) (a .at) (a .p) 1 (p .1) q (omega arith)) refl (omega arith) (omega arith)
+    c .text .ensures xs (a .depth) b len e (spot-byte (a .s .now) (a .from) (a .n) (a .at) (a .p) 1 (p .1) q (omega arith)) refl (omega arith)
+    (omega arith)
 
 nested-requires : tie.Need-nested-requires
 nested-requires c κs =
@@ -165,7 +167,8 @@ returns-6 c =
     let len = around-length (a .s .now) (a .from) (a .n) (p .1) in
     let b = getD (a .s .now) (a .p) 0 in
     let e : b ≡ getD xs (a .at) 0 = spot-here (a .s .now) (a .from) (a .n) (a .at) (a .p) (p .1) q in
-    pass-simple xs (a .at) (a .depth) b (omega arith) e (a .at + 1 + c .size2 .result) (ap (λ (w : ℕ). a .at + 1 + w) (c .size2 .ensures ∙ c .before .width2 .ensures)) (omega arith) (omega arith)
+    pass-simple xs (a .at) (a .depth) b (omega arith) e (a .at + 1 + c .size2 .result)
+    (ap (λ (w : ℕ). a .at + 1 + w) (c .size2 .ensures ∙ c .before .width2 .ensures)) (omega arith) (omega arith)
     (omega (arith, c .before .before .before .before .before .before .before .shared-slice-known2 .given (a .p))) (c .before .before .if5 .left)
 
 pub usual-spec : {M : Type 1} → statement M

@@ -94,26 +94,28 @@ pub record Doubles (v : ℕ) (l : Level) : Type 0 where
 abbrev pub Answers : ℕ → ℕ → ℕ → ℕ → ℕ → Initial → Move → Type 0
 Answers n at k c d i r = (xs : List ℕ) → length xs ≡ n → initial (getD xs at 0) ≡ i → Moves xs at k c d r
 
--- It is right to do r where a break is at the place `at`; where an item of indefinite length begins there; where the
--- type has room, and l is what is left of the level.
+-- It is right to do r where a break is at the place `at`.
 abbrev pub Broken : ℕ → ℕ → ℕ → Move → Type 0
 Broken at k c r =
     (xs : List ℕ) (d : ℕ) → at < length xs → Good k c d → 0 < k + c → initial (getD xs at 0) ≡ Break → Moves xs at k c d r
 
+-- It is right to do r where an item of indefinite length begins there.
 abbrev pub Endless : ℕ → ℕ → ℕ → ℕ → Major → Move → Type 0
 Endless at k c d m r = (xs : List ℕ) → at < length xs → initial (getD xs at 0) ≡ Indefinite m → Moves xs at k c d r
 
+-- So it is at a level of items, where the type m has room and l is what is left of the level.
 abbrev pub Opened : ℕ → Level → Major → Move → Type 0
 Opened at l m r =
     (xs : List ℕ) (k c d : ℕ) → at < length xs → Good k c d → 0 < k + c → k < 4 → roomFor m d ≡ true → Leaves k c l
     → initial (getD xs at 0) ≡ Indefinite m → Moves xs at k c d r
 
--- A usual head at any frame of items within d levels: it is passed; it opens a level; it is a break.
+-- A usual head, at any frame of items within d levels, is passed.
 pub record Passes (xs : List ℕ) (at d p : ℕ) : Type 0 where
   pub on : at < p
   pub inside : p ≤ length xs
   pub same : (f : Frame) → Wants f → Goes xs at p (push (nesting - d) f) (push (nesting - d) (kept f))
 
+-- It opens a level.
 pub record Enters (xs : List ℕ) (at d p k c : ℕ) : Type 0 where
   pub on : at < p
   pub inside : p ≤ length xs
@@ -122,11 +124,13 @@ pub record Enters (xs : List ℕ) (at d p k c : ℕ) : Type 0 where
   pub same : (f : Frame) → Wants f
       → Goes xs at p (push (nesting - d) f) (λ fs. push (nesting - (d + 1)) (frameOf k c) (push (nesting - d) (kept f) fs))
 
+-- It is a break.
 pub record Breaks (xs : List ℕ) (at p : ℕ) : Type 0 where
   pub next : p ≡ at + 1
   pub inside : p ≤ length xs
   pub is : initial (getD xs at 0) ≡ Break
 
+-- What is right to do at a usual head.
 abbrev pub Quickly : List ℕ → ℕ → ℕ → Quick → Type 0
 Quickly xs at d (Past p) = Passes xs at d p
 Quickly xs at d (Asks p c) = Enters xs at d p 0 c
@@ -134,10 +138,12 @@ Quickly xs at d (Opens p k) = Enters xs at d p k 9223372036854775808
 Quickly xs at d (Ends p) = Breaks xs at p
 Quickly xs at d Unusual = Unit {0}
 
--- It is right to do so where b is the byte at the place `at`, eight more follow, and x is the first of them.
+-- It is right to do r where b is the byte at the place `at`, and eight more follow.
 abbrev pub Usually : ℕ → ℕ → ℕ → Quick → Type 0
 Usually at d b r = (xs : List ℕ) → at + 8 < length xs → b ≡ getD xs at 0 → Quickly xs at d r
 
+-- It is right to do r where a string begins at the place `at` of n bytes, i is its additional information and x the
+-- next byte.
 abbrev pub UsualString : ℕ → ℕ → ℕ → ℕ → Quick → Type 0
 UsualString n at i x r =
     (xs : List ℕ) (d b : ℕ) → length xs ≡ n → b ≡ getD xs at 0 → x ≡ getD xs (at + 1) 0 → i ≡ b % 32 → 64 ≤ b → b < 128 → Quickly xs at d r
