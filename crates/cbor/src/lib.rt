@@ -376,26 +376,6 @@ fn width(i: u8) -> u8
     }
 }
 
-// Additional information of 28 and more, at a level of items.
-fn special(b: u8, at: usize, depth: usize) -> Quick
-    requires { ⌜ at < 18446744073709551615 ⌝ }
-    ensures { λ r. ⌜ Usually at depth b r ⌝ }
-{
-    if b == 255 {
-        return Quick::Ends(at + 1);
-    }
-    if NESTING <= depth {
-        return Quick::Unusual;
-    }
-    if b == 159 {
-        return Quick::Opens(at + 1, 2);
-    }
-    if b == 191 {
-        return Quick::Opens(at + 1, 3);
-    }
-    Quick::Unusual
-}
-
 // The argument in the additional information i, or in the byte x after the initial byte, and how many bytes it takes
 // there.
 fn small(i: u8, x: u8) -> u64
@@ -433,25 +413,42 @@ fn text(n: usize, at: usize, i: u8, x: u8) -> Quick
     Quick::Unusual
 }
 
-// An array or a map of less than 24, or a tag.
+// An array or a map, of less than 24 or up to a break.
 fn nested(b: u8, at: usize, depth: usize) -> Quick
-    requires { ⌜ (at + 8 < 18446744073709551615) × (128 ≤ b) × (b < 224) × (b % 32 < 28) ⌝ }
+    requires { ⌜ (at + 8 < 18446744073709551615) × (128 ≤ b) × (b < 192) ⌝ }
     ensures { λ r. ⌜ Usually at depth b r ⌝ }
 {
     let i = b % 32;
     if NESTING <= depth {
         return Quick::Unusual;
     }
-    if 192 <= b {
-        return Quick::Asks(at + 1 + size(width(i)), 1);
+    if i < 24 {
+        if b < 160 {
+            return Quick::Asks(at + 1, wide(i));
+        }
+        return Quick::Asks(at + 1, wide(i) * 2);
     }
-    if 24 <= i {
+    if b == 159 {
+        return Quick::Opens(at + 1, 2);
+    }
+    if b == 191 {
+        return Quick::Opens(at + 1, 3);
+    }
+    Quick::Unusual
+}
+
+fn tag(b: u8, at: usize, depth: usize) -> Quick
+    requires { ⌜ (at + 8 < 18446744073709551615) × (192 ≤ b) × (b < 224) ⌝ }
+    ensures { λ r. ⌜ Usually at depth b r ⌝ }
+{
+    let i = b % 32;
+    if NESTING <= depth {
         return Quick::Unusual;
     }
-    if b < 160 {
-        return Quick::Asks(at + 1, wide(i));
+    if 28 <= i {
+        return Quick::Unusual;
     }
-    Quick::Asks(at + 1, wide(i) * 2)
+    Quick::Asks(at + 1 + size(width(i)), 1)
 }
 
 // A usual head at the place `at`, at a level of items, where nine bytes lie in one piece from the place p of the slice
@@ -462,19 +459,28 @@ fn usual(s: &[u8], from: usize, n: usize, at: usize, p: usize, depth: usize) -> 
 {
     let b = s[p];
     let i = b % 32;
-    if 28 <= i {
-        return special(b, at, depth);
+    if b == 255 {
+        return Quick::Ends(at + 1);
     }
     if b < 64 {
+        if 28 <= i {
+            return Quick::Unusual;
+        }
         return Quick::Past(at + 1 + size(width(i)));
     }
     if b < 128 {
         return text(n, at, i, s[p + 1]);
     }
-    if b < 224 {
+    if b < 192 {
         return nested(b, at, depth);
     }
+    if b < 224 {
+        return tag(b, at, depth);
+    }
     if i == 24 {
+        return Quick::Unusual;
+    }
+    if 28 <= i {
         return Quick::Unusual;
     }
     Quick::Past(at + 1 + size(width(i)))

@@ -1,6 +1,6 @@
 -- `cbor::usual` meets its contract: by the first byte, which lies in the piece, as the bytes after it do.
 -- Assumes nothing.
-use mathlib.Core.Path.{_≡_, refl, sym, ap, _∙_}
+use mathlib.Core.Path.{_≡_, refl, ap, _∙_}
 use native.Mathlib.Omega.{arith}
 use Prim.Native.Nat.{ℕ, _+_, _%_}
 use lib.ListN.{length, getD}
@@ -8,7 +8,7 @@ use borrow.Author.Needs.{needs}
 use Rattle.cbor.specs.Around.{around}
 use Rattle.cbor.proofs.Around.{around-length}
 use Rattle.cbor.proofs.Pieces.{spot-here, spot-byte}
-use Rattle.cbor.proofs.UsualHeads.{width-most, pass-number, pass-simple}
+use Rattle.cbor.proofs.UsualHeads.{width-most, is-break, pass-number, pass-simple}
 use Rattle.cbor.proofs.usual.Statement.{statement}
 use Rattle.cbor.proofs.usual.Tie as tie
 
@@ -21,8 +21,8 @@ shared-slice-read-b c =
     let room = q .inside in
     omega arith
 
-special-requires : tie.Need-special-requires
-special-requires c κs =
+add-t12 : tie.Need-add-t12
+add-t12 c =
     let a = c .before .before .before .args in
     let p = c .before .before .before .pre in
     let q = p .2 in
@@ -32,8 +32,8 @@ special-requires c κs =
 
 returns : tie.Need-returns
 returns c =
-    let a = c .before .before .before .before .args in
-    let p = c .before .before .before .before .pre in
+    let a = c .before .before .before .args in
+    let p = c .before .before .before .pre in
     let q = p .2 in
     let more = q .more in
     let room = q .inside in
@@ -41,30 +41,30 @@ returns c =
     let len = around-length (a .s .now) (a .from) (a .n) (p .1) in
     let b = getD (a .s .now) (a .p) 0 in
     let e : b ≡ getD xs (a .at) 0 = spot-here (a .s .now) (a .from) (a .n) (a .at) (a .p) (p .1) q in
-    c .special .ensures xs (omega arith) e
+    is-break xs (a .at) (a .depth) b (omega arith) e (c .if1 .taken)
 
-add-t12 : tie.Need-add-t12
-add-t12 c =
-    let a = c .before .before .before .before .args in
-    let p = c .before .before .before .before .pre in
+add-t14 : tie.Need-add-t14
+add-t14 c =
+    let a = c .before .before .before .before .before .args in
+    let p = c .before .before .before .before .before .pre in
     let q = p .2 in
     let more = q .more in
     let room = q .inside in
     omega arith
 
-add-t15 : tie.Need-add-t15
-add-t15 c =
-    let a = c .before .before .before .before .before .before .args in
-    let p = c .before .before .before .before .before .before .pre in
+add-t17 : tie.Need-add-t17
+add-t17 c =
+    let a = c .before .before .before .before .before .before .before .args in
+    let p = c .before .before .before .before .before .before .before .pre in
     let q = p .2 in
     let more = q .more in
     let room = q .inside in
     omega (arith, width-most (getD (a .s .now) (a .p) 0 % 32))
 
-returns-2 : tie.Need-returns-2
-returns-2 c =
-    let a = c .before .before .before .before .before .before .args in
-    let p = c .before .before .before .before .before .before .pre in
+returns-3 : tie.Need-returns-3
+returns-3 c =
+    let a = c .before .before .before .before .before .before .before .args in
+    let p = c .before .before .before .before .before .before .before .pre in
     let q = p .2 in
     let more = q .more in
     let room = q .inside in
@@ -102,8 +102,8 @@ text-requires c κs =
     let room = q .inside in
     omega arith
 
-returns-3 : tie.Need-returns-3
-returns-3 c =
+returns-4 : tie.Need-returns-4
+returns-4 c =
     let a = c .before .before .before .before .before .before .before .args in
     let p = c .before .before .before .before .before .before .before .pre in
     let q = p .2 in
@@ -123,10 +123,10 @@ nested-requires c κs =
     let q = p .2 in
     let more = q .more in
     let room = q .inside in
-    (omega arith, omega arith, omega arith, omega arith)
+    (omega arith, omega arith, omega arith)
 
-returns-4 : tie.Need-returns-4
-returns-4 c =
+returns-5 : tie.Need-returns-5
+returns-5 c =
     let a = c .before .before .before .before .before .before .before .args in
     let p = c .before .before .before .before .before .before .before .pre in
     let q = p .2 in
@@ -138,14 +138,27 @@ returns-4 c =
     let e : b ≡ getD xs (a .at) 0 = spot-here (a .s .now) (a .from) (a .n) (a .at) (a .p) (p .1) q in
     c .nested .ensures xs (omega arith) e
 
-add-t19 : tie.Need-add-t19
-add-t19 c =
+tag-requires : tie.Need-tag-requires
+tag-requires c κs =
     let a = c .before .before .before .before .before .before .before .args in
     let p = c .before .before .before .before .before .before .before .pre in
     let q = p .2 in
     let more = q .more in
     let room = q .inside in
-    omega arith
+    (omega arith, omega arith, omega arith)
+
+returns-6 : tie.Need-returns-6
+returns-6 c =
+    let a = c .before .before .before .before .before .before .before .before .args in
+    let p = c .before .before .before .before .before .before .before .before .pre in
+    let q = p .2 in
+    let more = q .more in
+    let room = q .inside in
+    let xs = around (a .s .now) (a .from) (a .n) in
+    let len = around-length (a .s .now) (a .from) (a .n) (p .1) in
+    let b = getD (a .s .now) (a .p) 0 in
+    let e : b ≡ getD xs (a .at) 0 = spot-here (a .s .now) (a .from) (a .n) (a .at) (a .p) (p .1) q in
+    c .tag .ensures xs (omega arith) e
 
 add-t21 : tie.Need-add-t21
 add-t21 c =
@@ -154,12 +167,21 @@ add-t21 c =
     let q = p .2 in
     let more = q .more in
     let room = q .inside in
+    omega arith
+
+add-t23 : tie.Need-add-t23
+add-t23 c =
+    let a = c .before .before .before .before .before .before .before .before .before .before .before .args in
+    let p = c .before .before .before .before .before .before .before .before .before .before .before .pre in
+    let q = p .2 in
+    let more = q .more in
+    let room = q .inside in
     omega (arith, width-most (getD (a .s .now) (a .p) 0 % 32))
 
-returns-6 : tie.Need-returns-6
-returns-6 c =
-    let a = c .before .before .before .before .before .before .before .before .before .args in
-    let p = c .before .before .before .before .before .before .before .before .before .pre in
+returns-9 : tie.Need-returns-9
+returns-9 c =
+    let a = c .before .before .before .before .before .before .before .before .before .before .before .args in
+    let p = c .before .before .before .before .before .before .before .before .before .before .before .pre in
     let q = p .2 in
     let more = q .more in
     let room = q .inside in
@@ -169,29 +191,34 @@ returns-6 c =
     let e : b ≡ getD xs (a .at) 0 = spot-here (a .s .now) (a .from) (a .n) (a .at) (a .p) (p .1) q in
     pass-simple xs (a .at) (a .depth) b (omega arith) e (a .at + 1 + c .size2 .result)
     (ap (λ (w : ℕ). a .at + 1 + w) (c .size2 .ensures ∙ c .before .width2 .ensures)) (omega arith) (omega arith)
-    (omega (arith, c .before .before .before .before .before .before .before .shared-slice-known2 .given (a .p))) (c .before .before .if5 .left)
+    (omega (arith, c .before .before .before .before .before .before .before .before .before .shared-slice-known2 .given (a .p)))
+    (c .before .before .before .if7 .left)
 
 pub usual-spec : {M : Type 1} → statement M
 usual-spec =
     tie.close
     (tie.spec
     shared-slice-read-b
-    special-requires
-    returns
     add-t12
+    returns
+    (λ c. tt)
+    add-t14
     (λ c κs. search needs)
     (λ c κs. search needs)
-    add-t15
-    returns-2
+    add-t17
+    returns-3
     add-text
     shared-slice-read-text
     text-requires
-    returns-3
-    nested-requires
     returns-4
+    nested-requires
+    returns-5
+    tag-requires
+    returns-6
     (λ c. tt)
-    add-t19
-    (λ c κs. search needs)
-    (λ c κs. search needs)
+    (λ c. tt)
     add-t21
-    returns-6)
+    (λ c κs. search needs)
+    (λ c κs. search needs)
+    add-t23
+    returns-9)
