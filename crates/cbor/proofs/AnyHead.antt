@@ -1,6 +1,6 @@
 -- What any head does to a walk: one law for each way out of the code.
 -- Assumes nothing.
-use Prim.Native.Nat.{ℕ, zero, suc, _+_, _*_, _-_, _≤_, _<_, _/_, _%_}
+use Prim.Native.Nat.{ℕ, _+_, _*_, _-_, _≤_, _<_, _/_, _%_}
 use mathlib.Core.List.{List, _++_}
 use mathlib.Core.Bool.{Bool, true, false, cond}
 use mathlib.Core.Option.{none, some}
@@ -22,9 +22,9 @@ use Rattle.item.specs.Verdict.{Stack, push, alone}
 use Rattle.item.proofs.Exact.{clash}
 use Rattle.cbor.specs.declared.Level.{Level}
 use Rattle.cbor.specs.Walk.{frameOf, tell, Good}
-use Rattle.cbor.specs.Inside.Frames.{kept, spent, Holds, begins, breakable, roomFor, chunkOf, mayBegin, number}
-use Rattle.cbor.specs.Inside.Moves.{Goes, Stays, Downs, Skips, Stops, Leaves, Asked, Doubles}
-use Rattle.cbor.proofs.Tell.{tell-none, tell-one, tell-empty, tell-content, tell-string, tell-argument, tell-cut, tell-high, tell-low}
+use Rattle.cbor.specs.Inside.Frames.{kept, spent, Holds, begins, breakable, roomFor, mayBegin, number}
+use Rattle.cbor.specs.Inside.Moves.{Stays, Downs, Skips, Stops, Leaves, Asked, Doubles}
+use Rattle.cbor.proofs.Tell.{tell-none, tell-one, tell-content, tell-string, tell-argument, tell-cut, tell-high, tell-low}
 use Rattle.cbor.proofs.Tell.{tell-no-second, number-more}
 use Rattle.cbor.proofs.Frames.{NoBreak, tell-into, tell-refused, tell-broken, tell-out, level-holds, level-unspent, may-short, may-not-short}
 use Rattle.cbor.proofs.Frames.{may-long, may-not-long, chunk-simple, chunk-indefinite, never-break, never-reserved, item-simple}

@@ -8,7 +8,7 @@ use mathlib.Core.Path.{_≡_, refl, sym, ap, subst⁻¹, _∙_}
 use lib.Dec.{ltb, leb, eqb, eqb·suc-zero}
 use lib.ListN.{length, getD}
 use native.Mathlib.Omega.{arith}
-use borrow.Author.Tests.{eq-eqb, ne-eqb, lt-ltb, le-ltb, ltb-true, ltb-false, eqb-true, eqb-false, leb-true, leb-false, le-leb}
+use borrow.Author.Tests.{ne-eqb, ltb-true, ltb-false, eqb-true, eqb-false, le-leb}
 use Rattle.head.specs.Initial.{initial}
 use Rattle.head.specs.declared.Major.{Major}
 use Rattle.head.specs.declared.Major.the-variants.{Number, Bytes, Text, Array, Map, Tag}
@@ -18,10 +18,9 @@ use Rattle.item.specs.declared.Verdict.the-variants.{Bad, Incomplete}
 use Rattle.item.specs.Grammar.{Frame, One, Items, Elements, Pairs, Value, Chunks, Content, Second, Argument, content, within, nest, indefinite, alike}
 use Rattle.item.specs.Grammar.{enter, enterChunk, nesting}
 use Rattle.item.specs.Verdict.{Stack, push, into, orBreak, alone, step, met, tally}
-use Rattle.item.proofs.Derivative.{nothing, no-break, no-break-chunk}
+use Rattle.item.proofs.Derivative.{no-break, no-break-chunk}
 use Rattle.item.proofs.Exact.{clash}
-use Rattle.cbor.specs.declared.Level.{Level}
-use Rattle.cbor.specs.Walk.{frameOf, tell, Good}
+use Rattle.cbor.specs.Walk.{frameOf, tell}
 use Rattle.cbor.specs.Inside.Frames.{kept, spent, Holds, begins, breakable, Wants, roomFor, chunkOf, mayBegin}
 use Rattle.cbor.specs.Inside.Moves.{Leaves, Doubles}
 use Rattle.cbor.proofs.Tell.{tell-step, tell-bad, tell-end}

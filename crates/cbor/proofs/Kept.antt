@@ -1,17 +1,17 @@
 -- Walks from the start, and walks that are kept: taking up again equals walking from the start (document 02, K5).
 -- Assumes nothing.
-use Prim.Native.Nat.{ℕ, zero, suc, _+_, _-_, _≤_, _<_}
+use Prim.Native.Nat.{ℕ, zero, suc, _+_, _-_, _≤_}
 use mathlib.Core.List.{List, [], _++_, append-nil, append-assoc}
 use mathlib.Core.Path.{_≡_, refl, sym, ap, ap₂, subst, subst⁻¹, _∙_}
-use lib.ListN.{length, drop, getD, replicate}
+use lib.ListN.{drop, getD, replicate}
 use native.Mathlib.Omega.{arith}
 use Rattle.item.specs.declared.Verdict.{Verdict}
-use Rattle.item.specs.Grammar.{Frame, One, Items, Reads, no-more, nesting}
+use Rattle.item.specs.Grammar.{One, Items, no-more, nesting}
 use Rattle.item.specs.Verdict.{Stack, nil, push, judge, start, verdict, headsOf}
-use Rattle.item.proofs.Derivative.{Rest, done, then}
+use Rattle.item.proofs.Derivative.{Rest, then}
 use Rattle.item.proofs.Parts.{judge-same}
 use Rattle.cbor.specs.declared.Walk.{Walk}
-use Rattle.cbor.specs.Walk.{frameOf, levels, stackOf, tell, comes, Good, Outer, Sound, Resumed, walkOf, firstAt, Kept}
+use Rattle.cbor.specs.Walk.{frameOf, levels, stackOf, tell, comes, Sound, Resumed, firstAt, Kept}
 use Rattle.cbor.proofs.Tell.{pair, tell-one, tell-empty}
 
 noughts : (n i : ℕ) → _≡_ {A = ℕ} (getD (replicate n 0) i 0) 0

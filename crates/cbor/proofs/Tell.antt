@@ -3,10 +3,9 @@
 -- Assumes nothing.
 use Prim.Native.Nat.{ℕ, zero, suc, _+_, _*_, _-_, _^_, _≤_, _<_}
 use mathlib.Core.List.{List, [], _∷_, _++_}
-use mathlib.Core.Bool.{Bool, true, false, cond}
-use mathlib.Core.Option.{Option, none, some}
+use mathlib.Core.Bool.{Bool, false, cond}
+use mathlib.Core.Option.{none, some}
 use mathlib.Core.Path.{_≡_, refl, sym, ap, ap₂, _∙_}
-use lib.Dec.{leb}
 use lib.ListN.{length, drop, getD, length-drop, drop-of-length-le}
 use lib.Seq.{drop-cons, drop-drop}
 use native.Mathlib.Omega.{arith}
@@ -16,7 +15,7 @@ use borrow.Author.Tests.{le-leb, lt-leb}
 use Rattle.head.specs.declared.Major.{Major}
 use Rattle.item.specs.declared.Verdict.{Verdict}
 use Rattle.item.specs.declared.Verdict.the-variants.{Whole, Bad, Incomplete}
-use Rattle.item.specs.Grammar.{Frame, Items, Content, Second, Argument, One, content}
+use Rattle.item.specs.Grammar.{Items, Content, Second, Argument, One, content}
 use Rattle.item.specs.Verdict.{Stack, nil, push, step, met, tally, onward, counting, judge, heads}
 use Rattle.cbor.specs.Walk.{tell}
 use Rattle.cbor.specs.Inside.Frames.{number}

@@ -1,19 +1,19 @@
 -- What the usual heads do, at any frame of items: one law for each way out of the code.
 -- Assumes nothing.
-use Prim.Native.Nat.{ℕ, zero, suc, _+_, _*_, _-_, _≤_, _<_, _/_, _%_}
+use Prim.Native.Nat.{ℕ, _+_, _*_, _-_, _≤_, _<_, _/_, _%_}
 use mathlib.Core.List.{List, _++_}
 use mathlib.Core.Bool.{Bool, true, false, cond}
 use mathlib.Core.Option.{some}
 use mathlib.Core.Path.{_≡_, refl, sym, ap, ap₂, subst, _∙_}
-use lib.Dec.{ltb, leb, eqb}
+use lib.Dec.{ltb, eqb}
 use lib.ListN.{length, drop, getD, length-append}
 use lib.Seq.{drop-cons}
 use native.Mathlib.Omega.{arith}
-use borrow.Author.Tests.{lt-ltb, le-ltb, ltb-true, ltb-false, eq-eqb, ne-eqb, eqb-true, eqb-false}
+use borrow.Author.Tests.{lt-ltb, ltb-true, ltb-false, ne-eqb, eqb-true, eqb-false}
 use Rattle.head.specs.Initial.{initial, majorOf}
 use Rattle.head.specs.declared.Major.{Major}
-use Rattle.head.specs.declared.Major.the-variants.{Number, Bytes, Text, Array, Map, Tag}
-use Rattle.head.specs.declared.Initial.the-variants.{Short, Long, Indefinite, Break}
+use Rattle.head.specs.declared.Major.the-variants.{Array, Map}
+use Rattle.head.specs.declared.Initial.the-variants.{Short, Long, Indefinite}
 use Rattle.item.specs.Grammar.{Frame, Items, Content, Argument, content, indefinite, enter, nesting}
 use Rattle.item.specs.Verdict.{Stack, push}
 use Rattle.cbor.specs.Walk.{frameOf, tell}

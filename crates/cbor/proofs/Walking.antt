@@ -5,19 +5,19 @@ use mathlib.Core.List.{List, [], _++_, append-nil}
 use mathlib.Core.Bool.{Bool, true, false}
 use mathlib.Core.Path.{_≡_, refl, sym, ap, ap₂, subst, _∙_}
 use lib.Dec.{eqb, ltb}
-use lib.ListN.{length, drop, getD, set, length-append, length-set}
+use lib.ListN.{length, getD, set, length-append, length-set}
 use lib.Seq.{getD-set-same, getD-set-other}
 use native.Mathlib.Omega.{arith}
 use native.Mathlib.Numerals.{add-one}
 use borrow.Author.Tests.{eqb-true, eqb-false, ltb-true, ltb-false}
 use Rattle.item.specs.declared.Verdict.{Verdict}
 use Rattle.item.specs.declared.Verdict.the-variants.{Whole, Bad, Incomplete}
-use Rattle.item.specs.Grammar.{Frame, Items, Content, nesting}
-use Rattle.item.specs.Verdict.{Stack, nil, push}
+use Rattle.item.specs.Grammar.{Frame, Content, nesting}
+use Rattle.item.specs.Verdict.{Stack, push}
 use Rattle.cbor.specs.declared.Level.{Level}
 use Rattle.cbor.specs.declared.Walk.{Walk}
 use Rattle.cbor.specs.Walk.{frameOf, levels, stackOf, tell, comes, Good, Outer, Sound, Resumed, walkOf}
-use Rattle.cbor.specs.Inside.Frames.{kept, breakable}
+use Rattle.cbor.specs.Inside.Frames.{breakable}
 use Rattle.cbor.specs.declared.Move.{Move}
 use Rattle.cbor.specs.declared.Move.the-variants.{Stay, Down, Skip, Fault, Lack}
 use Rattle.cbor.specs.declared.Quick.{Quick}

@@ -10,7 +10,7 @@ use head::initial_of;
 use item::Verdict;
 ghost use mathlib.Core.Path.{_≡_};
 ghost use mathlib.Core.Bool.{true, false};
-ghost use Prim.Native.Nat.{ℕ, _+_, _*_, _-_, _≤_, _<_, _%_};
+ghost use Prim.Native.Nat.{_+_, _*_, _-_, _≤_, _<_, _%_};
 ghost use lib.ListN.{length, getD, drop};
 ghost use Rattle.head.specs.Initial.{initial};
 ghost use Rattle.head.specs.declared.Initial.the-variants.{Short, Long, Simple};
@@ -577,7 +577,9 @@ fn stopped(
     }
 }
 
-// Takes a walk up again on the n bytes of the ring: the verdict, and the walk as far as it came.
+// Takes a walk up again on the n bytes of the ring: the verdict, and the walk as far as it came. It is one long loop,
+// since its state stays in scalars only within one function: a level that wants nothing is left; else a usual head is
+// taken; else any head, after the piece that its place is in was found.
 pub fn resume(s: &[u8], from: usize, n: usize, w: Walk) -> Measured
     requires { ⌜ (from ≤ length (now s)) × (n ≤ length (now s)) × (w .at ≤ n) × Sound w ⌝ }
     ensures { λ r. ⌜ Resumed (around (now (s .entry)) from n) w (r .verdict) (r .walk) ⌝ }

@@ -1,7 +1,7 @@
 -- A byte moves the stack exactly as the grammar asks: what the grammar reads the step follows (`forth`), and what the
 -- step comes to the grammar reads (`back`).
 -- Assumes nothing.
-use Prim.Native.Nat.{ℕ, zero, suc, _-_, _≤_}
+use Prim.Native.Nat.{ℕ, zero, suc}
 use mathlib.Core.List.{List, [], _∷_}
 use mathlib.Core.Bool.{Bool, true, false, cond}
 use mathlib.Core.Option.{Option, none, some}

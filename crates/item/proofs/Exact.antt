@@ -16,7 +16,7 @@ use Rattle.head.specs.declared.Initial.the-variants.{Break}
 use Rattle.item.specs.declared.Verdict.{Verdict}
 use Rattle.item.specs.declared.Verdict.the-variants.{Whole, Bad, Incomplete}
 use Rattle.item.specs.Grammar.{Frame, One, Items, Elements, Pairs, Value, Chunks, Content, Second, Argument, content, enter, nest, Reads, one}
-use Rattle.item.specs.Grammar.{no-more, item, end-array, element, end-map, key, value, end-string, chunk, no-byte, byte, simple, last, digit}
+use Rattle.item.specs.Grammar.{no-more, item, end-array, element, end-map, key, value, end-string, no-byte, byte, simple, last, digit}
 use Rattle.item.specs.Verdict.{Stack, nil, push, step, met, onward, judge}
 use Rattle.item.specs.Theorem.{Octets}
 use Rattle.item.proofs.Derivative.{Rest, done, then, After, forth, back}

@@ -1,10 +1,10 @@
 -- The heads counted byte by byte are those that the grammar reads: a byte completes a head, or leaves one pending.
 -- Assumes nothing.
-use Prim.Native.Nat.{ℕ, zero, suc, _+_, _*_, _-_, _≤_}
+use Prim.Native.Nat.{ℕ, zero, suc, _+_, _*_, _-_}
 use mathlib.Core.List.{List, [], _∷_}
-use mathlib.Core.Bool.{Bool, true, false, cond}
-use mathlib.Core.Option.{Option, none, some}
-use mathlib.Core.Path.{_≡_, refl, sym, ap, ap₂, subst, _∙_}
+use mathlib.Core.Bool.{Bool, true, false}
+use mathlib.Core.Option.{Option, some}
+use mathlib.Core.Path.{_≡_, refl, sym, ap, _∙_}
 use native.Mathlib.Omega.{arith}
 use borrow.Author.Tests.{le-leb}
 use Rattle.head.specs.Initial.{initial}
@@ -13,12 +13,12 @@ use Rattle.head.specs.declared.Major.the-variants.{Number, Bytes, Text, Array, 
 use Rattle.head.specs.declared.Initial.{Initial}
 use Rattle.head.specs.declared.Initial.the-variants.{Short, Long, Indefinite, Simple, Break, Reserved}
 use Rattle.item.specs.Grammar.{Frame, One, Items, Elements, Pairs, Value, Chunks, Content, Second, Argument, content, within, nest, indefinite}
-use Rattle.item.specs.Grammar.{enter, alike, enterChunk, Reads, one, no-more, item, end-array, element, end-map, key, value, end-string, chunk}
+use Rattle.item.specs.Grammar.{enter, alike, enterChunk, one, no-more, item, end-array, element, end-map, key, value, end-string, chunk}
 use Rattle.item.specs.Grammar.{no-byte, byte, simple, last, digit}
-use Rattle.item.specs.Verdict.{Stack, nil, push, into, orBreak, step, met, alone, tally, counting, heads}
+use Rattle.item.specs.Verdict.{Stack, nil, push, into, step, met, alone, tally, counting, heads}
 use Rattle.item.specs.Theorem.{headsIn, HeadsRead}
 use Rattle.item.proofs.Derivative.{Rest, done, then, nothing, no-break, no-break-chunk}
-use Rattle.item.proofs.Exact.{clash, met-rest, met-none, some-byte}
+use Rattle.item.proofs.Exact.{met-rest, met-none, some-byte}
 
 -- a head of which the first byte was read and the last was not
 abbrev pending : Frame → ℕ
@@ -85,14 +85,14 @@ item-head Reserved d g p = absurd (nothing p)
 
 alike-is : (t : Bool) (m : Major) (f g : Frame) → alike t m f ≡ some g → f ≡ g
 unfolding alike
-alike-is t Number f g p = absurd (nothing p)
-alike-is true Bytes f g p = absurd (nothing p)
-alike-is false Bytes f g p = the-same p
-alike-is true Text f g p = the-same p
-alike-is false Text f g p = absurd (nothing p)
-alike-is t Array f g p = absurd (nothing p)
-alike-is t Map f g p = absurd (nothing p)
-alike-is t Tag f g p = absurd (nothing p)
+alike-is t Number f g p = cc
+alike-is true Bytes f g p = cc
+alike-is false Bytes f g p = cc
+alike-is true Text f g p = cc
+alike-is false Text f g p = cc
+alike-is t Array f g p = cc
+alike-is t Map f g p = cc
+alike-is t Tag f g p = cc
 
 chunk-head : (i : Initial) (t : Bool) (g : Frame) → enterChunk t i ≡ some g → alone i + pending g ≡ 1
 unfolding enterChunk

@@ -1,6 +1,6 @@
 -- `cbor::piece_of` meets its contract: the piece up to the end of the slice, or the one from its front on.
 -- Assumes nothing.
-use Prim.Native.Nat.{ℕ, _+_, _-_}
+use Prim.Native.Nat.{_-_}
 use mathlib.Core.Path.{subst⁻¹}
 use native.Mathlib.Omega.{arith}
 use borrow.Author.Needs.{needs}

@@ -1,7 +1,7 @@
 -- `cbor::resume` meets its contract: from head to head, where the walk is comes to what it began with comes to, and each
 -- way through the loop is one law of `Walking`. It ends, since each head takes it on and each level it leaves is one less.
 -- Assumes nothing.
-use Prim.Native.Nat.{ℕ, _+_, _*_, _-_}
+use Prim.Native.Nat.{_+_, _*_, _-_}
 use mathlib.Core.Path.{_≡_, refl, sym, _∙_}
 use mathlib.Core.Logic.{⊎-elim}
 use native.Mathlib.Omega.{arith}

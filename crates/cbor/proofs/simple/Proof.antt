@@ -1,9 +1,6 @@
 -- `cbor::simple` meets its contract: the second byte is not there, or below 32, or not.
 -- Assumes nothing.
-use mathlib.Core.Path.{_≡_, sym, _∙_, subst}
-use Prim.Native.Nat.{ℕ, _+_, _≤_, _<_}
 use native.Mathlib.Omega.{arith}
-use lib.ListN.{length, getD}
 use borrow.Author.Needs.{needs}
 use Rattle.cbor.specs.Around.{around}
 use Rattle.cbor.proofs.Around.{around-length}

@@ -1,9 +1,9 @@
 -- `cbor::text` meets its contract: the argument is in the first byte or in the next, and the string is there.
 -- Assumes nothing.
-use mathlib.Core.Path.{_≡_, sym, ap, _∙_}
+use mathlib.Core.Path.{_≡_, ap, _∙_}
 use native.Mathlib.Omega.{arith}
-use Prim.Native.Nat.{ℕ, _+_, _≤_, _%_}
-use lib.ListN.{length, getD}
+use Prim.Native.Nat.{ℕ, _+_, _%_}
+use lib.ListN.{getD}
 use borrow.Author.Needs.{needs}
 use Rattle.cbor.specs.Inside.Frames.{widthOf, smallOf}
 use Rattle.cbor.proofs.UsualHeads.{width-most, pass-string}

@@ -1,7 +1,7 @@
 -- What a head does to a walk, whatever bytes come after those that are there.
 use Prim.Native.Nat.{ℕ, _+_, _*_, _-_, _≤_, _<_, _%_}
 use mathlib.Core.List.{List, _++_}
-use mathlib.Core.Bool.{true, false}
+use mathlib.Core.Bool.{true}
 use mathlib.Core.Path.{_≡_}
 use lib.ListN.{length, getD}
 use Rattle.head.specs.Initial.{initial}
