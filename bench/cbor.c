@@ -1,6 +1,7 @@
 /* Times the proved walk over one CBOR item beside two plain C walks: one that does the same work (definite and
    indefinite lengths, nesting, heads counted), and one that knows definite lengths only and counts nothing.
-   Built and run by bench/cbor. Each time is the median of 31 runs within one process, in turn. */
+   Built and run by bench/cbor. Each time is the least of 31 runs, the walks in turn, so that what else the machine does
+   counts little. */
 #include <stdint.h>
 #include <stdio.h>
 #include <stdlib.h>
@@ -29,7 +30,7 @@ static void string(unsigned m, size_t n)
 {
     head(m, n);
     for (size_t i = 0; i < n; i++)
-        byte(i * 7 + n & 255);
+        byte((i * 7 + n) & 255);
 }
 
 static void opened(unsigned m, uint64_t n)
@@ -302,30 +303,21 @@ static double now(void)
     return t.tv_sec * 1e6 + t.tv_nsec * 1e-3;
 }
 
-static int by_time(const void *a, const void *b)
-{
-    double x = *(const double *)a, y = *(const double *)b;
-    return x < y ? -1 : x > y;
-}
-
-/* The medians of the walks, run in turn. */
+/* The least times of the walks, run in turn. */
 enum { WALKS = 6, RUNS = 31 };
-static void times(double *medians)
+static void times(double *least)
 {
     static void (*const walks[WALKS])(void) = { walked, walked_open, walked_ring, plainly, plainly_open, leanly };
-    static double t[WALKS][RUNS];
     int rounds = 1 + 6000000 / (int)size;
     for (int r = 0; r < RUNS; r++)
         for (int w = 0; w < WALKS; w++) {
             double begun = now();
             for (int k = 0; k < rounds; k++)
                 walks[w]();
-            t[w][r] = (now() - begun) / rounds;
+            double t = (now() - begun) / rounds;
+            if (r == 0 || t < least[w])
+                least[w] = t;
         }
-    for (int w = 0; w < WALKS; w++) {
-        qsort(t[w], RUNS, sizeof t[w][0], by_time);
-        medians[w] = t[w][RUNS / 2];
-    }
 }
 
 static void made(size_t wanted)
