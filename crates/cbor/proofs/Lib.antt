@@ -1,4 +1,3 @@
-pub mod Around
 pub mod Tell
 pub mod Frames
 pub mod AnyHead

@@ -7,9 +7,9 @@ use mathlib.Core.Path.{_≡_, sym, ap, _∙_}
 use lib.ListN.{length, getD}
 use native.Mathlib.Omega.{arith}
 use native.Mathlib.Nat.{add-zero}
-use Rattle.cbor.specs.Around.{around}
+use Rattle.ring.specs.Ring.{around}
 use Rattle.cbor.specs.Inside.Pieces.{Spot, Pieces}
-use Rattle.cbor.proofs.Around.{near, far}
+use Rattle.ring.proofs.Around.{around-near, around-far}
 
 pub spot-byte : (s : List ℕ) (from n i p j : ℕ) → n ≤ length s → Spot (length s) from n i p → j ≤ 8 → getD s (p + j) 0 ≡ getD (around s from n) (i + j) 0
 spot-byte s from n i p j l q h =
@@ -18,10 +18,10 @@ spot-byte s from n i p j l q h =
     ⊎-elim
     (λ (e : p ≡ from + i).
     let z : p + j ≡ from + (i + j) = omega arith in
-    ap (λ (k : ℕ). getD s k 0) z ∙ sym (near s from n (i + j) (omega arith) (omega arith)))
+    ap (λ (k : ℕ). getD s k 0) z ∙ sym (around-near s from n (i + j) (omega arith) (omega arith)))
     (λ (e : p + (length s - from) ≡ i).
     let z : p + j ≡ i + j - (length s - from) = omega arith in
-    ap (λ (k : ℕ). getD s k 0) z ∙ sym (far s from n (i + j) (omega arith) (omega arith)))
+    ap (λ (k : ℕ). getD s k 0) z ∙ sym (around-far s from n (i + j) (omega arith) (omega arith)))
     (q .is)
 
 pub spot-here : (s : List ℕ) (from n i p : ℕ) → n ≤ length s → Spot (length s) from n i p → getD s p 0 ≡ getD (around s from n) i 0

@@ -1,3 +1,2 @@
-pub mod Around
 pub mod Walk
 pub mod Inside

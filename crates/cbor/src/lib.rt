@@ -16,7 +16,7 @@ ghost use Rattle.head.specs.Initial.{initial};
 ghost use Rattle.head.specs.declared.Initial.the-variants.{Short, Long, Simple};
 ghost use Rattle.item.specs.Grammar.{nesting};
 ghost use Rattle.item.specs.Verdict.{judge, start, verdict};
-ghost use Rattle.cbor.specs.Around.{around};
+ghost use Rattle.ring.specs.Ring.{around};
 ghost use Rattle.cbor.specs.Walk.{frameOf, Good, Sound, Resumed, walkOf, firstAt};
 ghost use Rattle.cbor.specs.Inside.Frames.{breakable, roomFor, chunkOf, mayBegin, number, widthOf, smallOf};
 ghost use Rattle.cbor.specs.Inside.Moves.{Moves, Leaves, Strings, Follows, Doubles, Answers, Broken, Endless, Opened, Quickly, Usually, UsualString};

@@ -4,8 +4,8 @@ use mathlib.Core.Path.{sym, ap, _∙_}
 use native.Mathlib.Omega.{arith}
 use borrow.Author.Needs.{needs}
 use Rattle.head.specs.Initial.{initial}
-use Rattle.cbor.specs.Around.{around}
-use Rattle.cbor.proofs.Around.{around-length}
+use Rattle.ring.specs.Ring.{around}
+use Rattle.ring.proofs.Around.{around-length}
 use Rattle.cbor.proofs.AnyHead.{lacks, no-reserved, long-most}
 use Rattle.cbor.proofs.any.Statement.{statement}
 use Rattle.cbor.proofs.any.Tie as tie

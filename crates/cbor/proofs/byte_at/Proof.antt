@@ -2,17 +2,17 @@
 -- Assumes nothing.
 use mathlib.Core.Path.{sym}
 use borrow.Author.Needs.{needs}
-use Rattle.cbor.proofs.Around.{near, far}
+use Rattle.ring.proofs.Around.{around-near, around-far}
 use Rattle.cbor.proofs.byte_at.Statement.{statement}
 use Rattle.cbor.proofs.byte_at.Tie as tie
 
 returns : tie.Need-returns
 returns c =
-    sym (near _ _ _ _ (search needs) (search needs))
+    sym (around-near _ _ _ _ (search needs) (search needs))
 
 returns-2 : tie.Need-returns-2
 returns-2 c =
-    sym (far _ _ _ _ (search needs) (search needs))
+    sym (around-far _ _ _ _ (search needs) (search needs))
 
 pub byte-at-spec : {M : Type 1} → statement M
 byte-at-spec =

@@ -2,7 +2,7 @@
 -- Assumes nothing.
 use native.Mathlib.Omega.{arith}
 use borrow.Author.Needs.{needs}
-use Rattle.cbor.specs.Around.{around}
+use Rattle.ring.specs.Ring.{around}
 use Rattle.cbor.proofs.Kept.{first-told}
 use Rattle.cbor.proofs.item_at.Statement.{statement}
 use Rattle.cbor.proofs.item_at.Tie as tie

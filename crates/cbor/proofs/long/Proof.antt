@@ -6,10 +6,10 @@ use mathlib.Core.Bool.{true}
 use native.Mathlib.Omega.{arith}
 use borrow.Author.Needs.{needs}
 use Rattle.item.specs.Grammar.{content}
-use Rattle.cbor.specs.Around.{around}
+use Rattle.ring.specs.Ring.{around}
 use Rattle.cbor.specs.Inside.Frames.{mayBegin}
 use Rattle.cbor.specs.Inside.Moves.{Asked}
-use Rattle.cbor.proofs.Around.{around-length}
+use Rattle.ring.proofs.Around.{around-length}
 use Rattle.cbor.proofs.AnyHead.{asked-long, cut-long, no-long}
 use Rattle.cbor.proofs.long.Statement.{statement}
 use Rattle.cbor.proofs.long.Tie as tie

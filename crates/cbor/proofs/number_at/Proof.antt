@@ -5,9 +5,9 @@ use mathlib.Core.Path.{_≡_, _∙_, sym, ap}
 use native.Mathlib.Omega.{arith}
 use lib.ListN.{length, drop, getD}
 use borrow.Author.Needs.{needs}
-use Rattle.cbor.specs.Around.{around}
+use Rattle.ring.specs.Ring.{around}
 use Rattle.cbor.specs.Inside.Frames.{number}
-use Rattle.cbor.proofs.Around.{around-length}
+use Rattle.ring.proofs.Around.{around-length}
 use Rattle.cbor.proofs.Tell.{number-step, number-fits, number-grows}
 use Rattle.cbor.proofs.number_at.Statement.{statement}
 use Rattle.cbor.proofs.number_at.Tie as tie

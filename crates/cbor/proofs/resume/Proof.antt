@@ -7,10 +7,10 @@ use mathlib.Core.Logic.{⊎-elim}
 use native.Mathlib.Omega.{arith}
 use lib.ListN.{length}
 use borrow.Author.Needs.{needs}
-use Rattle.cbor.specs.Around.{around}
+use Rattle.ring.specs.Ring.{around}
 use Rattle.cbor.specs.Walk.{walkOf}
 use Rattle.cbor.specs.Inside.Pieces.{Pieces}
-use Rattle.cbor.proofs.Around.{around-length}
+use Rattle.ring.proofs.Around.{around-length}
 use Rattle.cbor.proofs.Pieces.{pieces-none, pieces-later}
 use Rattle.cbor.proofs.Walking.{if-past, if-asks, if-opens, if-ends, if-stay, if-down, if-skip}
 use Rattle.cbor.proofs.Walking.{Under, starts, starts-cut, stays, downs, pops, whole, faults, lacks, skips, passes, enters, breaks-off}

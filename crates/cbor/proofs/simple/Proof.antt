@@ -2,8 +2,8 @@
 -- Assumes nothing.
 use native.Mathlib.Omega.{arith}
 use borrow.Author.Needs.{needs}
-use Rattle.cbor.specs.Around.{around}
-use Rattle.cbor.proofs.Around.{around-length}
+use Rattle.ring.specs.Ring.{around}
+use Rattle.ring.proofs.Around.{around-length}
 use Rattle.cbor.proofs.AnyHead.{no-simple, simple-cut, simple-low, simple-high}
 use Rattle.cbor.proofs.simple.Statement.{statement}
 use Rattle.cbor.proofs.simple.Tie as tie

@@ -5,8 +5,8 @@ use native.Mathlib.Omega.{arith}
 use Prim.Native.Nat.{ℕ, _+_, _%_}
 use lib.ListN.{getD}
 use borrow.Author.Needs.{needs}
-use Rattle.cbor.specs.Around.{around}
-use Rattle.cbor.proofs.Around.{around-length}
+use Rattle.ring.specs.Ring.{around}
+use Rattle.ring.proofs.Around.{around-length}
 use Rattle.cbor.proofs.Pieces.{spot-here, spot-byte}
 use Rattle.cbor.proofs.UsualHeads.{width-most, is-break, pass-number, pass-simple}
 use Rattle.cbor.proofs.usual.Statement.{statement}
