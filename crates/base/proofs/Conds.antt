@@ -1,7 +1,7 @@
 -- Laws of tests as values: `&&` and `cond` of the kit, by what the test says.
 -- Assumes nothing.
 use mathlib.Core.Path.{_≡_, refl, subst}
-use mathlib.Core.Bool.{Bool, true, false, _&&_, cond}
+use mathlib.Core.Bool.{Bool, true, false, false≢true, _&&_, cond}
 use Prim.Native.Nat.{ℕ, zero, suc, _+_, _<_}
 use native.Mathlib.Omega.{arith}
 use native.Mathlib.Numerals.{add-one}
@@ -22,6 +22,15 @@ by-test false p q = q refl
 pub cond-cases : {A : Type 0} (P : A → Type 0) (t : Bool) {a b : A} → (t ≡ true → P a) → (t ≡ false → P b) → P (cond t a b)
 cond-cases P true p q = p refl
 cond-cases P false p q = q refl
+
+-- a test that holds, said in two ways
+pub so : (t : Bool) → t ≡ true → T t
+so true e = tt
+so false e = absurd (false≢true e)
+
+pub is : (t : Bool) → T t → t ≡ true
+is true h = refl
+is false h = absurd h
 
 -- the parts of a test that holds
 pub and-left : (a b : Bool) → T (a && b) → T a
@@ -44,3 +53,9 @@ below-at f (suc n) t i h =
 pub below-next : (f : ℕ → Bool) (n : ℕ) → allBelow f (n + 1) ≡ (allBelow f n && f n)
 unfolding allBelow
 below-next f n = rw add-one
+
+-- a test that passes at each number below n
+pub below-all : (f : ℕ → Bool) (n : ℕ) → ((i : ℕ) → i < n → f i ≡ true) → allBelow f n ≡ true
+unfolding allBelow
+below-all f zero h = refl
+below-all f (suc n) h = rw (below-all f n (λ i l. h i (omega arith)), h n (omega arith))

@@ -10,7 +10,7 @@ use lib.ListN.{length, getD}
 use borrow.Author.Tests.{ne-eqb, le-leb, lt-leb, leb-true, leb-false}
 use native.Mathlib.Nat.{le-refl}
 use Rattle.base.specs.Below.{allBelow}
-use Rattle.base.proofs.Conds.{by-test, and-left, and-right, below-at}
+use Rattle.base.proofs.Conds.{by-test, so, is, and-left, and-right, below-at}
 use Rattle.base.proofs.ListLaws.{getD-map}
 use Rattle.rows.specs.Rows.{doneOf, placeIn}
 use Rattle.rows.specs.declared.Protocol.{Protocol}
@@ -39,9 +39,6 @@ unfolding speaks
 said f i e h = getD-map (λ (x : Instance). f (spoken (x .protocol))) bundle i (record { protocol = 0; role = ofSide }) e h
 
 -- ---- settings in range
-
-so : (t : Bool) → t ≡ true → T t
-so t e = rw e tt
 
 between : (a b c : ℕ) → T (leb a b && leb b c) → (a ≤ b) × (b ≤ c)
 between a b c t = (leb→le a b (and-left (leb a b) (leb b c) t), leb→le b c (and-right (leb a b) (leb b c) t))
@@ -85,10 +82,6 @@ pub record Ranged (c : Connection) : Type 0 where
   pub under-way : 0 < c .receiving .rest → (c .receiving .header .count ≡ 0) × (c .receiving .instance < instances)
   pub accepted : c .talk .accepted ≡ true → getD (c .talk .states) 0 0 ≡ doneOf (speaks 0)
   pub closing : gateOk (c .gate) ≡ true
-
-is : (t : Bool) → T t → t ≡ true
-is true h = refl
-is false h = absurd h
 
 -- the parts of a test of two
 both : (a b : Bool) → T (a && b) → T a × T b

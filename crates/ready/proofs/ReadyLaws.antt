@@ -5,15 +5,15 @@ use mathlib.Core.Bool.{Bool, true, false, cond}
 use mathlib.Core.List.{List, [], _∷_}
 use Prim.Native.Nat.{ℕ, zero, suc, _+_, _-_, _*_, _/_, _%_, _^_, _<_, _≤_}
 use native.Mathlib.Omega.{arith}
-use native.Mathlib.Numerals.{sub-one}
-use native.Mathlib.Nat.{pow-suc, pow-succ', pow-le-pow-right, div-one, div-div-eq-div-mul}
+use native.Mathlib.Numerals.{add-one, one-add, sub-one}
+use native.Mathlib.Nat.{suc-add, pow-suc, pow-succ', pow-le-pow-right, div-one, div-div-eq-div-mul}
 use lib.Dec.{eqb, ltb, lit<}
 use lib.ListN.{length, getD, drop, length-drop}
 use lib.Count.{ones, ones-step, trailingZeros, under}
 use lib.Seq.{drop-cons}
-use borrow.Author.Tests.{eq-eqb, ne-eqb, lt-ltb, le-ltb, eqb-true, eqb-false}
-use Rattle.base.proofs.Conds.{cond-cases}
-use Rattle.ready.specs.Ready.{bitOf, wordOf, countOf, lowestFrom, afterOf, seek, chosen, BitByBit, NoMore}
+use borrow.Author.Tests.{eq-eqb, ne-eqb, lt-ltb, le-ltb, eqb-true, eqb-false, ltb-true, ltb-false}
+use Rattle.base.proofs.Conds.{by-test, cond-cases}
+use Rattle.ready.specs.Ready.{bitOf, wordOf, countOf, lowestFrom, afterOf, seek, chosen, BitByBit, NoMore, NobodyWaits, ChosenWaits}
 use Rattle.ready.specs.Inside.{bitSet, seekIn, chosenIn}
 use Rattle.ready.specs.declared.Choice.{Choice}
 use Rattle.ready.specs.declared.Choice.the-variants.{Instance, Nobody}
@@ -134,3 +134,78 @@ pub seek-on : (n word i k : ℕ) → 0 < k → bitSet word i ≡ false → seekI
 unfolding seekIn
 seek-on n word i zero h t = absurd (omega arith)
 seek-on n word i (suc k) h t = rw (t, sub-one)
+
+-- ---- who waits
+
+-- a search that finds nobody: the first had nothing, and the rest of the search finds nobody
+seek-first : (ws : List ℕ) (i k : ℕ) → seek ws i (suc k) ≡ Nobody → (getD ws i 0 ≡ 0) × (seek ws (afterOf (length ws) i) k ≡ Nobody)
+unfolding seek
+seek-first ws i k e =
+    by-test (ltb 0 (getD ws i 0)) (λ t. absurd (let q : Instance i ≡ Nobody = rw t at e in let z : _≡_ {A = ℕ} 0 1 = cc in omega arith))
+    (λ t. (omega (arith, ltb-false 0 (getD ws i 0) t), rw t at e))
+
+after-next : (n i : ℕ) → suc i < n → afterOf n i ≡ suc i
+after-next n i h = rw (ne-eqb (i + 1) n (λ e. omega arith)) (add-one i)
+
+after-last : (n i : ℕ) → suc i ≡ n → afterOf n i ≡ 1
+after-last n i h = rw (eq-eqb (i + 1) n (omega arith))
+
+-- from i up to the end
+seek-up : (ws : List ℕ) (k i : ℕ) → seek ws i k ≡ Nobody → (j : ℕ) → i ≤ j → j < length ws → j < i + k → getD ws j 0 ≡ 0
+seek-up ws zero i e j l h f = absurd (omega arith)
+seek-up ws (suc k) i e j l h f =
+    let p = seek-first ws i k e in
+    by-test (eqb i j) (λ t. rw (← eqb-true i j t) (p .0))
+    (λ t.
+    let ne : i < j = omega (arith, eqb-false i j t) in
+    let a = after-next (length ws) i (omega arith) in
+    seek-up ws k (suc i) (rw a at (p .1)) j (omega arith) h (omega arith))
+
+-- and on from 1
+seek-round : (ws : List ℕ) (m i k : ℕ) → suc i + m ≡ length ws → seek ws i (suc m + k) ≡ Nobody → seek ws 1 k ≡ Nobody
+seek-round ws zero i k n e =
+    let e′ : seek ws i (suc k) ≡ Nobody = rw (one-add k) at e in
+    rw (after-last (length ws) i (omega arith)) at (seek-first ws i k e′ .1)
+seek-round ws (suc m) i k n e =
+    let e′ : seek ws i (suc (suc m + k)) ≡ Nobody = rw (suc-add (suc m) k) at e in
+    seek-round ws m (suc i) k (omega arith) (rw (after-next (length ws) i (omega arith)) at (seek-first ws i (suc m + k) e′ .1))
+
+-- where nobody waits, a search finds nobody
+seek-none : (ws : List ℕ) → ((i : ℕ) → i < length ws → getD ws i 0 ≡ 0) → 1 < length ws → (k i : ℕ) → i < length ws → seek ws i k ≡ Nobody
+unfolding seek
+seek-none ws none two zero i h = refl
+seek-none ws none two (suc k) i h =
+    rw (le-ltb 0 (getD ws i 0) (omega (arith, none i h))) (seek-none ws none two k (afterOf (length ws) i) (after-low (length ws) i two h))
+
+pub nobody-waits : NobodyWaits
+nobody-waits ws turn low high = (to, from)
+  where
+    to : chosen ws turn ≡ Nobody → (i : ℕ) → i < length ws → getD ws i 0 ≡ 0
+    to e i h =
+        by-test (ltb 0 (getD ws 0 0)) (λ t. absurd (let q : Instance 0 ≡ Nobody = rw t at e in let z : _≡_ {A = ℕ} 0 1 = cc in omega arith))
+        (λ t.
+        let s : seek ws turn (length ws - 1) ≡ Nobody = rw t at e in
+        let m = length ws - 1 - turn in
+        let all : length ws - 1 ≡ suc m + (turn - 1) = omega arith in
+        let again : seek ws 1 (turn - 1) ≡ Nobody = seek-round ws m turn (turn - 1) (omega arith) (rw all at s) in
+        by-test (eqb i 0) (λ z. rw (eqb-true i 0 z) (omega (arith, ltb-false 0 (getD ws 0 0) t)))
+        (λ z. by-test (ltb i turn) (λ l. seek-up ws (turn - 1) 1 again i (omega (arith, eqb-false i 0 z)) h (omega (arith, ltb-true i turn l)))
+        (λ l. seek-up ws (length ws - 1) turn s i (ltb-false i turn l) h (omega arith))))
+
+    from : ((i : ℕ) → i < length ws → getD ws i 0 ≡ 0) → chosen ws turn ≡ Nobody
+    from none = rw (le-ltb 0 (getD ws 0 0) (omega (arith, none 0 (omega arith)))) (seek-none ws none (omega arith) (length ws - 1) turn high)
+
+same-instance : (i j : ℕ) → Instance i ≡ Instance j → i ≡ j
+same-instance i j e = cc
+
+seek-some : (ws : List ℕ) → 1 < length ws → (k i j : ℕ) → i < length ws → seek ws i k ≡ Instance j → (j < length ws) × (0 < getD ws j 0)
+unfolding seek
+seek-some ws two zero i j h e = absurd (let z : _≡_ {A = ℕ} 0 1 = cc in omega arith)
+seek-some ws two (suc k) i j h e =
+    by-test (ltb 0 (getD ws i 0)) (λ t. rw (← same-instance i j (rw t at e)) (h, ltb-true 0 (getD ws i 0) t))
+    (λ t. seek-some ws two k (afterOf (length ws) i) j (after-low (length ws) i two h) (rw t at e))
+
+pub chosen-waits : ChosenWaits
+chosen-waits ws turn i low high e =
+    by-test (ltb 0 (getD ws 0 0)) (λ t. rw (← same-instance 0 i (rw t at e)) (omega arith, ltb-true 0 (getD ws 0 0) t))
+    (λ t. seek-some ws (omega arith) (length ws - 1) turn i high (rw t at e))

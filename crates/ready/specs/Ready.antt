@@ -1,5 +1,6 @@
 -- Who has bytes to send (document 01, "Segments": status, and next segment's choice), over the waiting counts by instance.
-use Prim.Native.Nat.{ℕ, zero, suc, _+_, _-_, _*_, _/_, _%_, _^_, _<_}
+use Prim.Native.Nat.{ℕ, zero, suc, _+_, _-_, _*_, _/_, _%_, _^_, _<_, _≤_}
+use mathlib.Core.Logic.{_↔_}
 use mathlib.Core.Path.{_≡_}
 use mathlib.Core.Bool.{Bool, cond}
 use mathlib.Core.List.{List, [], _∷_}
@@ -53,3 +54,14 @@ BitByBit = (ws : List ℕ) (i : ℕ) → i < length ws → wordOf ws / 2 ^ i % 2
 
 abbrev pub NoMore : Type 0
 NoMore = (ws : List ℕ) → wordOf ws < 2 ^ length ws
+
+-- nobody is chosen if and only if nobody has bytes waiting
+abbrev pub NobodyWaits : Type 0
+NobodyWaits =
+    (ws : List ℕ) (turn : ℕ) → 1 ≤ turn → turn < length ws
+    → (chosen ws turn ≡ Nobody) ↔ ((i : ℕ) → i < length ws → getD ws i 0 ≡ 0)
+
+-- whoever is chosen is an instance with bytes waiting
+abbrev pub ChosenWaits : Type 0
+ChosenWaits =
+    (ws : List ℕ) (turn i : ℕ) → 1 ≤ turn → turn < length ws → chosen ws turn ≡ Instance i → (i < length ws) × (0 < getD ws i 0)

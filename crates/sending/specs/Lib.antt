@@ -1,2 +1,3 @@
 pub mod NextSegment
+pub mod Numbers
 pub mod Inside

@@ -1,0 +1,111 @@
+-- Which number open and status answer, and what open leaves.
+-- Assumes nothing.
+use mathlib.Core.Path.{_≡_, refl, sym, ap, _∙_}
+use mathlib.Core.Bool.{Bool, true, false, true≢false, cond, not, _&&_, _||_}
+use mathlib.Core.List.{List}
+use mathlib.Core.Logic.{_↔_}
+use Prim.Native.Nat.{ℕ, _+_, _<_, _≤_}
+use native.Mathlib.Omega.{arith}
+use native.Mathlib.Nat.{zero-add, add-zero}
+use lib.Dec.{T, eqb, leb, ltb, eqb→eq}
+use lib.ListN.{length, getD, replicate, getD-replicate}
+use borrow.Author.Tests.{eq-eqb, ne-eqb, lt-ltb, le-leb}
+use Rattle.base.specs.Below.{allBelow}
+use Rattle.base.proofs.Conds.{by-test, cond-cases, so, is, and-left, and-right, below-all}
+use Rattle.ring.specs.Ring.{together}
+use Rattle.rows.specs.Rows.{doneOf, placeIn}
+use Rattle.wire.specs.Instances.{instances}
+use Rattle.connection.specs.declared.Settings.{Settings}
+use Rattle.connection.specs.declared.Connection.{Connection}
+use Rattle.connection.specs.declared.opening.Opened.{Opened}
+use Rattle.connection.specs.Ranges.{settingsOk, speaks, restFor, receiveStoreOk, sendStoreOk, receivingOk, sendingOk, stateOk, turnOk, headerOk, acceptOk, inRange}
+use Rattle.connection.specs.Openings.{zeros, fresh, refusedOpen, openOf}
+use Rattle.connection.specs.Statuses.{statusOf}
+use Rattle.connection.specs.Numbers.{Opens, OpenNumbers, OpenExactly, Opening, StatusExactly, OpenOnce, StatusOnce}
+use Rattle.connection.proofs.RangeLaws.{settings-set}
+
+-- ---- open
+
+abbrev tested : Settings → ℕ → ℕ → Bool
+tested s n m = settingsOk s && (receiveStoreOk s n && sendStoreOk s m)
+
+opens : (s : Settings) (n m : ℕ) → tested s n m ≡ true → Opens s n m
+opens s n m e =
+    let stores = receiveStoreOk s n && sendStoreOk s m in
+    let t = so (tested s n m) e in
+    let u = and-right (settingsOk s) stores t in (
+      is (settingsOk s) (and-left (settingsOk s) stores t),
+      eqb→eq n (together (s .receive)) (and-left (receiveStoreOk s n) (sendStoreOk s m) u),
+      eqb→eq m (together (s .send)) (and-right (receiveStoreOk s n) (sendStoreOk s m) u),
+    )
+
+passes : (s : Settings) (n m : ℕ) → Opens s n m → tested s n m ≡ true
+passes s n m (a, b, c) = rw (a, eq-eqb n (together (s .receive)) b, eq-eqb m (together (s .send)) c)
+
+by-tested : (s : Settings) (n m : ℕ) (t : Bool) → tested s n m ≡ t → OpenNumbers s n m
+unfolding openOf
+by-tested s n m true e =
+    let o = opens s n m e in
+    record { n0 = (λ q. o, λ q. rw e); n23 = (λ q. absurd (omega (arith, rw e at q)), λ q. absurd (q o)); zeros = λ q. absurd (q o) }
+by-tested s n m false e =
+    let no : Opens s n m → ⊥ = λ q. true≢false (sym (passes s n m q) ∙ e) in
+    record { n0 = (λ q. absurd (omega (arith, rw e at q)), λ q. absurd (no q)); n23 = (λ q. no, λ q. rw e); zeros = λ q. rw e }
+
+pub open-exactly : OpenExactly
+open-exactly s n m = by-tested s n m (tested s n m) refl
+
+pub open-once : OpenOnce
+open-once s n m r q e f = e ∙ sym f
+
+-- ---- status
+
+by-range : (c : Connection) (t : Bool) → inRange c ≡ t → ((statusOf c .number ≡ 0) ↔ (inRange c ≡ true)) × ((statusOf c .number ≡ 23) ↔ (inRange c ≡ false))
+unfolding statusOf
+by-range c true e = ((λ q. e, λ q. rw e), (λ q. absurd (omega (arith, rw e at q)), λ q. absurd (true≢false (sym e ∙ q))))
+by-range c false e = ((λ q. absurd (omega (arith, rw e at q)), λ q. absurd (true≢false (sym q ∙ e))), (λ q. e, λ q. rw e))
+
+pub status-exactly : StatusExactly
+status-exactly c = by-range c (inRange c) refl
+
+pub status-once : StatusOnce
+status-once c r q e f = e ∙ sym f
+
+-- ---- what open leaves
+
+-- an array of zeros has zeros
+zero-at : (i : ℕ) → i < instances → getD zeros i 0 ≡ 0
+zero-at i h = getD-replicate instances i 0 0 h
+
+fresh-receives : (s : Settings) (i : ℕ) → settingsOk s ≡ true → i < instances → receivingOk s (fresh s 1 .receiving) i ≡ true
+fresh-receives s i e h =
+    let c = settings-set s e .receive i h in
+    let r : restFor 0 0 i ≡ 0 = cond-cases (λ (k : ℕ). k ≡ 0) (eqb 0 i) (λ t. refl) (λ t. refl) in
+    rw (zero-at i h, r, lt-ltb 0 (getD (s .receive) i 0) (omega arith), le-leb (0 + 0) (getD (s .receive) i 0) (omega arith))
+
+fresh-sends : (s : Settings) (i : ℕ) → settingsOk s ≡ true → i < instances → sendingOk s (fresh s 1 .sending) i ≡ true
+fresh-sends s i e h =
+    let c = settings-set s e .send i h in
+    rw (zero-at i h, lt-ltb 0 (getD (s .send) i 0) (omega arith), le-leb 0 (getD (s .send) i 0) (omega arith))
+
+fresh-speaks : (s : Settings) (i : ℕ) → i < instances → stateOk (fresh s 1 .talk) i ≡ true
+fresh-speaks s i h = rw (zero-at i h) (le-leb 0 (doneOf (speaks i)) (omega arith))
+
+fresh-ranged : (s : Settings) → settingsOk s ≡ true → inRange (fresh s 1) ≡ true
+unfolding inRange
+fresh-ranged s e =
+    rw (
+      e,
+      below-all (receivingOk s (fresh s 1 .receiving)) instances (λ i h. fresh-receives s i e h),
+      below-all (sendingOk s (fresh s 1 .sending)) instances (λ i h. fresh-sends s i e h),
+      below-all (stateOk (fresh s 1 .talk)) instances (λ i h. fresh-speaks s i h),
+    )
+
+pub opening : Opening
+unfolding openOf settingsOk inRange
+opening =
+    record {
+      opened = λ s n m q.
+          let o = open-exactly s n m .n0 .0 q in
+          rw (passes s n m o) (fresh-ranged s (o .0));
+      refused = refl;
+    }

@@ -1,0 +1,42 @@
+-- Which number open and status answer, exactly when (document 01, "Numbers and their order"), and what open leaves, as statements.
+use Prim.Native.Nat.{ℕ}
+use mathlib.Core.Path.{_≡_}
+use mathlib.Core.Bool.{true, false}
+use mathlib.Core.Logic.{_↔_}
+use Rattle.ring.specs.Ring.{together}
+use Rattle.connection.specs.declared.Settings.{Settings}
+use Rattle.connection.specs.declared.Connection.{Connection}
+use Rattle.connection.specs.declared.opening.Opened.{Opened}
+use Rattle.connection.specs.declared.telling.Report.{Report}
+use Rattle.connection.specs.Ranges.{settingsOk, inRange}
+use Rattle.connection.specs.Openings.{refusedOpen, openOf}
+use Rattle.connection.specs.Statuses.{statusOf}
+
+-- settings in range, and both stores as long as they say
+abbrev pub Opens : Settings → ℕ → ℕ → Type 0
+Opens s n m = (settingsOk s ≡ true) × (n ≡ together (s .receive)) × (m ≡ together (s .send))
+
+-- T2 for open: 23 otherwise, with all numbers 0 and no closing
+pub record OpenNumbers (s : Settings) (n m : ℕ) : Type 0 where
+  pub n0 : (openOf s n m .number ≡ 0) ↔ Opens s n m
+  pub n23 : (openOf s n m .number ≡ 23) ↔ (Opens s n m → ⊥)
+  pub zeros : (Opens s n m → ⊥) → openOf s n m ≡ refusedOpen
+
+abbrev pub OpenExactly : Type 0
+OpenExactly = (s : Settings) (n m : ℕ) → OpenNumbers s n m
+
+-- an opened record is in range; that of a refused open is not, so every later call on it answers 23
+pub record Opening : Type 0 where
+  pub opened : (s : Settings) (n m : ℕ) → openOf s n m .number ≡ 0 → inRange (openOf s n m .connection) ≡ true
+  pub refused : inRange (refusedOpen .connection) ≡ false
+
+-- T2 for status
+abbrev pub StatusExactly : Type 0
+StatusExactly = (c : Connection) → ((statusOf c .number ≡ 0) ↔ (inRange c ≡ true)) × ((statusOf c .number ≡ 23) ↔ (inRange c ≡ false))
+
+-- T1 for both: the contract leaves one answer
+abbrev pub OpenOnce : Type 0
+OpenOnce = (s : Settings) (n m : ℕ) (r q : Opened) → r ≡ openOf s n m → q ≡ openOf s n m → r ≡ q
+
+abbrev pub StatusOnce : Type 0
+StatusOnce = (c : Connection) (r q : Report) → r ≡ statusOf c → q ≡ statusOf c → r ≡ q

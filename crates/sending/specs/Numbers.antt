@@ -1,0 +1,50 @@
+-- Which number next segment answers, exactly when (document 01, "Numbers and their order"), and what a refusal leaves, as statements.
+use Prim.Native.Nat.{ℕ, _+_, _<_, _≤_}
+use mathlib.Core.Path.{_≡_}
+use mathlib.Core.Bool.{Bool, true, false, _&&_}
+use mathlib.Core.List.{List}
+use mathlib.Core.Logic.{_↔_}
+use lib.ListN.{length, getD}
+use Rattle.wire.specs.Segments.{headerLength}
+use Rattle.wire.specs.Instances.{instances}
+use Rattle.ready.specs.Ready.{chosen}
+use Rattle.ready.specs.declared.Choice.the-variants.{Instance}
+use Rattle.connection.specs.declared.Connection.{Connection}
+use Rattle.connection.specs.Shapes.{Shaped}
+use Rattle.connection.specs.Closings.{isOpen}
+use Rattle.connection.specs.Ranges.{inRange, sendStoreOk}
+use Rattle.sending.specs.declared.Made.{Made}
+use Rattle.sending.specs.NextSegment.{told, much, nextOf}
+
+-- a record in range with its send store
+abbrev pub Ranged : Connection → List ℕ → Type 0
+Ranged c store = (inRange c && sendStoreOk (c .settings) (length store)) ≡ true
+
+-- the same, and open
+abbrev pub Ready : Connection → List ℕ → Type 0
+Ready c store = Ranged c store × (isOpen (c .gate) ≡ true)
+
+-- T2: 23 before all others; 20 if closed; notice 4 if every queue is empty; 18 if the buffer is shorter than header and payload; else 0
+pub record Numbers (c : Connection) (store : List ℕ) (time : ℕ) (buf : List ℕ) : Type 0 where
+  pub n23 : (nextOf c store time buf .made .number ≡ 23) ↔ (Ranged c store → ⊥)
+  pub n20 : (nextOf c store time buf .made .number ≡ 20) ↔ (Ranged c store × (isOpen (c .gate) ≡ false))
+  pub n4 : (nextOf c store time buf .made .number ≡ 4) ↔ (Ready c store × ((i : ℕ) → i < instances → getD (c .sending .waiting) i 0 ≡ 0))
+  pub n18 : (nextOf c store time buf .made .number ≡ 18)
+      ↔ (Ready c store × ((i : ℕ) × (chosen (c .sending .waiting) (c .sending .turn) ≡ Instance i) × (length buf < headerLength + much c i)))
+  pub n0 : (nextOf c store time buf .made .number ≡ 0)
+      ↔ (Ready c store × ((i : ℕ) × (chosen (c .sending .waiting) (c .sending .turn) ≡ Instance i) × (headerLength + much c i ≤ length buf)))
+
+abbrev pub Exactly : Type 0
+Exactly = (c : Connection) (store : List ℕ) (time : ℕ) (buf : List ℕ) → Shaped c → Numbers c store time buf
+
+-- T3: with any number but 0, record and buffer are as they were
+abbrev pub Untouched : Type 0
+Untouched =
+    (c : Connection) (store : List ℕ) (time : ℕ) (buf : List ℕ) (m : Made) (after : List ℕ) → told m after ≡ nextOf c store time buf
+    → (m .number ≡ 0 → ⊥) → (m .connection ≡ c) × (m .len ≡ 0) × (after ≡ buf)
+
+-- T1: the contract leaves one answer, one record and one buffer
+abbrev pub Once : Type 0
+Once =
+    (c : Connection) (store : List ℕ) (time : ℕ) (buf : List ℕ) (m m′ : Made) (after after′ : List ℕ)
+    → told m after ≡ nextOf c store time buf → told m′ after′ ≡ nextOf c store time buf → (m ≡ m′) × (after ≡ after′)
