@@ -1,0 +1,212 @@
+-- T7: reading finds exactly the messages. Each field that matches is one item, so that the fields of a form and the
+-- elements of the array end at the same place.
+-- Assumes nothing.
+use Prim.Native.Nat.{ℕ, zero, suc, _+_, _-_, _*_, _≤_, _<_}
+use mathlib.Core.Path.{_≡_, refl, sym, ap, subst, subst⁻¹, _∙_}
+use mathlib.Core.Bool.{Bool, true, false, cond}
+use mathlib.Core.List.{List, [], _∷_, _++_}
+use mathlib.Core.Option.{Option, none, some}
+use native.Mathlib.Omega.{arith}
+use native.Mathlib.Decide.{decLt}
+use lib.Dec.{eqb}
+use lib.ListN.{length, getD, take, drop, length-drop, List·getD-eq-default}
+use lib.Seq.{drop-cons, drop-length}
+use borrow.Author.Tests.{eqb-true, eq-eqb}
+use Rattle.base.proofs.Conds.{cond-cases}
+use Rattle.head.specs.Initial.{initial}
+use Rattle.head.specs.Read.{headAt}
+use Rattle.head.specs.declared.read.Head.{Head}
+use Rattle.head.specs.declared.read.Head.the-variants as head
+use Rattle.head.proofs.ReadLaws.{definite-within}
+use Rattle.item.specs.declared.Verdict.{Verdict}
+use Rattle.item.specs.declared.Verdict.the-variants.{Whole, Bad, Incomplete}
+use Rattle.item.specs.Grammar.{Frame, One, Items, Content, Item, Reads, nest, enter, one, no-more, item, no-byte, nesting}
+use Rattle.item.specs.Verdict.{nil, push, judge, start, verdict}
+use Rattle.item.proofs.Parts.{whole-reads, whole-place, reads-whole}
+use Rattle.item.proofs.Theorem.{one-end}
+use Rattle.rows.specs.declared.Protocol.{Protocol}
+use Rattle.messages.specs.declared.forms.Field.{Field}
+use Rattle.messages.specs.declared.forms.Field.the-variants as field
+use Rattle.messages.specs.declared.forms.Part.{Part}
+use Rattle.messages.specs.declared.forms.Part.the-variants as part
+use Rattle.messages.specs.declared.Reading.{Reading}
+use Rattle.messages.specs.declared.Reading.the-variants.{Read, NotArray, UnknownKind, WrongCount, WrongField}
+use Rattle.messages.specs.declared.Message.{Message}
+use Rattle.messages.specs.declared.Answer.{Answer}
+use Rattle.messages.specs.Forms.{formOf}
+use Rattle.messages.specs.Matching.{Value, number, place, Stands, ItemAt, ItemsAt, UnsignedAt, Opens, array, map, inMessage, FieldAt, FieldsAt, no-field, a-field, Matches, begun, withNumber, withPlace, saying, told, messageFrom}
+use Rattle.messages.specs.Matching as matching
+use Rattle.messages.specs.Reading.{onNumber, unsignedAt, opensAt, partOf, failed, read, further, fieldsOf, counted, wholly, messageOf}
+use Rattle.messages.specs.Theorem.{Says, ReadsForms, OneMatch, MessageIsItem}
+use Rattle.messages.proofs.Elements.{Numbers, number-cases, unsigned-sound, opens-sound, unsigned-found, opens-found, number-item, array-item, map-item, item-array, none-at, item-then, pairs-items, versions-items, Parts, part-sound, got, part-found}
+
+module _ (bs : List ℕ) where
+  -- ---- a field is an item
+
+  -- a bool is one byte, which is there
+  bool-there : (p b : ℕ) → getD bs p 0 ≡ b → 0 < b → p < length bs
+  bool-there p b e h = elim (decLt p (length bs)) [
+    | yes y ↦ y
+    | no x ↦ absurd (omega (arith, e, List·getD-eq-default bs 0 {n = p} (omega arith)))
+  ]
+
+  bool-item : (d p b : ℕ) → getD bs p 0 ≡ b → 0 < b → enter d (initial b) ≡ some (Content 0) → ItemAt bs d p (p + 1)
+  bool-item d p b e h f =
+      let there : p < length bs = bool-there p b e h in
+      let next : suc p ≡ p + 1 = omega arith in
+      let here : b ∷ drop (p + 1) bs ≡ drop p bs =
+      ap (λ (x : ℕ). x ∷ drop (p + 1) bs) (sym e) ∙ ap (λ (n : ℕ). getD bs p 0 ∷ drop n bs) (sym next) ∙ sym (drop-cons bs p 0 there) in
+      record { forward = omega arith; inside = omega arith; reads = subst (λ (l : List ℕ). Reads d One l (drop (p + 1) bs)) here (one f no-byte) }
+
+  pub field-item : {f : Field} {p q : ℕ} {x : Value} → FieldAt bs f p x q → ItemAt bs inMessage p q
+  unfolding enter initial nest
+  field-item (matching.item i) = i
+  field-item (matching.list o s) = array-item bs o s
+  field-item (matching.pairs {p = p} o r) = array-item bs o (pairs-items bs (definite-within bs p o .1) r)
+  field-item (matching.version-map {p = p} o r) = map-item bs o (versions-items bs (definite-within bs p o .1) r)
+  field-item (matching.word u l) = number-item bs u
+  field-item (matching.false {p = p} e) = bool-item inMessage p matching.False e (omega arith) refl
+  field-item (matching.true {p = p} e) = bool-item inMessage p matching.True e (omega arith) refl
+  field-item (matching.a-version u l) = number-item bs u
+
+  pub fields-items : {fs : List Field} {p q : ℕ} {xs : List Value} → p ≤ length bs → FieldsAt bs fs p xs q → ItemsAt bs inMessage (length fs) p q
+  fields-items h no-field = none-at bs h
+  fields-items h (a-field x r) = let i = field-item x in item-then bs i (fields-items (i .inside) r)
+
+  -- ---- the fields
+
+  further-got : (x : Value) (q i : ℕ) (m : Message) (k : ℕ → Message → Answer) → further (got bs x q) i m k ≡ k q (saying m x)
+  further-got (number v) q i m k = refl
+  further-got (place a l) q i m k = refl
+
+  fields-found : {fs : List Field} {p q : ℕ} {xs : List Value} (i : ℕ) (m : Message) → FieldsAt bs fs p xs q → fieldsOf bs fs i p m ≡ read (told m xs)
+  unfolding fieldsOf told
+  fields-found i m no-field = refl
+  fields-found i m (a-field {fs = fs} {q = q} {x = x} f r) =
+      ap (λ (w : Part). further w i m (λ q n. fieldsOf bs fs (i + 1) q n)) (part-found bs f)
+      ∙ further-got x q i m (λ q n. fieldsOf bs fs (i + 1) q n)
+      ∙ fields-found (i + 1) (saying m x) r
+
+  abbrev Found : List Field → ℕ → Message → Message → Type 0
+  Found fs p m n = (xs : List Value) × (q : ℕ) × FieldsAt bs fs p xs q × (n ≡ told m xs)
+
+  field-sound : (f : Field) (fs : List Field) (i p : ℕ) (m n : Message) (w : Part) → Parts bs (λ x q. FieldAt bs f p x q) w
+      → ((q : ℕ) (o : Message) → q ≤ length bs → fieldsOf bs fs (i + 1) q o ≡ read n → Found fs q o n)
+      → further w i m (λ q o. fieldsOf bs fs (i + 1) q o) ≡ read n → Found (f ∷ fs) p m n
+  unfolding told
+  field-sound f fs i p m n (part.Number v q) s go e =
+      let r = go q (withNumber m v) (field-item s .inside) e in (number v ∷ r .0, r .1, a-field s (r .2), r .3)
+  field-sound f fs i p m n (part.Place a l q) s go e =
+      let r = go q (withPlace m a l) (field-item s .inside) e in (place a l ∷ r .0, r .1, a-field s (r .2), r .3)
+  field-sound f fs i p m n part.Wrong s go e = absurd (let z : WrongField i ≡ Read = ap (λ (a : Answer). a .reading) e in let y : _≡_ {A = ℕ} 0 1 = cc in omega arith)
+
+  fields-sound : (fs : List Field) (i p : ℕ) (m n : Message) → p ≤ length bs → fieldsOf bs fs i p m ≡ read n → Found fs p m n
+  unfolding fieldsOf told
+  fields-sound [] i p m n h e = ([], p, no-field, ap (λ (a : Answer). a .message) (sym e))
+  fields-sound (f ∷ fs) i p m n h e =
+      field-sound f fs i p m n (partOf bs f p) (part-sound bs f p h) (λ q o l g. fields-sound fs (i + 1) q o n l g) e
+
+  -- ---- the message
+
+  wholly-true : (v : Verdict) (n : ℕ) → wholly v n ≡ true → v ≡ Whole n
+  wholly-true (Whole q) n t = ap Whole (eqb-true q n t)
+  wholly-true (Bad q) n t = absurd (let z : _≡_ {A = ℕ} 0 1 = cc in omega arith)
+  wholly-true Incomplete n t = absurd (let z : _≡_ {A = ℕ} 0 1 = cc in omega arith)
+
+  -- bytes that are wholly one item are the item from the first place to the last
+  whole-item : verdict bs ≡ Whole (length bs) → ItemAt bs nesting 0 (length bs)
+  whole-item e = record { forward = omega arith; inside = omega arith; reads = whole-reads bs 0 (length bs) nesting One e }
+
+  item-whole : ItemAt bs nesting 0 (length bs) → verdict bs ≡ Whole (length bs)
+  item-whole s = reads-whole bs 0 (length bs) nesting One (omega arith) (omega arith) (s .reads)
+
+  -- two readings of the same items end at the same place
+  same-end : {d k p q r : ℕ} → ItemsAt bs d k p q → ItemsAt bs d k p r → q ≡ r
+  same-end {d} {k} {p} {q} {r} s t =
+      let e : drop q bs ≡ drop r bs = one-end d (Items k) (drop p bs) (drop q bs) (drop r bs) (s .reads) (t .reads) in
+      omega (arith, ap length e, length-drop q bs, length-drop r bs, s .inside, t .inside)
+
+  -- an array's elements: its kind, and the fields
+  elements : {fs : List Field} {a b q kind : ℕ} {xs : List Value} → UnsignedAt bs a kind b → FieldsAt bs fs b xs q
+      → ItemsAt bs inMessage (length fs + 1) a q
+  elements {fs} {a} {b} {q} u r =
+      let e : suc (length fs) ≡ length fs + 1 = omega arith in
+      let n = number-item bs u in
+      subst (λ (k : ℕ). ItemsAt bs inMessage k a q) e (item-then bs n (fields-items (n .inside) r))
+
+  failing : {r : Reading} {n : Message} → failed r ≡ read n → r ≡ Read
+  failing e = ap (λ (a : Answer). a .reading) e
+
+  module _ (p : Protocol) where
+    pub matches-item : {kind : ℕ} {xs : List Value} → Matches p bs kind xs → ItemAt bs nesting 0 (length bs)
+    matches-item m = array-item bs (m .opens) (elements (m .named) (m .matched))
+
+    counted-sound : (k kind a b : ℕ) (n : Message) (w : Option (List Field)) → formOf p kind ≡ w → ItemAt bs nesting 0 (length bs)
+        → Opens bs array 0 k a → UnsignedAt bs a kind b → counted bs k kind b w ≡ read n → Says p bs n
+    counted-sound k kind a b n none f i o u = λ e. absurd (let z : UnknownKind ≡ Read = failing e in let y : _≡_ {A = ℕ} 0 1 = cc in omega arith)
+    counted-sound k kind a b n (some fs) f i o u =
+        cond-cases (λ (x : Answer). x ≡ read n → Says p bs n) (eqb k (length fs + 1))
+        (λ t e. of (eqb-true k (length fs + 1) t) (fields-sound fs 1 b (begun kind) n (definite-within bs a u .1) e))
+        (λ _ e. absurd (let z : WrongCount ≡ Read = failing e in let y : _≡_ {A = ℕ} 0 1 = cc in omega arith))
+      where
+        of : k ≡ length fs + 1 → Found fs b (begun kind) n → Says p bs n
+        of c (xs, q, r, e) =
+            let o′ : Opens bs array 0 (length fs + 1) a = o ∙ ap (λ (m : ℕ). head.Definite array m a) c in
+            let end : q ≡ length bs = same-end (elements u r) (item-array bs o′ i) in (
+              kind,
+              xs,
+              record { fields = fs; first = a; second = b; form = f; opens = o′; named = u; matched = subst (λ (l : ℕ). FieldsAt bs fs b xs l) end r },
+              e,
+            )
+
+    sound : (n : Message) → messageOf p bs ≡ read n → Says p bs n
+    unfolding messageOf
+    sound n =
+        let P : Answer → Type 0 = λ x. x ≡ read n → Says p bs n in
+        let not-array : P (failed NotArray) = λ e. absurd (let z : NotArray ≡ Read = failing e in let y : _≡_ {A = ℕ} 0 1 = cc in omega arith) in
+        cond-cases P (wholly (verdict bs) (length bs))
+        (λ t.
+        let i : ItemAt bs nesting 0 (length bs) = whole-item (wholly-true (verdict bs) (length bs) t) in
+        number-cases P (λ k a. onNumber (failed NotArray) (unsignedAt bs a) (λ kind b. counted bs k kind b (formOf p kind))) (opensAt bs array 0) (opens-sound bs array 0) not-array
+        (λ k a o.
+        number-cases P (λ kind b. counted bs k kind b (formOf p kind)) (unsignedAt bs a) (unsigned-sound bs a) not-array
+        (λ kind b u. counted-sound k kind a b n (formOf p kind) refl i o u)))
+        (λ _. not-array)
+
+    found : {kind : ℕ} {xs : List Value} → Matches p bs kind xs → messageOf p bs ≡ read (messageFrom kind xs)
+    unfolding messageOf
+    found {kind} {xs} m =
+        let n : ℕ = length (m .fields) + 1 in
+        rw (item-whole (matches-item m), eq-eqb (length bs) (length bs) refl, opens-found bs array 0 (m .opens), unsigned-found bs (m .first) (m .named), m .form, eq-eqb n n refl)
+        (fields-found 1 (begun kind) (m .matched))
+
+  -- ---- one match
+
+  got-same : (x y : Value) (q r : ℕ) → got bs x q ≡ got bs y r → (x ≡ y) × (q ≡ r)
+  got-same (number v) (number w) q r e = (cc, cc)
+  got-same (number v) (place a l) q r e = absurd (let z : _≡_ {A = ℕ} 0 1 = cc in omega arith)
+  got-same (place a l) (number v) q r e = absurd (let z : _≡_ {A = ℕ} 0 1 = cc in omega arith)
+  got-same (place a l) (place b k) q r e = (cc, cc)
+
+  fields-one : {fs : List Field} {p q r : ℕ} {xs ys : List Value} → FieldsAt bs fs p xs q → FieldsAt bs fs p ys r → xs ≡ ys
+  fields-one no-field no-field = refl
+  fields-one (a-field {fs = fs} {q = q} {x = x} f s) (a-field {q = q′} {r = r} {x = y} {xs = ys} g t) =
+      let e = got-same x y q q′ (sym (part-found bs f) ∙ part-found bs g) in
+      cc (fields-one s (subst⁻¹ (λ (k : ℕ). FieldsAt bs fs k ys r) (e .1) t), e .0)
+
+pub reads-forms : ReadsForms
+reads-forms p bs m = (sound bs p m, λ (kind, xs, w, e). found bs p w ∙ ap read (sym e))
+
+pub message-is-item : MessageIsItem
+message-is-item p bs kind xs m = rw drop-length at (matches-item bs p m .reads)
+
+pub one-match : OneMatch
+one-match p bs kind other xs ys m n =
+    let o : head.Definite array (length (m .fields) + 1) (m .first) ≡ head.Definite array (length (n .fields) + 1) (n .first) = sym (m .opens) ∙ n .opens in
+    let a : m .first ≡ n .first = cc in
+    let u : head.Definite 0 kind (m .second) ≡ head.Definite 0 other (n .second) = sym (m .named) ∙ ap (headAt bs) a ∙ n .named in
+    let k : kind ≡ other = cc in
+    let b : n .second ≡ m .second = cc in
+    let f : some (n .fields) ≡ some (m .fields) = sym (n .form) ∙ ap (formOf p) (sym k) ∙ m .form in
+    let g : n .fields ≡ m .fields = cc in
+    (k, fields-one bs (m .matched) (subst (λ (fs : List Field). FieldsAt bs fs (m .second) ys (length bs)) g (subst (λ (q : ℕ). FieldsAt bs (n .fields) q ys (length bs)) b (n .matched))))

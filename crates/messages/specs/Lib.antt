@@ -1,0 +1,4 @@
+pub mod Forms
+pub mod Matching
+pub mod Reading
+pub mod Theorem
