@@ -1,3 +1,6 @@
 pub mod Heads
-pub mod Elements
+pub mod ElementLaws
+pub mod FormLaws
+pub mod Steps
 pub mod Theorem
+pub mod FieldLaws

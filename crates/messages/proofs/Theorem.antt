@@ -27,8 +27,8 @@ use Rattle.item.proofs.Theorem.{one-end}
 use Rattle.rows.specs.declared.Protocol.{Protocol}
 use Rattle.messages.specs.declared.forms.Field.{Field}
 use Rattle.messages.specs.declared.forms.Field.the-variants as field
-use Rattle.messages.specs.declared.forms.Part.{Part}
-use Rattle.messages.specs.declared.forms.Part.the-variants as part
+use Rattle.messages.specs.declared.elements.Part.{Part}
+use Rattle.messages.specs.declared.elements.Part.the-variants as part
 use Rattle.messages.specs.declared.Reading.{Reading}
 use Rattle.messages.specs.declared.Reading.the-variants.{Read, NotArray, UnknownKind, WrongCount, WrongField}
 use Rattle.messages.specs.declared.Message.{Message}
@@ -36,9 +36,9 @@ use Rattle.messages.specs.declared.Answer.{Answer}
 use Rattle.messages.specs.Forms.{formOf}
 use Rattle.messages.specs.Matching.{Value, number, place, Stands, ItemAt, ItemsAt, UnsignedAt, Opens, array, map, inMessage, FieldAt, FieldsAt, no-field, a-field, Matches, begun, withNumber, withPlace, saying, told, messageFrom}
 use Rattle.messages.specs.Matching as matching
-use Rattle.messages.specs.Reading.{onNumber, unsignedAt, opensAt, partOf, failed, read, further, fieldsOf, counted, wholly, messageOf}
+use Rattle.messages.specs.Reading.{onNumber, onEnd, unsignedAt, opensAt, partOf, failed, read, behind, withPart, fieldsOf, counted, wholly, numberedOf, messageOf}
 use Rattle.messages.specs.Theorem.{Says, ReadsForms, OneMatch, MessageIsItem}
-use Rattle.messages.proofs.Elements.{Numbers, number-cases, unsigned-sound, opens-sound, unsigned-found, opens-found, number-item, array-item, map-item, item-array, none-at, item-then, pairs-items, versions-items, Parts, part-sound, got, part-found}
+use Rattle.messages.proofs.ElementLaws.{Numbers, number-cases, unsigned-sound, opens-sound, unsigned-found, opens-found, number-item, array-item, map-item, item-array, none-at, item-then, pairs-items, versions-items, Parts, part-sound, got, part-found}
 
 module _ (bs : List ℕ) where
   -- ---- a field is an item
@@ -75,24 +75,26 @@ module _ (bs : List ℕ) where
 
   -- ---- the fields
 
-  further-got : (x : Value) (q i : ℕ) (m : Message) (k : ℕ → Message → Answer) → further (got bs x q) i m k ≡ k q (saying m x)
-  further-got (number v) q i m k = refl
-  further-got (place a l) q i m k = refl
+  -- on from what a field says
+  abbrev further : Part → List Field → ℕ → Message → Answer
+  further w fs i m = onEnd (failed (WrongField i)) (behind w) (λ q. fieldsOf bs fs (i + 1) q (withPart m w))
+
+  further-got : (x : Value) (q : ℕ) (fs : List Field) (i : ℕ) (m : Message) → further (got bs x q) fs i m ≡ fieldsOf bs fs (i + 1) q (saying m x)
+  further-got (number v) q fs i m = refl
+  further-got (place a l) q fs i m = refl
 
   fields-found : {fs : List Field} {p q : ℕ} {xs : List Value} (i : ℕ) (m : Message) → FieldsAt bs fs p xs q → fieldsOf bs fs i p m ≡ read (told m xs)
   unfolding fieldsOf told
   fields-found i m no-field = refl
   fields-found i m (a-field {fs = fs} {q = q} {x = x} f r) =
-      ap (λ (w : Part). further w i m (λ q n. fieldsOf bs fs (i + 1) q n)) (part-found bs f)
-      ∙ further-got x q i m (λ q n. fieldsOf bs fs (i + 1) q n)
-      ∙ fields-found (i + 1) (saying m x) r
+      ap (λ (w : Part). further w fs i m) (part-found bs f) ∙ further-got x q fs i m ∙ fields-found (i + 1) (saying m x) r
 
   abbrev Found : List Field → ℕ → Message → Message → Type 0
   Found fs p m n = (xs : List Value) × (q : ℕ) × FieldsAt bs fs p xs q × (n ≡ told m xs)
 
   field-sound : (f : Field) (fs : List Field) (i p : ℕ) (m n : Message) (w : Part) → Parts bs (λ x q. FieldAt bs f p x q) w
       → ((q : ℕ) (o : Message) → q ≤ length bs → fieldsOf bs fs (i + 1) q o ≡ read n → Found fs q o n)
-      → further w i m (λ q o. fieldsOf bs fs (i + 1) q o) ≡ read n → Found (f ∷ fs) p m n
+      → further w fs i m ≡ read n → Found (f ∷ fs) p m n
   unfolding told
   field-sound f fs i p m n (part.Number v q) s go e =
       let r = go q (withNumber m v) (field-item s .inside) e in (number v ∷ r .0, r .1, a-field s (r .2), r .3)
@@ -114,7 +116,7 @@ module _ (bs : List ℕ) where
   wholly-true Incomplete n t = absurd (let z : _≡_ {A = ℕ} 0 1 = cc in omega arith)
 
   -- bytes that are wholly one item are the item from the first place to the last
-  whole-item : verdict bs ≡ Whole (length bs) → ItemAt bs nesting 0 (length bs)
+  pub whole-item : verdict bs ≡ Whole (length bs) → ItemAt bs nesting 0 (length bs)
   whole-item e = record { forward = omega arith; inside = omega arith; reads = whole-reads bs 0 (length bs) nesting One e }
 
   item-whole : ItemAt bs nesting 0 (length bs) → verdict bs ≡ Whole (length bs)
@@ -160,21 +162,21 @@ module _ (bs : List ℕ) where
             )
 
     sound : (n : Message) → messageOf p bs ≡ read n → Says p bs n
-    unfolding messageOf
+    unfolding messageOf numberedOf
     sound n =
         let P : Answer → Type 0 = λ x. x ≡ read n → Says p bs n in
         let not-array : P (failed NotArray) = λ e. absurd (let z : NotArray ≡ Read = failing e in let y : _≡_ {A = ℕ} 0 1 = cc in omega arith) in
         cond-cases P (wholly (verdict bs) (length bs))
         (λ t.
         let i : ItemAt bs nesting 0 (length bs) = whole-item (wholly-true (verdict bs) (length bs) t) in
-        number-cases P (λ k a. onNumber (failed NotArray) (unsignedAt bs a) (λ kind b. counted bs k kind b (formOf p kind))) (opensAt bs array 0) (opens-sound bs array 0) not-array
+        number-cases P (λ k a. numberedOf p bs k a) (opensAt bs array 0) (opens-sound bs array 0) not-array
         (λ k a o.
         number-cases P (λ kind b. counted bs k kind b (formOf p kind)) (unsignedAt bs a) (unsigned-sound bs a) not-array
         (λ kind b u. counted-sound k kind a b n (formOf p kind) refl i o u)))
         (λ _. not-array)
 
     found : {kind : ℕ} {xs : List Value} → Matches p bs kind xs → messageOf p bs ≡ read (messageFrom kind xs)
-    unfolding messageOf
+    unfolding messageOf numberedOf
     found {kind} {xs} m =
         let n : ℕ = length (m .fields) + 1 in
         rw (item-whole (matches-item m), eq-eqb (length bs) (length bs) refl, opens-found bs array 0 (m .opens), unsigned-found bs (m .first) (m .named), m .form, eq-eqb n n refl)

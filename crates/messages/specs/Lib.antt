@@ -2,3 +2,4 @@ pub mod Forms
 pub mod Matching
 pub mod Reading
 pub mod Theorem
+pub mod Inside

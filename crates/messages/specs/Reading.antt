@@ -16,12 +16,12 @@ use Rattle.rows.specs.declared.Protocol.{Protocol}
 use Rattle.rows.specs.declared.Protocol.the-variants.{Handshake, ChainSync, BlockFetch, TxSubmission, KeepAlive}
 use Rattle.messages.specs.declared.forms.Field.{Field}
 use Rattle.messages.specs.declared.forms.Field.the-variants as field
-use Rattle.messages.specs.declared.forms.Number.{Number}
-use Rattle.messages.specs.declared.forms.Number.the-variants.{Is, Not}
-use Rattle.messages.specs.declared.forms.End.{End}
-use Rattle.messages.specs.declared.forms.End.the-variants.{At, Nowhere}
-use Rattle.messages.specs.declared.forms.Part.{Part}
-use Rattle.messages.specs.declared.forms.Part.the-variants as part
+use Rattle.messages.specs.declared.elements.Number.{Number}
+use Rattle.messages.specs.declared.elements.Number.the-variants.{Is, Not}
+use Rattle.messages.specs.declared.elements.End.{End}
+use Rattle.messages.specs.declared.elements.End.the-variants.{At, Nowhere}
+use Rattle.messages.specs.declared.elements.Part.{Part}
+use Rattle.messages.specs.declared.elements.Part.the-variants as part
 use Rattle.messages.specs.declared.Reading.{Reading}
 use Rattle.messages.specs.declared.Reading.the-variants.{Read, NotArray, UnknownKind, WrongCount, WrongField}
 use Rattle.messages.specs.declared.Message.{Message}
@@ -119,21 +119,31 @@ failed r = record { reading = r; message = begun 0 }
 abbrev pub read : Message → Answer
 read m = record { reading = Read; message = m }
 
--- The message so far with what a field says, and on from the place behind it; the field is element i.
-abbrev pub further : Part → ℕ → Message → (ℕ → Message → Answer) → Answer
-further (part.Number v q) i m k = k q (withNumber m v)
-further (part.Place a l q) i m k = k q (withPlace m a l)
-further part.Wrong i m k = failed (WrongField i)
+-- The place behind a field, and the message so far with what the field says.
+abbrev pub behind : Part → End
+behind (part.Number v q) = At q
+behind (part.Place a l q) = At q
+behind part.Wrong = Nowhere
+
+abbrev pub withPart : Message → Part → Message
+withPart m (part.Number v q) = withNumber m v
+withPart m (part.Place a l q) = withPlace m a l
+withPart m part.Wrong = m
 
 -- The fields from left to right, the first of them, element i, at place p.
 unfoldable pub fieldsOf : List ℕ → List Field → ℕ → ℕ → Message → Answer
 fieldsOf bs [] i p m = read m
-fieldsOf bs (f ∷ fs) i p m = further (partOf bs f p) i m (λ q n. fieldsOf bs fs (i + 1) q n)
+fieldsOf bs (f ∷ fs) i p m =
+    onEnd (failed (WrongField i)) (behind (partOf bs f p)) (λ q. fieldsOf bs fs (i + 1) q (withPart m (partOf bs f p)))
 
 -- The count of elements, the kind's own included.
 abbrev pub counted : List ℕ → ℕ → ℕ → ℕ → Option (List Field) → Answer
 counted bs n kind p none = failed UnknownKind
 counted bs n kind p (some fs) = cond (eqb n (length fs + 1)) (fieldsOf bs fs 1 p (begun kind)) (failed WrongCount)
+
+-- The kind, which opens an array of n elements.
+unfoldable pub numberedOf : Protocol → List ℕ → ℕ → ℕ → Answer
+numberedOf p bs n a = onNumber (failed NotArray) (unsignedAt bs a) (λ kind b. counted bs n kind b (formOf p kind))
 
 -- The bytes are exactly one item.
 abbrev pub wholly : Verdict → ℕ → Bool
@@ -146,8 +156,7 @@ wholly Incomplete n = false
 unfoldable pub messageOf : Protocol → List ℕ → Answer
 messageOf p bs =
     cond (wholly (verdict bs) (length bs))
-    (onNumber (failed NotArray) (opensAt bs array 0)
-    (λ n a. onNumber (failed NotArray) (unsignedAt bs a) (λ kind b. counted bs n kind b (formOf p kind))))
+    (onNumber (failed NotArray) (opensAt bs array 0) (λ n a. numberedOf p bs n a))
     (failed NotArray)
 
 -- Document 01's number for each case.

@@ -1,4 +1,10 @@
 // The forms as one table, searched by protocol and kind.
+use rows::Protocol;
+ghost use mathlib.Core.Path.{_≡_};
+ghost use Prim.Native.Nat.{_<_, _≤_};
+ghost use lib.ListN.{length, getD};
+ghost use Rattle.messages.specs.declared.forms.Field.the-variants.{Item};
+ghost use Rattle.messages.specs.Inside.{firstOf, countOf, formCount, formAt, columns, fieldOf, Finds};
 
 // What stands in a message behind its number: an item; a list of items; a list of pairs [item, size]; a version map;
 // w, a number up to 65,535; a bool; a version.
@@ -12,21 +18,148 @@ pub enum Field {
     Version,
 }
 
-// A number and the place behind it, or none.
-pub enum Number {
-    Is(u64, usize),
-    Not,
+// A row of the table, or none.
+pub enum Listed {
+    Row(usize),
+    Unknown,
 }
 
-// Where something ends, if it is what it should be.
-pub enum End {
-    At(usize),
-    Nowhere,
+// The fields by number.
+const ITEM: u64 = 0;
+
+const ITEMS: u64 = 1;
+
+const PAIRS: u64 = 2;
+
+const VERSIONS: u64 = 3;
+
+const WORD: u64 = 4;
+
+const BOOL: u64 = 5;
+
+const VERSION: u64 = 6;
+
+// Kind, number of fields, the fields; 0 where there is none.
+const FORMS: [[u64; 5]; 26] = [
+    // Handshake: Propose, Accept, Refuse
+    [0, 1, VERSIONS, 0, 0],
+    [1, 2, VERSION, ITEM, 0],
+    [2, 1, ITEM, 0, 0],
+    // Chain-Sync: RequestNext, AwaitReply, RollForward, RollBackward, FindIntersect, IntersectFound, IntersectNotFound, Done
+    [0, 0, 0, 0, 0],
+    [1, 0, 0, 0, 0],
+    [2, 2, ITEM, ITEM, 0],
+    [3, 2, ITEM, ITEM, 0],
+    [4, 1, ITEMS, 0, 0],
+    [5, 2, ITEM, ITEM, 0],
+    [6, 1, ITEM, 0, 0],
+    [7, 0, 0, 0, 0],
+    // Block-Fetch: RequestRange, ClientDone, StartBatch, NoBlocks, Block, BatchDone
+    [0, 2, ITEM, ITEM, 0],
+    [1, 0, 0, 0, 0],
+    [2, 0, 0, 0, 0],
+    [3, 0, 0, 0, 0],
+    [4, 1, ITEM, 0, 0],
+    [5, 0, 0, 0, 0],
+    // TxSubmission: Init, RequestTxIds, ReplyTxIds, RequestTxs, ReplyTxs, Done
+    [6, 0, 0, 0, 0],
+    [0, 3, BOOL, WORD, WORD],
+    [1, 1, PAIRS, 0, 0],
+    [2, 1, ITEMS, 0, 0],
+    [3, 1, ITEMS, 0, 0],
+    [4, 0, 0, 0, 0],
+    // Keep-alive: KeepAlive, Response, Done
+    [0, 1, WORD, 0, 0],
+    [1, 1, WORD, 0, 0],
+    [2, 0, 0, 0, 0],
+];
+
+// A protocol's first row.
+fn first(p: Protocol) -> usize
+    ensures { λ r. ⌜ r ≡ firstOf p ⌝ }
+{
+    match p {
+        Protocol::Handshake => 0,
+        Protocol::ChainSync => 3,
+        Protocol::BlockFetch => 11,
+        Protocol::TxSubmission => 17,
+        Protocol::KeepAlive => 23,
+    }
 }
 
-// What a field says, and the place behind it: a number; start and length; or it is not what it should be.
-pub enum Part {
-    Number(u64, usize),
-    Place(usize, usize, usize),
-    Wrong,
+// A protocol's number of rows.
+fn count(p: Protocol) -> usize
+    ensures { λ r. ⌜ r ≡ countOf p ⌝ }
+{
+    match p {
+        Protocol::Handshake => 3,
+        Protocol::ChainSync => 8,
+        Protocol::BlockFetch => 6,
+        Protocol::TxSubmission => 6,
+        Protocol::KeepAlive => 3,
+    }
+}
+
+// What stands in a column of row i.
+fn at(i: usize, column: usize) -> u64
+    requires { ⌜ (i < formCount) × (column < 5) ⌝ }
+    ensures { λ r. ⌜ r ≡ getD (columns (formAt i)) column 0 ⌝ }
+{
+    FORMS[i][column]
+}
+
+// The row of a kind.
+pub fn find(p: Protocol, kind: u64) -> Listed
+    ensures { λ r. ⌜ Finds p kind r ⌝ }
+{
+    let mut i = first(p);
+    let end = i + count(p);
+    while i < end {
+        if at(i, 0) == kind {
+            return Listed::Row(i);
+        }
+        i += 1;
+    }
+    Listed::Unknown
+}
+
+// How many fields row i has.
+pub fn fields(i: usize) -> usize
+    requires { ⌜ i < formCount ⌝ }
+    ensures { λ r. ⌜ (r ≡ length (formAt i .fields)) × (r ≤ 3) ⌝ }
+{
+    at(i, 1) as usize
+}
+
+// The field that a number in the table stands for.
+fn field_of(mark: u64) -> Field
+    ensures { λ r. ⌜ r ≡ fieldOf mark ⌝ }
+{
+    if mark == ITEM {
+        return Field::Item;
+    }
+    if mark == ITEMS {
+        return Field::Items;
+    }
+    if mark == PAIRS {
+        return Field::Pairs;
+    }
+    if mark == VERSIONS {
+        return Field::Versions;
+    }
+    if mark == WORD {
+        return Field::Word;
+    }
+    if mark == BOOL {
+        return Field::Bool;
+    }
+    Field::Version
+}
+
+// Field j of row i.
+pub fn field_at(i: usize, j: usize) -> Field
+    requires { ⌜ (i < formCount) × (j < length (formAt i .fields)) ⌝ }
+    ensures { λ r. ⌜ r ≡ getD (formAt i .fields) j Item ⌝ }
+{
+    field_of(at(i, 2 + j))
 }

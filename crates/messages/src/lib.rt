@@ -2,7 +2,27 @@
 //
 // Taking and putting read by the same function. It goes in phases, so that a reader can tell them apart: an array that
 // an unsigned number opens; a known kind; the count of elements; the fields from left to right.
+pub mod elements;
 pub mod forms;
+
+use elements::End;
+use elements::Number;
+use elements::Part;
+use forms::Listed;
+use rows::Protocol;
+ghost use mathlib.Core.Path.{_≡_};
+ghost use mathlib.Core.Bool.{cond};
+ghost use mathlib.Core.Option.{some};
+ghost use Prim.Native.Nat.{_-_, _≤_, _<_};
+ghost use lib.Dec.{eqb};
+ghost use lib.ListN.{length, getD, set};
+ghost use Rattle.ring.specs.Ring.{around};
+ghost use Rattle.item.specs.declared.Verdict.the-variants.{Whole};
+ghost use Rattle.item.specs.Verdict.{verdict};
+ghost use Rattle.messages.specs.Matching.{ItemsAt, inMessage, begun, withNumber, withPlace};
+ghost use Rattle.messages.specs.Reading.{failed, withPart, behind, fieldsOf, counted, numberedOf, messageOf, flagOf};
+ghost use Rattle.messages.specs.Forms.{formOf};
+ghost use Rattle.messages.specs.Inside.{formCount, formAt};
 
 // What reading comes to. Document 01's number for each case is `numberOf` in the specs.
 pub enum Reading {
@@ -31,4 +51,215 @@ pub struct Message {
 pub struct Answer {
     pub reading: Reading,
     pub message: Message,
+}
+
+// The major type of an array.
+const ARRAY: u8 = 4;
+
+// The numbers, and the places, with one set. No form has more of them than there is room for.
+fn set_number(a: [u64; 3], i: usize, v: u64) -> [u64; 3]
+    ensures { λ r. ⌜ r ≡ set a i v ⌝ }
+{
+    let mut b = a;
+    if i < 3 {
+        b[i] = v;
+    }
+    b
+}
+
+fn set_place(a: [usize; 4], i: usize, v: usize) -> [usize; 4]
+    ensures { λ r. ⌜ r ≡ set a i v ⌝ }
+{
+    let mut b = a;
+    if i < 4 {
+        b[i] = v;
+    }
+    b
+}
+
+// A message of which nothing but its kind is known.
+fn begin(kind: u64) -> Message
+    ensures { λ r. ⌜ r ≡ begun kind ⌝ }
+{
+    Message {
+        kind,
+        numbers: [0u64; 3],
+        count: 0,
+        places: [0usize; 4],
+        parts: 0,
+    }
+}
+
+// What is no message.
+fn fail(reading: Reading) -> Answer
+    ensures { λ r. ⌜ r ≡ failed reading ⌝ }
+{
+    Answer {
+        reading,
+        message: begin(0),
+    }
+}
+
+fn with_number(m: Message, v: u64) -> Message
+    requires { ⌜ m .count < 3 ⌝ }
+    ensures { λ r. ⌜ r ≡ withNumber m v ⌝ }
+{
+    let old = m.numbers;
+    let numbers = set_number(old, m.count, v);
+    let places = m.places;
+    Message {
+        kind: m.kind,
+        numbers,
+        count: m.count + 1,
+        places,
+        parts: m.parts,
+    }
+}
+
+fn with_place(m: Message, start: usize, size: usize) -> Message
+    requires { ⌜ m .parts < 3 ⌝ }
+    ensures { λ r. ⌜ r ≡ withPlace m start size ⌝ }
+{
+    let i = m.parts * 2;
+    let old = m.places;
+    let started = set_place(old, i, start);
+    let places = set_place(started, i + 1, size);
+    let numbers = m.numbers;
+    Message {
+        kind: m.kind,
+        numbers,
+        count: m.count,
+        places,
+        parts: m.parts + 1,
+    }
+}
+
+// The message so far with what a field says.
+fn with_part(m: Message, part: Part) -> Message
+    requires { ⌜ (m .count < 3) × (m .parts < 3) ⌝ }
+    ensures { λ r. ⌜ r ≡ withPart m part ⌝ }
+{
+    match part {
+        Part::Number(v, _) => with_number(m, v),
+        Part::Place(start, size, _) => with_place(m, start, size),
+        Part::Wrong => m,
+    }
+}
+
+// The place behind a field.
+fn behind_of(part: Part) -> End
+    ensures { λ r. ⌜ r ≡ behind part ⌝ }
+{
+    match part {
+        Part::Number(_, q) => End::At(q),
+        Part::Place(_, _, q) => End::At(q),
+        Part::Wrong => End::Nowhere,
+    }
+}
+
+// The fields of the form in a row, from left to right, the first of them at the place `first`.
+fn fields(s: &[u8], from: usize, n: usize, row: usize, kind: u64, first: usize) -> Answer
+    requires { ⌜ (from ≤ length (now s)) × (n ≤ length (now s)) × (row < formCount) ⌝ }
+    requires { ⌜ ItemsAt (around (now s) from n) inMessage (length (formAt row .fields)) first n ⌝ }
+    ensures { λ r. ⌜ r ≡ fieldsOf (around (now (s .entry)) from n) (formAt row .fields) 1 first (begun kind) ⌝ }
+{
+    let count = forms::fields(row);
+    let mut message = begin(kind);
+    let mut at = first;
+    let mut i: usize = 0;
+    while i < count {
+        let part = elements::part_at(s, from, n, forms::field_at(row, i), at, i + 1 == count);
+        let e = behind_of(part);
+        let End::At(q) = e else {
+            return fail(Reading::WrongField((i + 1) as u64));
+        };
+        message = with_part(message, part);
+        at = q;
+        i += 1;
+    }
+    Answer {
+        reading: Reading::Read,
+        message,
+    }
+}
+
+// The form of the kind, and whether the array of so many elements has as many as it.
+fn formed(
+    p: Protocol,
+    s: &[u8],
+    from: usize,
+    n: usize,
+    count: u64,
+    kind: u64,
+    next: usize,
+) -> Answer
+    requires { ⌜ (from ≤ length (now s)) × (n ≤ length (now s)) ⌝ }
+    requires { ⌜ ItemsAt (around (now s) from n) inMessage (count - 1) next n ⌝ }
+    ensures { λ r. ⌜ r ≡ counted (around (now (s .entry)) from n) count kind next (formOf p kind) ⌝ }
+{
+    let form = forms::find(p, kind);
+    match form {
+        Listed::Row(row) => filled(s, from, n, row, count, kind, next),
+        Listed::Unknown => fail(Reading::UnknownKind),
+    }
+}
+
+fn filled(s: &[u8], from: usize, n: usize, row: usize, count: u64, kind: u64, next: usize) -> Answer
+    requires { ⌜ (from ≤ length (now s)) × (n ≤ length (now s)) × (row < formCount) ⌝ }
+    requires { ⌜ ItemsAt (around (now s) from n) inMessage (count - 1) next n ⌝ }
+    ensures { λ r. ⌜ r ≡ counted (around (now (s .entry)) from n) count kind next (some (formAt row .fields)) ⌝ }
+{
+    if count == forms::fields(row) as u64 + 1 {
+        return fields(s, from, n, row, kind, next);
+    }
+    fail(Reading::WrongCount)
+}
+
+// The kind, which opens the array of so many elements.
+fn numbered(p: Protocol, s: &[u8], from: usize, n: usize, count: u64, first: usize) -> Answer
+    requires { ⌜ (from ≤ length (now s)) × (n ≤ length (now s)) ⌝ }
+    requires { ⌜ ItemsAt (around (now s) from n) inMessage count first n ⌝ }
+    ensures { λ r. ⌜ r ≡ numberedOf p (around (now (s .entry)) from n) count first ⌝ }
+{
+    let kind = elements::unsigned_at(s, from, n, first);
+    match kind {
+        Number::Is(k, next) => formed(p, s, from, n, count, k, next),
+        Number::Not => fail(Reading::NotArray),
+    }
+}
+
+// Reads the n bytes from the place `from` on of a slice seen as a ring, which are exactly one item within the nesting.
+pub fn read(p: Protocol, s: &[u8], from: usize, n: usize) -> Answer
+    requires { ⌜ (from ≤ length (now s)) × (n ≤ length (now s)) × (verdict (around (now s) from n) ≡ Whole n) ⌝ }
+    ensures { λ r. ⌜ r ≡ messageOf p (around (now (s .entry)) from n) ⌝ }
+{
+    let array = elements::opens_at(s, from, n, ARRAY, 0);
+    match array {
+        Number::Is(count, first) => numbered(p, s, from, n, count, first),
+        Number::Not => fail(Reading::NotArray),
+    }
+}
+
+// The flag by which the rows tell RequestTxIds with true from RequestTxIds with false.
+pub fn flag(p: Protocol, m: Message) -> u64
+    ensures { λ r. ⌜ r ≡ flagOf p m ⌝ }
+{
+    match p {
+        Protocol::Handshake => 0,
+        Protocol::ChainSync => 0,
+        Protocol::BlockFetch => 0,
+        Protocol::TxSubmission => blocking(m),
+        Protocol::KeepAlive => 0,
+    }
+}
+
+// The bool of RequestTxIds, whose kind is 0.
+fn blocking(m: Message) -> u64
+    ensures { λ r. ⌜ r ≡ cond (eqb (m .kind) 0) (getD (m .numbers) 0 0) 0 ⌝ }
+{
+    let numbers = m.numbers;
+    if m.kind == 0 {
+        return numbers[0];
+    }
+    0
 }

@@ -23,12 +23,12 @@ use Rattle.item.proofs.Local.{Cuts, cuts}
 use Rattle.item.proofs.Parts.{whole-reads, whole-place, reads-whole}
 use Rattle.messages.specs.declared.forms.Field.{Field}
 use Rattle.messages.specs.declared.forms.Field.the-variants as field
-use Rattle.messages.specs.declared.forms.Number.{Number}
-use Rattle.messages.specs.declared.forms.Number.the-variants.{Is, Not}
-use Rattle.messages.specs.declared.forms.End.{End}
-use Rattle.messages.specs.declared.forms.End.the-variants.{At, Nowhere}
-use Rattle.messages.specs.declared.forms.Part.{Part}
-use Rattle.messages.specs.declared.forms.Part.the-variants as part
+use Rattle.messages.specs.declared.elements.Number.{Number}
+use Rattle.messages.specs.declared.elements.Number.the-variants.{Is, Not}
+use Rattle.messages.specs.declared.elements.End.{End}
+use Rattle.messages.specs.declared.elements.End.the-variants.{At, Nowhere}
+use Rattle.messages.specs.declared.elements.Part.{Part}
+use Rattle.messages.specs.declared.elements.Part.the-variants as part
 use Rattle.messages.specs.Matching.{Value, number, place, Stands, ItemAt, ItemsAt, UnsignedAt, Opens, array, map, versions, sizes, words, False, True, inMessage, inList, inPair, PairsAt, no-pair, pair, VersionsAt, no-version, version, FieldAt}
 use Rattle.messages.specs.Matching as matching
 use Rattle.messages.specs.Reading.{onNumber, onEnd, leads, unsignedAt, opensAt, ended, itemEnd, sizeEnd, sizedEnd, pairEnd, pairsEnd, keyAt, versionAt, versionsEnd, below, upTo, boolOf, partOf}
@@ -219,10 +219,10 @@ module _ (bs : List ℕ) where
 
   -- ---- version maps
 
-  abbrev KeyAt : ℕ → ℕ → ℕ → ℕ → Type 0
+  abbrev pub KeyAt : ℕ → ℕ → ℕ → ℕ → Type 0
   KeyAt low p v a = UnsignedAt bs p v a × (low ≤ v) × (v < versions)
 
-  abbrev VersionAt : ℕ → ℕ → ℕ → ℕ → Type 0
+  abbrev pub VersionAt : ℕ → ℕ → ℕ → ℕ → Type 0
   VersionAt low p v b = (a : ℕ) × KeyAt low p v a × ItemAt bs inList a b
 
   both : (a b : Bool) → a && b ≡ true → (a ≡ true) × (b ≡ true)

@@ -1,0 +1,167 @@
+-- The fields of a form, read one after the other: what is left of them, what is left of the array, and where the last
+-- element ends.
+-- Assumes nothing.
+use Prim.Native.Nat.{ℕ, zero, suc, _+_, _-_, _≤_, _<_}
+use mathlib.Core.Path.{_≡_, refl, sym, ap, subst, _∙_}
+use mathlib.Core.List.{List, [], _∷_}
+use mathlib.Core.Option.{none, some}
+use borrow.Author.Tests.{eq-eqb, ne-eqb}
+use native.Mathlib.Omega.{arith}
+use native.Mathlib.Numerals.{add-one}
+use lib.ListN.{length, getD, drop, length-drop}
+use lib.Seq.{drop-cons, drop-length}
+use Rattle.item.specs.declared.Verdict.the-variants.{Whole}
+use Rattle.item.specs.Grammar.{One, Items, Reads, item, no-more}
+use Rattle.item.specs.Verdict.{verdict}
+use Rattle.item.proofs.Theorem.{one-end}
+use Rattle.head.proofs.ReadLaws.{definite-within}
+use Rattle.rows.specs.declared.Protocol.{Protocol}
+use Rattle.messages.specs.declared.forms.Listed.{Listed}
+use Rattle.messages.specs.declared.forms.Listed.the-variants.{Row, Unknown}
+use Rattle.messages.specs.declared.elements.Number.{Number}
+use Rattle.messages.specs.declared.elements.Number.the-variants.{Is, Not}
+use Rattle.messages.specs.Forms.{formOf}
+use Rattle.messages.specs.Inside.{formAt, Finds}
+use Rattle.messages.specs.declared.forms.Field.{Field}
+use Rattle.messages.specs.declared.forms.Field.the-variants as field
+use Rattle.messages.specs.declared.elements.End.{End}
+use Rattle.messages.specs.declared.elements.End.the-variants.{At, Nowhere}
+use Rattle.messages.specs.declared.elements.Part.{Part}
+use Rattle.messages.specs.declared.elements.Part.the-variants as part
+use Rattle.messages.specs.declared.Reading.the-variants.{NotArray, UnknownKind, WrongCount, WrongField}
+use Rattle.messages.specs.declared.Message.{Message}
+use Rattle.messages.specs.declared.Answer.{Answer}
+use Rattle.messages.specs.Matching.{Stands, ItemAt, ItemsAt, UnsignedAt, Opens, array, inMessage, FieldAt, begun}
+use Rattle.messages.specs.Reading.{onEnd, unsignedAt, opensAt, itemEnd, partOf, failed, read, behind, withPart, fieldsOf, counted, numberedOf, messageOf}
+use Rattle.messages.proofs.ElementLaws.{Numbers, unsigned-sound, opens-sound, forward, item-found, number-item, item-array, Parts, part-sound}
+use Rattle.messages.proofs.Steps.{number-then, number-not, end-then, end-not}
+use Rattle.messages.proofs.Theorem.{field-item, whole-item}
+
+-- a field more than a message so far has room for three at least
+pub with-count : (m : Message) (w : Part) (i : ℕ) → m .count ≤ i → m .parts ≤ i → (withPart m w .count ≤ i + 1) × (withPart m w .parts ≤ i + 1)
+with-count m (part.Number v q) i h l = (omega arith, omega arith)
+with-count m (part.Place a s q) i h l = (omega arith, omega arith)
+with-count m part.Wrong i h l = (omega arith, omega arith)
+
+module _ (bs : List ℕ) where
+  -- ---- what is left of the fields
+
+  left-more : (fs : List Field) (i p : ℕ) (m : Message) → i < length fs
+      → fieldsOf bs (drop i fs) (i + 1) p m
+      ≡ onEnd (failed (WrongField (i + 1))) (behind (partOf bs (getD fs i field.Item) p))
+      (λ q. fieldsOf bs (drop (i + 1) fs) (i + 1 + 1) q (withPart m (partOf bs (getD fs i field.Item) p)))
+  unfolding fieldsOf
+  left-more fs i p m h =
+      ap (λ (l : List Field). fieldsOf bs l (i + 1) p m)
+      (drop-cons fs i field.Item h ∙ ap (λ (n : ℕ). getD fs i field.Item ∷ drop n fs) (sym (add-one i)))
+
+  module _ (fs : List Field) (i p : ℕ) (m : Message) (h : i < length fs) {f : Field} {w : Part} {e : End}
+      (is : f ≡ getD fs i field.Item) (found : w ≡ partOf bs f p) (ends : e ≡ behind w) where
+    same : w ≡ partOf bs (getD fs i field.Item) p
+    same = found ∙ ap (λ (g : Field). partOf bs g p) is
+
+    pub one-more : {q : ℕ} → e ≡ At q → fieldsOf bs (drop (i + 1) fs) (i + 1 + 1) q (withPart m w) ≡ fieldsOf bs (drop i fs) (i + 1) p m
+    one-more {q} at =
+        end-then (failed (WrongField (i + 1))) (λ q. fieldsOf bs (drop (i + 1) fs) (i + 1 + 1) q (withPart m (partOf bs (getD fs i field.Item) p)))
+        (ends ∙ ap behind same) at (ap (λ (x : Part). fieldsOf bs (drop (i + 1) fs) (i + 1 + 1) q (withPart m x)) same)
+        ∙ sym (left-more fs i p m h)
+
+    pub one-wrong : e ≡ Nowhere → failed (WrongField (i + 1)) ≡ fieldsOf bs (drop i fs) (i + 1) p m
+    one-wrong not =
+        end-not (failed (WrongField (i + 1))) (λ q. fieldsOf bs (drop (i + 1) fs) (i + 1 + 1) q (withPart m (partOf bs (getD fs i field.Item) p)))
+        (ends ∙ ap behind same) not
+        ∙ sym (left-more fs i p m h)
+
+  pub none-left : (fs : List Field) (i p : ℕ) (m : Message) → i ≡ length fs → read m ≡ fieldsOf bs (drop i fs) (i + 1) p m
+  unfolding fieldsOf
+  none-left fs i p m e = let z : drop i fs ≡ [] = ap (λ (n : ℕ). drop n fs) e ∙ drop-length fs in rw z
+
+  -- ---- what is left of the array
+
+  -- behind an item of k + 1 stand k
+  pub items-after : {d k p q n : ℕ} → 0 < k → ItemsAt bs d k p n → ItemAt bs d p q → ItemsAt bs d (k - 1) q n
+  items-after {d} {k} {p} {q} {n} h s i = of k h (s .reads)
+    where
+      of : (k : ℕ) → 0 < k → Reads d (Items k) (drop p bs) (drop n bs) → ItemsAt bs d (k - 1) q n
+      of zero h r = absurd (omega arith)
+      of (suc k) h (item {cs = cs} x r) =
+          let e : cs ≡ drop q bs = one-end d One (drop p bs) cs (drop q bs) x (i .reads) in
+          let r′ : Reads d (Items k) (drop q bs) (drop n bs) = subst (λ (l : List ℕ). Reads d (Items k) l (drop n bs)) e r in
+          let z : k ≡ suc k - 1 = omega arith in
+          subst (λ (j : ℕ). ItemsAt bs d j q n) z
+          (record { forward = forward bs (i .inside) (s .inside) r′; inside = s .inside; reads = r′ })
+
+  -- a field that is found is an item of the array
+  pub part-item : (f : Field) (p : ℕ) {q : ℕ} {w : Part} {e : End} → p ≤ length bs → w ≡ partOf bs f p → e ≡ behind w → e ≡ At q → ItemAt bs inMessage p q
+  part-item f p {q} {w} h found ends at = of w (subst (Parts bs (λ x r. FieldAt bs f p x r)) (sym found) (part-sound bs f p h)) (sym ends ∙ at)
+    where
+      of : (w : Part) → Parts bs (λ x r. FieldAt bs f p x r) w → behind w ≡ At q → ItemAt bs inMessage p q
+      of (part.Number v r) s e = let g : r ≡ q = cc in subst (λ (n : ℕ). ItemAt bs inMessage p n) g (field-item bs s)
+      of (part.Place a l r) s e = let g : r ≡ q = cc in subst (λ (n : ℕ). ItemAt bs inMessage p n) g (field-item bs s)
+      of part.Wrong s e = absurd (let z : _≡_ {A = ℕ} 0 1 = cc in omega arith)
+
+  -- the last item ends where the array ends
+  pub last-ends : {d p n : ℕ} (k : ℕ) → k ≡ 1 → ItemsAt bs d k p n → itemEnd bs d p ≡ At n
+  last-ends {d} {p} {n} k e s = item-found bs (record { forward = s .forward; inside = s .inside; reads = of (subst (λ (k : ℕ). Reads d (Items k) (drop p bs) (drop n bs)) e (s .reads)) })
+    where
+      of : Reads d (Items 1) (drop p bs) (drop n bs) → Reads d One (drop p bs) (drop n bs)
+      of (item x no-more) = x
+
+  -- ---- the phases
+
+  pub array-is : {k a : ℕ} {n : Number} → n ≡ opensAt bs array 0 → n ≡ Is k a → Opens bs array 0 k a
+  array-is e f = subst (Numbers (λ k a. Opens bs array 0 k a)) (sym e ∙ f) (opens-sound bs array 0)
+
+  pub kind-is : (a : ℕ) {kind b : ℕ} {n : Number} → n ≡ unsignedAt bs a → n ≡ Is kind b → UnsignedAt bs a kind b
+  kind-is a e f = subst (Numbers (λ v q. UnsignedAt bs a v q)) (sym e ∙ f) (unsigned-sound bs a)
+
+  -- the array of a message has its elements up to the end
+  pub array-left : {k a : ℕ} {n : Number} → verdict bs ≡ Whole (length bs) → n ≡ opensAt bs array 0 → n ≡ Is k a → ItemsAt bs inMessage k a (length bs)
+  array-left w e f = item-array bs (array-is e f) (whole-item bs w)
+
+  some-left : {d p n : ℕ} (k : ℕ) → p < n → ItemsAt bs d k p n → 0 < k
+  some-left {d} {p} {n} zero h s =
+      absurd (omega (arith, ap length (one-end d (Items zero) (drop p bs) (drop p bs) (drop n bs) no-more (s .reads)), length-drop p bs, length-drop n bs, s .inside))
+  some-left (suc k) h s = omega arith
+
+  -- and behind its kind one less
+  pub kind-left : (a : ℕ) {k kind b n : ℕ} {v : Number} → v ≡ unsignedAt bs a → v ≡ Is kind b → n ≡ length bs → ItemsAt bs inMessage k a n
+      → ItemsAt bs inMessage (k - 1) b n
+  kind-left a {k} e f l s =
+      let u = kind-is a e f in
+      let w = definite-within bs a u in
+      items-after (some-left k (omega (arith, w .0, w .1)) s) s (number-item bs u)
+
+  pub message-array : (p : Protocol) {k a : ℕ} {n : Number} {r : Answer} → verdict bs ≡ Whole (length bs) → n ≡ opensAt bs array 0 → n ≡ Is k a
+      → r ≡ numberedOf p bs k a → r ≡ messageOf p bs
+  unfolding messageOf
+  message-array p w e f g =
+      number-then (failed NotArray) (λ k a. numberedOf p bs k a) e f g ∙ sym (rw (w, eq-eqb (length bs) (length bs) refl))
+
+  pub message-none : (p : Protocol) {n : Number} → verdict bs ≡ Whole (length bs) → n ≡ opensAt bs array 0 → n ≡ Not → failed NotArray ≡ messageOf p bs
+  unfolding messageOf
+  message-none p w e f =
+      number-not (failed NotArray) (λ k a. numberedOf p bs k a) e f ∙ sym (rw (w, eq-eqb (length bs) (length bs) refl))
+
+  pub kind-named : (p : Protocol) (k a : ℕ) {kind b : ℕ} {n : Number} {r : Answer} → n ≡ unsignedAt bs a → n ≡ Is kind b
+      → r ≡ counted bs k kind b (formOf p kind) → r ≡ numberedOf p bs k a
+  unfolding numberedOf
+  kind-named p k a e f g = number-then (failed NotArray) (λ kind b. counted bs k kind b (formOf p kind)) e f g
+
+  pub kind-none : (p : Protocol) (k a : ℕ) {n : Number} → n ≡ unsignedAt bs a → n ≡ Not → failed NotArray ≡ numberedOf p bs k a
+  unfolding numberedOf
+  kind-none p k a e f = number-not (failed NotArray) (λ kind b. counted bs k kind b (formOf p kind)) e f
+
+  pub form-known : (p : Protocol) (k kind b : ℕ) {row : ℕ} {w : Listed} {r : Answer} → Finds p kind w → w ≡ Row row
+      → r ≡ counted bs k kind b (some (formAt row .fields)) → r ≡ counted bs k kind b (formOf p kind)
+  form-known p k kind b h e g = g ∙ ap (counted bs k kind b) (sym (subst (Finds p kind) e h .1))
+
+  pub form-unknown : (p : Protocol) (k kind b : ℕ) {w : Listed} → Finds p kind w → w ≡ Unknown → failed UnknownKind ≡ counted bs k kind b (formOf p kind)
+  form-unknown p k kind b h e = ap (counted bs k kind b) (sym (subst (Finds p kind) e h))
+
+  pub count-right : (fs : List Field) (k kind b : ℕ) {r : Answer} → k ≡ length fs + 1 → r ≡ fieldsOf bs fs 1 b (begun kind)
+      → r ≡ counted bs k kind b (some fs)
+  count-right fs k kind b e g = g ∙ sym (rw (eq-eqb k (length fs + 1) e))
+
+  pub count-wrong : (fs : List Field) (k kind b : ℕ) → (k ≡ length fs + 1 → ⊥) → failed WrongCount ≡ counted bs k kind b (some fs)
+  count-wrong fs k kind b e = sym (rw (ne-eqb k (length fs + 1) e))

@@ -1,0 +1,17 @@
+-- `messages::elements::opens_at` meets its contract: a head of this major type.
+-- Assumes nothing.
+use Rattle.messages.specs.Reading.{opensAt}
+use borrow.Author.Needs.{needs}
+use Rattle.messages.proofs.elements.opens_at.Statement.{statement}
+use Rattle.messages.proofs.elements.opens_at.Tie as tie
+
+returns : tie.Need-returns
+unfolding opensAt
+returns c = c .leading .ensures
+
+pub opens-at-spec : {M : Type 1} → statement M
+opens-at-spec =
+    tie.close
+    (tie.spec
+    (λ c κs. search needs)
+    returns)

@@ -1,0 +1,22 @@
+-- `messages::elements::two_end` meets its contract: the test decides.
+-- Assumes nothing.
+use mathlib.Core.Path.{_∙_}
+use borrow.Author.Tests.{eq-eqb}
+use Rattle.base.proofs.Conds.{tests}
+use borrow.Author.Needs.{needs}
+use Rattle.messages.proofs.elements.two_end.Statement.{statement}
+use Rattle.messages.proofs.elements.two_end.Tie as tie
+
+returns : tie.Need-returns
+returns c = c .sized-end .ensures ∙ rw (eq-eqb _ _ (c .before .if1 .taken))
+
+returns-2 : tie.Need-returns-2
+returns-2 c = search tests
+
+pub two-end-spec : {M : Type 1} → statement M
+two-end-spec =
+    tie.close
+    (tie.spec
+    (λ c κs. search needs)
+    returns
+    returns-2)

@@ -1,0 +1,38 @@
+-- `messages::forms::field_of` meets its contract: the tests are those of the definition.
+-- Assumes nothing.
+use Rattle.base.proofs.Conds.{tests}
+use Rattle.messages.proofs.forms.field_of.Statement.{statement}
+use Rattle.messages.proofs.forms.field_of.Tie as tie
+
+returns : tie.Need-returns
+returns c = search tests
+
+returns-2 : tie.Need-returns-2
+returns-2 c = search tests
+
+returns-3 : tie.Need-returns-3
+returns-3 c = search tests
+
+returns-4 : tie.Need-returns-4
+returns-4 c = search tests
+
+returns-5 : tie.Need-returns-5
+returns-5 c = search tests
+
+returns-6 : tie.Need-returns-6
+returns-6 c = search tests
+
+returns-7 : tie.Need-returns-7
+returns-7 c = search tests
+
+pub field-of-spec : {M : Type 1} → statement M
+field-of-spec =
+    tie.close
+    (tie.spec
+    returns
+    returns-2
+    returns-3
+    returns-4
+    returns-5
+    returns-6
+    returns-7)
