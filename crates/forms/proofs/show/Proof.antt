@@ -1,0 +1,30 @@
+-- `forms::show` meets what `read` requires: the bytes were measured, and the item ends where they end.
+-- Assumes nothing.
+use mathlib.Core.Path.{sym, ap, _∙_}
+use borrow.Author.Needs.{needs}
+use Rattle.item.specs.declared.Verdict.the-variants.{Whole}
+use Rattle.cbor.specs.Around as cbor
+use Rattle.ring.specs.Ring.{around}
+use Rattle.forms.proofs.show.Statement.{statement}
+use Rattle.forms.proofs.show.Tie as tie
+
+read-requires : tie.Need-read-requires
+unfolding around cbor.around
+read-requires c κs =
+    (search needs, search needs, sym (c .before .before .before .before .measure .ensures) ∙ c .before .before .v .given .1 ∙ ap Whole (c .if1 .left))
+
+pub show-spec : {M : Type 1} → statement M
+show-spec =
+    tie.close
+    (tie.spec
+    (λ c κs. search needs)
+    (λ c. search needs)
+    (λ c. search needs)
+    (λ c κs. search needs)
+    (λ c. search needs)
+    (λ c. search needs)
+    (λ c κs. search needs)
+    (λ c. search needs)
+    read-requires
+    (λ c κs. search needs)
+    (λ c. search needs))
