@@ -3,13 +3,10 @@
 use mathlib.Core.Path.{sym, ap, _∙_}
 use borrow.Author.Needs.{needs}
 use Rattle.item.specs.declared.Verdict.the-variants.{Whole}
-use Rattle.cbor.specs.Around as cbor
-use Rattle.ring.specs.Ring.{around}
 use Rattle.forms.proofs.show.Statement.{statement}
 use Rattle.forms.proofs.show.Tie as tie
 
 read-requires : tie.Need-read-requires
-unfolding around cbor.around
 read-requires c κs =
     (search needs, search needs, sym (c .before .before .before .before .measure .ensures) ∙ c .before .before .v .given .1 ∙ ap Whole (c .if1 .left))
 

@@ -4,7 +4,6 @@ use mathlib.Core.Path.{ap, _∙_}
 use native.Mathlib.Omega.{arith}
 use denote.Ref.{now}
 use Rattle.ring.specs.Ring.{around}
-use Rattle.cbor.specs.Around as cbor
 use Rattle.ring.proofs.Around.{around-length}
 use Rattle.messages.specs.Reading.{ended, itemEnd}
 use Rattle.messages.proofs.Steps.{item-past}
@@ -18,7 +17,7 @@ returns c = let a = c .before .before .args in
     item-past (around (now (a .s)) (a .from) (a .n)) (a .d) (a .at) (omega arith)
 
 returns-2 : tie.Need-returns-2
-unfolding itemEnd around cbor.around
+unfolding itemEnd
 returns-2 c = c .end-of .ensures ∙ ap ended (c .before .item-at .ensures)
 
 pub item-end-spec : {M : Type 1} → statement M
