@@ -1,0 +1,152 @@
+-- Feed (document 01, "Segments", and "Numbers and their order").
+use Prim.Native.Nat.{ℕ, suc, _+_, _-_}
+use mathlib.Core.Bool.{Bool, cond, _&&_}
+use mathlib.Core.List.{List, [], _∷_}
+use lib.Dec.{eqb, leb}
+use lib.ListN.{length, getD, set}
+use Rattle.ring.specs.Ring.{baseOf, laid}
+use Rattle.wire.specs.declared.segment.Header.{Header}
+use Rattle.wire.specs.Segments.{headerLength, empty, added, decoded}
+use Rattle.wire.specs.declared.instances.Side.{Side}
+use Rattle.wire.specs.declared.instances.Route.{Route}
+use Rattle.wire.specs.declared.instances.Route.the-variants.{Unknown, Wrong, To}
+use Rattle.wire.specs.Instances.{routeOf}
+use Rattle.connection.specs.declared.Receiving.{Receiving}
+use Rattle.connection.specs.declared.Connection.{Connection}
+use Rattle.connection.specs.declared.Closing.{Closing}
+use Rattle.connection.specs.declared.Closing.the-variants.{Bare, Of}
+use Rattle.connection.specs.declared.Gate.{Gate}
+use Rattle.connection.specs.declared.Gate.the-variants.{Open, Closed}
+use Rattle.connection.specs.Closings.{numberOf, isOpen}
+use Rattle.connection.specs.Parts.{withReceiving}
+use Rattle.connection.specs.Ranges.{inRange, receiveStoreOk}
+use Rattle.feeding.specs.declared.Admission.{Admission}
+use Rattle.feeding.specs.declared.Admission.the-variants.{Fault, Payload}
+use Rattle.feeding.specs.declared.Fed.{Fed}
+
+-- What feed changes: what was received, the gate, and the receive store.
+pub record State : Type 0 where
+  pub receiving : Receiving
+  pub gate : Gate
+  pub store : List ℕ
+
+-- ---- a header
+
+-- At the eighth byte: an unknown number gives 11; a segment with the mode of our own side gives 12; held bytes plus n
+-- above the receive capacity gives 13; and else a payload of n bytes begins.
+abbrev pub admitted : List ℕ → List ℕ → ℕ → Route → Admission
+admitted caps held n Unknown = Fault (Bare 11)
+admitted caps held n (Wrong i) = Fault (Of 12 i)
+admitted caps held n (To i) = cond (leb (getD held i 0 + n) (getD caps i 0)) (Payload i n) (Fault (Of 13 i))
+
+-- what a whole header leads to
+unfoldable pub admission : Side → List ℕ → List ℕ → Header → Admission
+admission side caps held h =
+    let d = decoded (h .bytes) in
+    admitted caps held (d .len) (routeOf side (d .protocol) (d .mode))
+
+-- a payload's instance while bytes of it are to come, else 0
+abbrev pub instanceFor : ℕ → ℕ → ℕ
+instanceFor rest i = cond (eqb rest 0) 0 i
+
+abbrev pub withHeader : Receiving → Header → Receiving
+withHeader r h = record { starts = r .starts; held = r .held; header = h; instance = r .instance; rest = r .rest }
+
+-- The three faults close the connection, and each way the header record is emptied.
+abbrev pub settled : State → Admission → State
+settled s (Fault x) = record { receiving = withHeader (s .receiving) empty; gate = Closed x; store = s .store }
+settled s (Payload i n) =
+    record {
+      receiving =
+          record { starts = s .receiving .starts; held = s .receiving .held; header = empty; instance = instanceFor n i; rest = n };
+      gate = s .gate;
+      store = s .store;
+    }
+
+-- one byte of a header
+unfoldable pub headed : Side → List ℕ → State → ℕ → State
+headed side caps s b =
+    let h = added (s .receiving .header) b in
+    cond (leb headerLength (h .count)) (settled s (admission side caps (s .receiving .held) h))
+    (record { receiving = withHeader (s .receiving) h; gate = s .gate; store = s .store })
+
+-- ---- a payload
+
+-- bytes of the payload under way are held: they follow those that are held, in the stream of the instance
+unfoldable pub kept : List ℕ → State → List ℕ → State
+kept caps s xs =
+    let r = s .receiving in
+    let i = r .instance in
+    let held = getD (r .held) i 0 in
+    let rest = r .rest - length xs in
+    record {
+      receiving =
+          record {
+            starts = r .starts;
+            held = set (r .held) i (held + length xs);
+            header = r .header;
+            instance = instanceFor rest i;
+            rest = rest;
+          };
+      gate = s .gate;
+      store = laid (s .store) (baseOf caps i) (getD caps i 0) (getD (r .starts) i 0 + held) xs;
+    }
+
+-- ---- bytes
+
+-- One byte: of the payload under way, else of a header. A closed connection takes nothing.
+unfoldable pub step : Side → List ℕ → State → ℕ → State
+step side caps s b =
+    cond (isOpen (s .gate)) (cond (eqb (s .receiving .rest) 0) (headed side caps s b) (kept caps s (b ∷ []))) s
+
+-- a run: its bytes one after the other
+unfoldable pub fed : Side → List ℕ → State → List ℕ → State
+fed side caps s [] = s
+fed side caps s (b ∷ bs) = fed side caps (step side caps s b) bs
+
+-- how many of them are used: those up to the byte that closes
+unfoldable pub used : Side → List ℕ → State → List ℕ → ℕ
+used side caps s [] = 0
+used side caps s (b ∷ bs) = cond (isOpen (s .gate)) (suc (used side caps (step side caps s b) bs)) 0
+
+-- ---- a call
+
+-- the number of the closing that is left, or 0
+abbrev pub left : Gate → ℕ
+left Open = 0
+left (Closed x) = numberOf x
+
+-- an answer, and the store as the call leaves it
+pub record Told : Type 0 where
+  pub answer : Fed
+  pub store : List ℕ
+
+abbrev pub told : Fed → List ℕ → Told
+told r st = record { answer = r; store = st }
+
+-- record and store as they were given
+abbrev pub refused : ℕ → Connection → List ℕ → Told
+refused n c st = told (record { number = n; used = 0; connection = c }) st
+
+abbrev pub given : Connection → List ℕ → State
+given c st = record { receiving = c .receiving; gate = c .gate; store = st }
+
+abbrev pub accepted : Connection → ℕ → State → Told
+accepted c n s =
+    told (record { number = left (s .gate); used = n; connection = withReceiving c (s .receiving) (s .gate) }) (s .store)
+
+-- the record is in range and the receive store, of n bytes, as long as it says
+abbrev pub fits : Connection → ℕ → Bool
+fits c n = inRange c && receiveStoreOk (c .settings) n
+
+-- the bytes, from record and store as given
+unfoldable pub taken : Connection → List ℕ → List ℕ → Told
+taken c st xs =
+    let side = c .settings .side in
+    let caps = c .settings .receive in
+    let s = given c st in
+    accepted c (used side caps s xs) (fed side caps s xs)
+
+-- Feed: 23; 20 (also for no bytes); and else the bytes.
+unfoldable pub feedOf : Connection → List ℕ → List ℕ → Told
+feedOf c st xs = cond (fits c (length st)) (cond (isOpen (c .gate)) (taken c st xs) (refused 20 c st)) (refused 23 c st)

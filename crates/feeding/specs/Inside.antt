@@ -1,0 +1,76 @@
+-- What only this crate's own functions cite.
+use Prim.Native.Nat.{ℕ, _+_, _-_, _≤_, _<_}
+use mathlib.Core.Path.{_≡_}
+use mathlib.Core.Bool.{true}
+use mathlib.Core.List.{List}
+use lib.ListN.{length, getD, drop}
+use Rattle.ring.specs.Ring.{together, run}
+use Rattle.wire.specs.declared.instances.Side.{Side}
+use Rattle.wire.specs.Instances.{instances}
+use Rattle.connection.specs.declared.Gate.{Gate}
+use Rattle.connection.specs.declared.Gate.the-variants.{Open}
+use Rattle.feeding.specs.declared.Admission.{Admission}
+use Rattle.feeding.specs.declared.Way.{Way}
+use Rattle.feeding.specs.declared.Turn.{Turn}
+use Rattle.feeding.specs.Feeding.{State, settled, headed, kept, fed, used}
+
+-- the state by its parts
+abbrev pub state : List ℕ → List ℕ → Way → Gate → List ℕ → State
+state starts held w g store =
+    record {
+      receiving = record { starts = starts; held = held; header = w .header; instance = w .instance; rest = w .rest };
+      gate = g;
+      store = store;
+    }
+
+-- What of the range feeding rests on: the store is its areas, each with its start; and there is room for the payload under way.
+pub record Ready (caps : List ℕ) (s : State) : Type 0 where
+  pub areas : length (s .store) ≡ together caps
+  pub wide : length caps ≡ instances
+  pub many : length (s .receiving .held) ≡ instances
+  pub each : (i : ℕ) → i < instances → (getD (s .receiving .starts) i 0 < getD caps i 0) × (getD caps i 0 ≤ 131072)
+  pub under : 0 < s .receiving .rest
+      → (s .receiving .instance < instances)
+      × (getD (s .receiving .held) (s .receiving .instance) 0 + s .receiving .rest ≤ getD caps (s .receiving .instance) 0)
+
+-- an area of a store of n bytes
+pub record Area (caps : List ℕ) (i n : ℕ) : Type 0 where
+  pub areas : n ≡ together caps
+  pub wide : length caps ≡ instances
+  pub inside : i < instances
+  pub some : 0 < getD caps i 0
+  pub small : (j : ℕ) → j < instances → getD caps j 0 ≤ 131072
+
+-- the area of a payload under way, which has room for it
+pub record Under (caps starts held : List ℕ) (w : Way) (n : ℕ) : Type 0 where
+  pub area : Area caps (w .instance) n
+  pub start : getD starts (w .instance) 0 < 131072
+  pub more : 0 < w .rest
+  pub room : getD held (w .instance) 0 + w .rest ≤ getD caps (w .instance) 0
+  pub small : getD caps (w .instance) 0 ≤ 131072
+
+-- a turn uses one byte and leads to the state that a whole header does, and a header byte
+pub record Settles (w : Way) (a : Admission) (t : Turn) : Type 0 where
+  pub one : t .used ≡ 1
+  pub leaves : (starts held store : List ℕ) → state starts held (t .way) (t .gate) store ≡ settled (state starts held w Open store) a
+
+pub record Heads (side : Side) (caps held : List ℕ) (w : Way) (b : ℕ) (t : Turn) : Type 0 where
+  pub one : t .used ≡ 1
+  pub leaves : (starts store : List ℕ) → state starts held (t .way) (t .gate) store ≡ headed side caps (state starts held w Open store) b
+
+-- a turn uses as many bytes of the run xs from `at` on as it says, at least one, and keeps them
+pub record Keeps (caps starts held held′ : List ℕ) (w : Way) (store store′ xs : List ℕ) (at : ℕ) (t : Turn) : Type 0 where
+  pub some : 0 < t .used
+  pub ends : at + t .used ≤ length xs
+  pub within : t .used ≤ w .rest
+  pub leaves : state starts held′ (t .way) (t .gate) store′ ≡ kept caps (state starts held w Open store) (run xs at (t .used))
+
+-- a turn leads to a state from which the bytes that are left to feed leave what they would have left before it
+pub record Turns (side : Side) (caps starts held held′ : List ℕ) (w : Way) (store store′ xs : List ℕ) (at : ℕ) (t : Turn) : Type 0 where
+  pub some : 0 < t .used
+  pub ends : at + t .used ≤ length xs
+  pub leaves : fed side caps (state starts held w Open store) (drop at xs)
+      ≡ fed side caps (state starts held′ (t .way) (t .gate) store′) (drop (at + t .used) xs)
+  pub counts : used side caps (state starts held w Open store) (drop at xs)
+      ≡ t .used + used side caps (state starts held′ (t .way) (t .gate) store′) (drop (at + t .used) xs)
+  pub ready : Ready caps (state starts held′ (t .way) (t .gate) store′)

@@ -1,0 +1,352 @@
+// Feed: a run of bytes, cut anywhere, goes into the receive store, segment by segment.
+//
+// What a run means is said byte by byte. The code takes header bytes one by one and payload bytes in runs. The range
+// is tested once for a call, the room once for a segment, and the record is put together once, at the end.
+use connection::Closing;
+use connection::Connection;
+use connection::Gate;
+use connection::Receiving;
+use wire::instances::INSTANCES;
+use wire::instances::Route;
+use wire::instances::Side;
+use wire::segment::Header;
+ghost use mathlib.Core.Path.{_≡_};
+ghost use mathlib.Core.Bool.{true};
+ghost use Prim.Native.Nat.{_+_, _-_, _≤_, _<_, min};
+ghost use lib.ListN.{length, getD};
+ghost use Rattle.ring.specs.Ring.{baseOf, laid, run};
+ghost use Rattle.wire.specs.Instances.{instances};
+ghost use Rattle.wire.specs.declared.instances.Route.the-variants.{To};
+ghost use Rattle.connection.specs.declared.Gate.the-variants.{Open};
+ghost use Rattle.connection.specs.Closings.{numberOf};
+ghost use Rattle.feeding.specs.Feeding.{admitted, admission, instanceFor, left, fits, fed, used, told, taken, feedOf};
+ghost use Rattle.feeding.specs.Inside.{state, Ready, Area, Under, Settles, Heads, Keeps, Turns};
+
+// What a whole header leads to: a fault, or a payload for an instance and how many bytes it has.
+pub enum Admission {
+    Fault(Closing),
+    Payload(u64, u64),
+}
+
+// What changes from turn to turn: the header record; and of a payload under way, its instance and the bytes to come.
+struct Way {
+    header: Header,
+    instance: u64,
+    rest: u64,
+}
+
+// What a turn leads to, and how many bytes it used.
+struct Turn {
+    way: Way,
+    gate: Gate,
+    used: usize,
+}
+
+// A segment with the mode of our own side.
+fn wrong(i: usize) -> Admission
+    ensures { λ r. ⌜ r ≡ Admission.Fault (Closing.Of 12 i) ⌝ }
+{
+    Admission::Fault(Closing::Of(12, i as u64))
+}
+
+// Whether there is room for n bytes more: asked once for a segment.
+fn room(caps: &[u64; INSTANCES], held: &[u64; INSTANCES], n: u64, i: usize) -> Admission
+    requires { ⌜ i < instances ⌝ }
+    ensures { λ r. ⌜ r ≡ admitted (now (caps .entry)) (now (held .entry)) n (To i) ⌝ }
+{
+    if connection::range::fits(held[i], n, caps[i]) {
+        return Admission::Payload(i as u64, n);
+    }
+    Admission::Fault(Closing::Of(13, i as u64))
+}
+
+// What a whole header leads to.
+fn admit(side: Side, caps: &[u64; INSTANCES], held: &[u64; INSTANCES], h: Header) -> Admission
+    ensures { λ r. ⌜ r ≡ admission side (now (caps .entry)) (now (held .entry)) h ⌝ }
+{
+    let d = h.segment();
+    let route = wire::instances::find(side, d.protocol, d.mode);
+    let n = d.len as u64;
+    match route {
+        Route::Unknown => Admission::Fault(Closing::Bare(11)),
+        Route::Wrong(i) => wrong(i),
+        Route::To(i) => room(caps, held, n, i),
+    }
+}
+
+// A payload's instance while bytes of it are to come.
+fn instance_for(rest: u64, i: u64) -> u64
+    ensures { λ r. ⌜ r ≡ instanceFor rest i ⌝ }
+{
+    if rest == 0 { 0 } else { i }
+}
+
+// The connection is closed, and the header record emptied.
+fn shut(w: Way, x: Closing) -> Turn
+    ensures { λ r. ⌜ Settles w (Admission.Fault x) r ⌝ }
+{
+    let way = Way {
+        header: Header::empty(),
+        instance: w.instance,
+        rest: w.rest,
+    };
+    Turn {
+        way,
+        gate: Gate::Closed(x),
+        used: 1,
+    }
+}
+
+// A payload of n bytes begins.
+fn begin(w: Way, i: u64, n: u64) -> Turn
+    ensures { λ r. ⌜ Settles w (Admission.Payload i n) r ⌝ }
+{
+    let way = Way {
+        header: Header::empty(),
+        instance: instance_for(n, i),
+        rest: n,
+    };
+    Turn {
+        way,
+        gate: Gate::Open,
+        used: 1,
+    }
+}
+
+fn settle(w: Way, a: Admission) -> Turn
+    ensures { λ r. ⌜ Settles w a r ⌝ }
+{
+    match a {
+        Admission::Fault(x) => shut(w, x),
+        Admission::Payload(i, n) => begin(w, i, n),
+    }
+}
+
+// One byte of a header.
+fn header_byte(side: Side, caps: &[u64; INSTANCES], held: &[u64; INSTANCES], w: Way, b: u8) -> Turn
+    ensures { λ r. ⌜ Heads side (now (caps .entry)) (now (held .entry)) w b r ⌝ }
+{
+    let old = w.header;
+    let header = old.add(b);
+    if header.whole() {
+        return settle(w, admit(side, caps, held, header));
+    }
+    let way = Way {
+        header,
+        instance: w.instance,
+        rest: w.rest,
+    };
+    Turn {
+        way,
+        gate: Gate::Open,
+        used: 1,
+    }
+}
+
+// Lays k bytes of input from place `at` on as byte n of the stream of instance i and those that follow it.
+fn lay(
+    caps: &[u64; INSTANCES],
+    i: usize,
+    n: u64,
+    store: &mut [u8],
+    input: &[u8],
+    at: usize,
+    k: usize,
+)
+    requires { ⌜ Area (now caps) i (length (now store)) × (k ≤ getD (now caps) i 0) × (at + k ≤ length (now input)) ⌝ }
+    ensures { λ _. ⌜ now (store .exit) ≡ laid (now (store .entry)) (baseOf (now (caps .entry)) i) (getD (now (caps .entry)) i 0) n (run (now (input .entry)) at k) ⌝ }
+{
+    let base = ring::base_of(caps, i);
+    let cap = caps[i] as usize;
+    ring::write(store, base, cap, n as usize, input, at, k);
+}
+
+// The smaller of two numbers.
+fn smaller(a: u64, b: usize) -> usize
+    ensures { λ r. ⌜ r ≡ min a b ⌝ }
+{
+    if a < b as u64 { a as usize } else { b }
+}
+
+// As many bytes of the payload under way as there are from place `at` on.
+fn payload(
+    caps: &[u64; INSTANCES],
+    starts: &[u64; INSTANCES],
+    held: &mut [u64; INSTANCES],
+    w: Way,
+    store: &mut [u8],
+    input: &[u8],
+    at: usize,
+) -> Turn
+    requires { ⌜ Under (now caps) (now starts) (now held) w (length (now store)) × (at < length (now input)) ⌝ }
+    ensures { λ r. ⌜ Keeps (now (caps .entry)) (now (starts .entry)) (now (held .entry)) (now (held .exit)) w (now (store .entry)) (now (store .exit)) (now (input .entry)) at r ⌝ }
+{
+    let i = w.instance as usize;
+    let n = smaller(w.rest, input.len() - at);
+    lay(caps, i, starts[i] + held[i], store, input, at, n);
+    held[i] = held[i] + n as u64;
+    let rest = w.rest - n as u64;
+    let header = w.header;
+    let way = Way {
+        header,
+        instance: instance_for(rest, w.instance),
+        rest,
+    };
+    Turn {
+        way,
+        gate: Gate::Open,
+        used: n,
+    }
+}
+
+// Of the payload under way as many bytes as there are, else one byte of a header.
+fn part(
+    side: Side,
+    caps: &[u64; INSTANCES],
+    starts: &[u64; INSTANCES],
+    held: &mut [u64; INSTANCES],
+    w: Way,
+    store: &mut [u8],
+    input: &[u8],
+    at: usize,
+) -> Turn
+    requires { ⌜ Ready (now caps) (state (now starts) (now held) w Open (now store)) ⌝ }
+    requires { ⌜ at < length (now input) ⌝ }
+    ensures { λ r. ⌜ Turns side (now (caps .entry)) (now (starts .entry)) (now (held .entry)) (now (held .exit)) w (now (store .entry)) (now (store .exit)) (now (input .entry)) at r ⌝ }
+{
+    if w.rest == 0 {
+        return header_byte(side, caps, held, w, input[at]);
+    }
+    payload(caps, starts, held, w, store, input, at)
+}
+
+// All of input, or up to the byte that closes; used counts from its front.
+fn turns(
+    side: Side,
+    caps: &[u64; INSTANCES],
+    starts: &[u64; INSTANCES],
+    held: &mut [u64; INSTANCES],
+    w: Way,
+    store: &mut [u8],
+    input: &[u8],
+) -> Turn
+    requires { ⌜ Ready (now caps) (state (now starts) (now held) w Open (now store)) ⌝ }
+    ensures { λ r. ⌜ state (now (starts .entry)) (now (held .exit)) (r .way) (r .gate) (now (store .exit)) ≡ fed side (now (caps .entry)) (state (now (starts .entry)) (now (held .entry)) w Open (now (store .entry))) (now (input .entry)) ⌝ }
+    ensures { λ r. ⌜ r .used ≡ used side (now (caps .entry)) (state (now (starts .entry)) (now (held .entry)) w Open (now (store .entry))) (now (input .entry)) ⌝ }
+{
+    let mut way = w;
+    let mut at: usize = 0;
+    while at < input.len() {
+        let t = part(side, caps, starts, held, way, store, input, at);
+        way = t.way;
+        at += t.used;
+        let gate = t.gate;
+        if !connection::parts::is_open(gate) {
+            return Turn {
+                way,
+                gate,
+                used: at,
+            };
+        }
+    }
+    Turn {
+        way,
+        gate: Gate::Open,
+        used: at,
+    }
+}
+
+// The number of the closing that is left, or 0.
+fn number_left(g: Gate) -> u64
+    ensures { λ r. ⌜ r ≡ left g ⌝ }
+{
+    match g {
+        Gate::Open => 0,
+        Gate::Closed(x) => number_of(x),
+    }
+}
+
+fn number_of(x: Closing) -> u64
+    ensures { λ r. ⌜ r ≡ numberOf x ⌝ }
+{
+    match x {
+        Closing::Bare(n) => n,
+        Closing::Of(n, _) => n,
+    }
+}
+
+// Feed's answer: the number, how many bytes were used, and the record.
+pub struct Fed {
+    pub number: u64,
+    pub used: usize,
+    pub connection: Connection,
+}
+
+// Whether record and store are in range.
+fn fitting(c: Connection, n: usize) -> bool
+    ensures { λ r. ⌜ r ≡ fits c n ⌝ }
+{
+    if !connection::range::in_range(c) {
+        return false;
+    }
+    let settings = c.settings;
+    let caps = settings.receive;
+    n == connection::range::together(caps)
+}
+
+// The bytes of an open connection in range.
+fn taken(c: Connection, store: &mut [u8], input: &[u8]) -> Fed
+    requires { ⌜ (fits c (length (now store)) ≡ true) × (c .gate ≡ Open) ⌝ }
+    ensures { λ r. ⌜ told r (now (store .exit)) ≡ taken c (now (store .entry)) (now (input .entry)) ⌝ }
+{
+    let settings = c.settings;
+    let side = settings.side;
+    let caps = settings.receive;
+    let r = c.receiving;
+    let starts = r.starts;
+    let mut held = r.held;
+    let header = r.header;
+    let way = Way {
+        header,
+        instance: r.instance,
+        rest: r.rest,
+    };
+    let t = turns(side, &caps, &starts, &mut held, way, store, input);
+    let gate = t.gate;
+    let w = t.way;
+    let header = w.header;
+    let receiving = Receiving {
+        starts,
+        held,
+        header,
+        instance: w.instance,
+        rest: w.rest,
+    };
+    Fed {
+        number: number_left(gate),
+        used: t.used,
+        connection: connection::parts::with_receiving(c, receiving, gate),
+    }
+}
+
+// Feeds a run of bytes.
+pub fn feed(c: Connection, store: &mut [u8], input: &[u8]) -> Fed
+    ensures { λ r. ⌜ told r (now (store .exit)) ≡ feedOf c (now (store .entry)) (now (input .entry)) ⌝ }
+{
+    if !fitting(c, store.len()) {
+        return Fed {
+            number: 23,
+            used: 0,
+            connection: c,
+        };
+    }
+    let gate = c.gate;
+    if !connection::parts::is_open(gate) {
+        return Fed {
+            number: 20,
+            used: 0,
+            connection: c,
+        };
+    }
+    taken(c, store, input)
+}
