@@ -1,0 +1,59 @@
+-- How many elements stand end to end: what is counted stands there.
+-- Assumes nothing.
+use Prim.Native.Nat.{ℕ, zero, suc, _+_, _≤_, _<_}
+use mathlib.Core.Path.{_≡_, refl, sym, ap, subst, subst⁻¹, _∙_}
+use mathlib.Core.Bool.{Bool, true, false, cond}
+use mathlib.Core.List.{List}
+use mathlib.Core.Option.{Option, none, some}
+use native.Mathlib.Omega.{arith}
+use lib.Dec.{eqb}
+use lib.ListN.{length}
+use borrow.Author.Tests.{eqb-true}
+use Rattle.base.proofs.Conds.{cond-cases}
+use Rattle.messages.specs.declared.elements.Number.{Number}
+use Rattle.messages.specs.declared.elements.Number.the-variants.{Is, Not}
+use Rattle.messages.specs.Reading.{onNumber}
+use Rattle.messages.proofs.ElementLaws.{Numbers, number-cases}
+use Rattle.build.specs.Made.{onSome, howMany}
+
+-- what holds of what is found
+abbrev pub Found : {A : Type 0} → (A → Type 0) → Option A → Type 0
+Found R none = Unit {0}
+Found R (some a) = R a
+
+pub some-cases : {A B : Type 0} (P : Option B → Type 0) {R : A → Type 0} (k : A → Option B) (o : Option A) → Found R o → P none
+    → ((a : A) → R a → P (k a)) → P (onSome o k)
+some-cases P k none r x f = x
+some-cases P k (some a) r x f = f a r
+
+-- Elements of a run are what R says, for what the one before left: none at the end, or one and then others.
+module _ (next : ℕ → ℕ → Number) (n : ℕ) (R : ℕ → ℕ → ℕ → ℕ → Type 0) (S : ℕ → ℕ → ℕ → ℕ → Type 0)
+    (sound : (left p : ℕ) → p ≤ n → Numbers (λ l q. S left p l q × (q ≤ n)) (next left p))
+    (end : (left : ℕ) → R left 0 n n) (more : (left p l q k : ℕ) → S left p l q → R l k q n → R left (suc k) p n) where
+  pub count-sound : (bytes left p : ℕ) → p ≤ n → Found (λ k. R left k p n) (howMany next n bytes left p)
+  unfolding howMany
+  count-sound zero left p h =
+      cond-cases (Found (λ k. R left k p n)) (eqb p n) (λ t. subst⁻¹ (λ (p : ℕ). R left 0 p n) (eqb-true p n t) (end left)) (λ _. tt)
+  count-sound (suc bytes) left p h =
+      let P : Option ℕ → Type 0 = Found (λ k. R left k p n) in
+      cond-cases P (eqb p n) (λ t. subst⁻¹ (λ (p : ℕ). R left 0 p n) (eqb-true p n t) (end left))
+      (λ _.
+      number-cases P (λ l q. onSome (howMany next n bytes l q) (λ k. some (k + 1))) (next left p) (sound left p h) tt
+      (λ l q (s, i).
+      some-cases P (λ k. some (k + 1)) (howMany next n bytes l q) (count-sound bytes l q i) tt
+      (λ k r. let e : suc k ≡ k + 1 = omega arith in subst (λ (j : ℕ). R left j p n) e (more left p l q k s r))))
+
+-- there are no more elements than bytes
+pub count-small : (next : ℕ → ℕ → Number) (n bytes left p : ℕ) → Found (λ k. k ≤ bytes) (howMany next n bytes left p)
+unfolding howMany
+count-small next n zero left p = cond-cases (Found (λ k. k ≤ 0)) (eqb p n) (λ _. omega arith) (λ _. tt)
+count-small next n (suc bytes) left p =
+    let P : Option ℕ → Type 0 = Found (λ k. k ≤ suc bytes) in
+    cond-cases P (eqb p n) (λ _. omega arith)
+    (λ _.
+    number-cases P {R = λ l q. Unit {0}} (λ l q. onSome (howMany next n bytes l q) (λ k. some (k + 1))) (next left p) (any (next left p)) tt
+    (λ l q _. some-cases P (λ k. some (k + 1)) (howMany next n bytes l q) (count-small next n bytes l q) tt (λ k h. omega arith)))
+  where
+    any : (m : Number) → Numbers (λ l q. Unit {0}) m
+    any (Is v q) = tt
+    any Not = tt

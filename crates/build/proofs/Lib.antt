@@ -1,0 +1,4 @@
+pub mod Shift
+pub mod Counting
+pub mod Written
+pub mod Theorem

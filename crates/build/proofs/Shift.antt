@@ -1,0 +1,51 @@
+-- What stands in a part stands in the whole, as many places further on as there are bytes in front.
+-- Assumes nothing.
+use Prim.Native.Nat.{ℕ, zero, suc, _+_, _≤_, _<_}
+use mathlib.Core.Path.{_≡_, refl, sym, ap, subst, _∙_}
+use mathlib.Core.List.{List, [], _∷_, _++_}
+use native.Mathlib.Omega.{arith}
+use lib.ListN.{length, drop, length-append}
+use lib.Seq.{drop-append-add, drop-append-le, drop-append-seam}
+use Rattle.head.specs.Read.{headAt}
+use Rattle.head.specs.declared.read.Head.{Head}
+use Rattle.head.specs.declared.read.Head.the-variants.{Definite, Short}
+use Rattle.head.proofs.ReadLaws.{moved, head-longer, head-moved}
+use Rattle.item.specs.Grammar.{Frame, Reads}
+use Rattle.item.proofs.Local.{longer}
+use Rattle.messages.specs.Matching.{Stands, PairsAt, no-pair, pair, VersionsAt, no-version, version}
+
+module _ (xs bs ys : List ℕ) where
+  abbrev whole : List ℕ
+  whole = xs ++ (bs ++ ys)
+
+  pub head-shift : (p : ℕ) {m v q : ℕ} → headAt bs p ≡ Definite m v q → headAt whole (length xs + p) ≡ Definite m v (length xs + q)
+  unfolding moved
+  head-shift p {m} {v} {q} e =
+      head-moved whole (length xs) (omega (arith, length-append xs (bs ++ ys))) p
+      ∙ ap (λ (l : List ℕ). moved (length xs) (headAt l p)) (drop-append-seam xs (bs ++ ys))
+      ∙ ap (moved (length xs)) (head-longer bs ys p (λ s. clash (sym s ∙ e)) ∙ e)
+    where
+      clash : {m v q : ℕ} → Short ≡ Definite m v q → ⊥
+      clash z = let w : _≡_ {A = ℕ} 0 1 = cc in omega arith
+
+  drop-shift : (p : ℕ) → p ≤ length bs → drop (length xs + p) whole ≡ drop p bs ++ ys
+  drop-shift p h = drop-append-add xs (bs ++ ys) p ∙ drop-append-le p bs ys h
+
+  pub shift : {d : ℕ} {f : Frame} {p q : ℕ} → Stands bs d f p q → Stands whole d f (length xs + p) (length xs + q)
+  shift {d} {f} {p} {q} s =
+      let l : p ≤ length bs = omega (arith, s .forward, s .inside) in
+      record {
+        forward = omega (arith, s .forward);
+        inside = omega (arith, s .inside, length-append xs (bs ++ ys), length-append bs ys);
+        reads =
+            subst (λ (l : List ℕ). Reads d f l (drop (length xs + q) whole)) (sym (drop-shift p l))
+            (subst (λ (l : List ℕ). Reads d f (drop p bs ++ ys) l) (sym (drop-shift q (s .inside))) (longer ys (s .reads)));
+      }
+
+  pub pairs-shift : {k p q : ℕ} → PairsAt bs k p q → PairsAt whole k (length xs + p) (length xs + q)
+  pairs-shift no-pair = no-pair
+  pairs-shift (pair {p = p} {b = b} o i u l r) = pair (head-shift p o) (shift i) (head-shift b u) l (pairs-shift r)
+
+  pub versions-shift : {low k p q : ℕ} → VersionsAt bs low k p q → VersionsAt whole low k (length xs + p) (length xs + q)
+  versions-shift no-version = no-version
+  versions-shift (version {p = p} u l h i r) = version (head-shift p u) l h (shift i) (versions-shift r)

@@ -1,0 +1,177 @@
+-- A field that is made stands where it is put, and says what it was made of.
+-- Assumes nothing.
+use Prim.Native.Nat.{ℕ, zero, suc, _+_, _-_, _^_, _≤_, _<_}
+use mathlib.Core.Path.{_≡_, refl, sym, ap, subst, subst⁻¹, _∙_}
+use mathlib.Core.Bool.{Bool, true, false, cond}
+use mathlib.Core.List.{List, [], _∷_, _++_, append-assoc}
+use mathlib.Core.Option.{Option, none, some}
+use native.Mathlib.Omega.{arith}
+use lib.Dec.{eqb, ltb}
+use lib.ListN.{length, getD, take, drop, length-append}
+use lib.Seq.{take-at, drop-at, getD-append-seam}
+use borrow.Author.Tests.{eqb-true, ltb-true}
+use Rattle.base.proofs.Conds.{cond-cases}
+use Rattle.ring.specs.Ring.{run}
+use Rattle.head.specs.Read.{headAt}
+use Rattle.head.specs.declared.read.Head.the-variants.{Definite}
+use Rattle.head.specs.Write.{shortest}
+use Rattle.head.proofs.WriteLaws.{reads-back}
+use Rattle.item.specs.Grammar.{Frame}
+use Rattle.messages.specs.declared.forms.Field.{Field}
+use Rattle.messages.specs.declared.forms.Field.the-variants as field
+use Rattle.messages.specs.declared.elements.Number.the-variants.{Is, Not}
+use Rattle.messages.specs.Matching.{Value, number, place, Stands, ItemAt, ItemsAt, Opens, UnsignedAt, array, map, versions, words, False, True, inMessage, inList, PairsAt, no-pair, pair, VersionsAt, no-version, version, FieldAt}
+use Rattle.messages.specs.Matching as matching
+use Rattle.messages.specs.Reading.{itemEnd, pairEnd, versionAt}
+use Rattle.messages.proofs.ElementLaws.{Ends, end-cases, number-cases, Numbers, item-sound, pair-sound, version-sound, none-at, item-then, number-item}
+use Rattle.build.specs.Made.{onSome, howMany, elementsOf, nextItem, nextPair, nextVersion, oneItem, headed, limited, truth, ofNumber, ofRun}
+use Rattle.build.proofs.Shift.{head-shift, shift, pairs-shift, versions-shift}
+use Rattle.build.proofs.Counting.{Found, some-cases, count-sound, count-small}
+
+-- ---- numbers
+
+-- the bytes cs are the field f, which says the number v, wherever they stand
+abbrev pub Says : Field → ℕ → List ℕ → Type 0
+Says f v cs = (xs ys : List ℕ) → FieldAt (xs ++ (cs ++ ys)) f (length xs) (number v) (length xs + length cs)
+
+limited-says : (f : Field) (limit v : ℕ) → limit ≤ 2 ^ 32
+    → ((bs : List ℕ) (p q : ℕ) → UnsignedAt bs p v q → v < limit → FieldAt bs f p (number v) q) → Found (Says f v) (limited limit v)
+limited-says f limit v h k =
+    cond-cases (Found (Says f v)) (ltb v limit)
+    (λ t xs ys.
+    let low : v < limit = ltb-true v limit t in
+    k (xs ++ (shortest 0 v ++ ys)) (length xs) (length xs + length (shortest 0 v)) (reads-back 0 v xs ys (omega arith) (omega arith)) low)
+    (λ _. tt)
+
+truth-says : (v : ℕ) → Found (Says field.Bool v) (truth v)
+truth-says v =
+    cond-cases (Found (Says field.Bool v)) (eqb v 0)
+    (λ t xs ys. subst⁻¹ (λ (v : ℕ). FieldAt (xs ++ (False ∷ ys)) field.Bool (length xs) (number v) (length xs + 1)) (eqb-true v 0 t) (matching.false (getD-append-seam xs False ys 0)))
+    (λ _.
+    cond-cases (Found (Says field.Bool v)) (eqb v 1)
+    (λ t xs ys. subst⁻¹ (λ (v : ℕ). FieldAt (xs ++ (True ∷ ys)) field.Bool (length xs) (number v) (length xs + 1)) (eqb-true v 1 t) (matching.true (getD-append-seam xs True ys 0)))
+    (λ _. tt))
+
+pub number-says : (f : Field) (v : ℕ) → Found (Says f v) (ofNumber f v)
+number-says field.Item v = tt
+number-says field.Items v = tt
+number-says field.Pairs v = tt
+number-says field.Versions v = tt
+number-says field.Word v = limited-says field.Word words v (omega arith) (λ bs p q u l. matching.word u l)
+number-says field.Bool v = truth-says v
+number-says field.Version v = limited-says field.Version versions v (omega arith) (λ bs p q u l. matching.a-version u l)
+
+-- ---- runs
+
+-- the bytes cs are the field f, whose item or elements are r, wherever they stand
+abbrev pub Holds : Field → List ℕ → List ℕ → Type 0
+Holds f r cs =
+    (xs ys : List ℕ)
+    → (a : ℕ) × (l : ℕ) × FieldAt (xs ++ (cs ++ ys)) f (length xs) (place a l) (length xs + length cs) × (run (xs ++ (cs ++ ys)) a l ≡ r)
+
+-- a run that stands behind others
+run-there : (xs r ys : List ℕ) (l : ℕ) → l ≡ length r → run (xs ++ (r ++ ys)) (length xs) l ≡ r
+run-there xs r ys l e = ap (take l) (drop-at xs (r ++ ys) (length xs) refl) ∙ take-at r ys l (sym e)
+
+item-holds : (r : List ℕ) → Found (Holds field.Item r) (oneItem r)
+item-holds r =
+    end-cases (Found (Holds field.Item r)) (λ q. cond (eqb q (length r)) (some r) none) (itemEnd r inMessage 0) (item-sound r inMessage 0 (omega arith)) tt
+    (λ q i.
+    cond-cases (Found (Holds field.Item r)) (eqb q (length r))
+    (λ t xs ys.
+    let p : ℕ = length xs in
+    let s : ItemAt (xs ++ (r ++ ys)) inMessage (p + 0) (p + length r) =
+    subst (λ (e : ℕ). ItemAt (xs ++ (r ++ ys)) inMessage (p + 0) (p + e)) (eqb-true q (length r) t) (shift xs r ys i) in
+    let z : p + 0 ≡ p = omega arith in
+    let s′ : ItemAt (xs ++ (r ++ ys)) inMessage p (p + length r) = subst (λ (n : ℕ). ItemAt (xs ++ (r ++ ys)) inMessage n (p + length r)) z s in
+    (p, p + length r - p, matching.item s′, run-there xs r ys (p + length r - p) (omega arith)))
+    (λ _. tt))
+
+-- a head and a run that is so many elements
+headed-holds : (f : Field) (major : ℕ) (r : List ℕ) (k : ℕ) → major < 7 → k < 2 ^ 64
+    → ((xs ys : List ℕ) (p : ℕ) → Opens (xs ++ (r ++ ys)) major p k (length xs) → FieldAt (xs ++ (r ++ ys)) f p (place (length xs) (length xs + length r - length xs)) (length xs + length r))
+    → Holds f r (shortest major k ++ r)
+headed-holds f major r k low small here xs ys =
+    let h : List ℕ = shortest major k in
+    let bs : List ℕ = (xs ++ h) ++ (r ++ ys) in
+    let same : bs ≡ xs ++ ((h ++ r) ++ ys) = append-assoc xs h (r ++ ys) ∙ ap (λ (l : List ℕ). xs ++ l) (sym (append-assoc h r ys)) in
+    let front : length (xs ++ h) ≡ length xs + length h = length-append xs h in
+    let both : length (h ++ r) ≡ length h + length r = length-append h r in
+    let opens : Opens bs major (length xs) k (length (xs ++ h)) =
+    ap (λ (l : List ℕ). headAt l (length xs)) (append-assoc xs h (r ++ ys)) ∙ reads-back major k xs (r ++ ys) low small ∙ ap (Definite major k) (sym front) in
+    let a : ℕ = length (xs ++ h) in
+    let l : ℕ = a + length r - a in
+    let next : a + length r ≡ length xs + length (h ++ r) = omega arith in (
+      a,
+      l,
+      subst (λ (bs : List ℕ). FieldAt bs f (length xs) (place a l) (length xs + length (h ++ r))) same
+          (subst (λ (q : ℕ). FieldAt bs f (length xs) (place a l) q) next (here (xs ++ h) ys (length xs) opens)),
+      ap (λ (bs : List ℕ). run bs a l) (sym same) ∙ run-there (xs ++ h) r ys l (omega arith),
+    )
+
+found-both : {A : Type 0} (R S : A → Type 0) (o : Option A) → Found R o → Found S o → Found (λ a. R a × S a) o
+found-both R S none r s = tt
+found-both R S (some a) r s = (r, s)
+
+-- a list or map whose elements stand in the run: R says so, and then the field stands behind its head
+list-holds : (f : Field) (major : ℕ) (r : List ℕ) (R : ℕ → Type 0) (o : Option ℕ) → major < 7 → length r < 2 ^ 64 → Found R o → Found (λ k. k ≤ length r) o
+    → ((k : ℕ) (xs ys : List ℕ) (p : ℕ) → R k → Opens (xs ++ (r ++ ys)) major p k (length xs)
+    → FieldAt (xs ++ (r ++ ys)) f p (place (length xs) (length xs + length r - length xs)) (length xs + length r))
+    → Found (Holds f r) (headed major r o)
+list-holds f major r R o low small s few here =
+    some-cases (Found (Holds f r)) (λ k. some (shortest major k ++ r)) o (found-both R (λ k. k ≤ length r) o s few) tt
+    (λ k (x, h). headed-holds f major r k low (omega arith) (λ xs ys p o. here k xs ys p x o))
+
+-- from the front of the run to its end, in the whole
+at-front : (xs r ys : List ℕ) {d : ℕ} {g : Frame} → Stands r d g 0 (length r) → Stands (xs ++ (r ++ ys)) d g (length xs) (length xs + length r)
+at-front xs r ys {d} {g} s =
+    let z : length xs + 0 ≡ length xs = omega arith in
+    subst (λ (n : ℕ). Stands (xs ++ (r ++ ys)) d g n (length xs + length r)) z (shift xs r ys s)
+
+items-count : (r : List ℕ) → Found (λ k. ItemsAt r inList k 0 (length r)) (elementsOf (nextItem r) r)
+items-count r =
+    count-sound (nextItem r) (length r) (λ left k p n. ItemsAt r inList k p n) (λ left p l q. ItemAt r inList p q)
+    (λ left p h.
+    end-cases (Numbers (λ l q. ItemAt r inList p q × (q ≤ length r))) (λ q. Is 0 q) (itemEnd r inList p) (item-sound r inList p h) tt
+    (λ q i. (i, i .inside)))
+    (λ left. none-at r (omega arith)) (λ left p l q k s rest. item-then r s rest) (length r) 0 0 (omega arith)
+
+pairs-count : (r : List ℕ) → Found (λ k. PairsAt r k 0 (length r)) (elementsOf (nextPair r) r)
+pairs-count r =
+    let S : ℕ → ℕ → ℕ → ℕ → Type 0 = λ left p l q. (k : ℕ) → PairsAt r k q (length r) → PairsAt r (suc k) p (length r) in
+    count-sound (nextPair r) (length r) (λ left k p n. PairsAt r k p n) S
+    (λ left p h.
+    end-cases (Numbers (λ l q. S left p l q × (q ≤ length r))) (λ q. Is 0 q) (pairEnd r p) (pair-sound r p) tt
+    (λ q (a, o, (b, i, (v, u, l))). (λ k rest. pair o i u l rest, number-item r {d = 0} u .inside)))
+    (λ left. no-pair) (λ left p l q k s rest. s k rest) (length r) 0 0 (omega arith)
+
+versions-count : (r : List ℕ) → Found (λ k. VersionsAt r 0 k 0 (length r)) (elementsOf (nextVersion r) r)
+versions-count r =
+    let S : ℕ → ℕ → ℕ → ℕ → Type 0 = λ low p l q. (k : ℕ) → VersionsAt r l k q (length r) → VersionsAt r low (suc k) p (length r) in
+    count-sound (nextVersion r) (length r) (λ low k p n. VersionsAt r low k p n) S
+    (λ low p h.
+    number-cases (Numbers (λ l q. S low p l q × (q ≤ length r))) (λ v q. Is (v + 1) q) (versionAt r low p) (version-sound r low p) tt
+    (λ v q (a, (u, l, l′), i). (λ k rest. version u l l′ i rest, i .inside)))
+    (λ low. no-version) (λ low p l q k s rest. s k rest) (length r) 0 0 (omega arith)
+
+pub run-holds : (f : Field) (r : List ℕ) → length r < 2 ^ 64 → Found (Holds f r) (ofRun f r)
+run-holds field.Item r small = item-holds r
+run-holds field.Items r small =
+    list-holds field.Items array r (λ k. ItemsAt r inList k 0 (length r)) (elementsOf (nextItem r) r) (omega arith) small (items-count r)
+    (count-small (nextItem r) (length r) (length r) 0 0)
+    (λ k xs ys p s o. matching.list o (at-front xs r ys s))
+run-holds field.Pairs r small =
+    list-holds field.Pairs array r (λ k. PairsAt r k 0 (length r)) (elementsOf (nextPair r) r) (omega arith) small (pairs-count r)
+    (count-small (nextPair r) (length r) (length r) 0 0)
+    (λ k xs ys p s o.
+    let z : length xs + 0 ≡ length xs = omega arith in
+    matching.pairs o (subst (λ (n : ℕ). PairsAt (xs ++ (r ++ ys)) k n (length xs + length r)) z (pairs-shift xs r ys s)))
+run-holds field.Versions r small =
+    list-holds field.Versions map r (λ k. VersionsAt r 0 k 0 (length r)) (elementsOf (nextVersion r) r) (omega arith) small (versions-count r)
+    (count-small (nextVersion r) (length r) (length r) 0 0)
+    (λ k xs ys p s o.
+    let z : length xs + 0 ≡ length xs = omega arith in
+    matching.version-map o (subst (λ (n : ℕ). VersionsAt (xs ++ (r ++ ys)) 0 k n (length xs + length r)) z (versions-shift xs r ys s)))
+run-holds field.Word r small = tt
+run-holds field.Bool r small = tt
+run-holds field.Version r small = tt
