@@ -1,0 +1,164 @@
+-- Faults: which byte closes a connection, and why.
+-- Assumes nothing.
+use mathlib.Core.Path.{_≡_, refl, sym, ap, _∙_, subst}
+use mathlib.Core.Bool.{Bool, true, false, true≢false, cond}
+use mathlib.Core.List.{List, [], _∷_, _++_}
+use Prim.Native.Nat.{ℕ, zero, suc, _+_, _≤_, _<_}
+use native.Mathlib.Omega.{arith}
+use borrow.Author.Tests.{le-leb, lt-leb, leb-true, leb-false, eqb-true, eqb-false}
+use lib.Dec.{eqb, leb}
+use lib.ListN.{length, getD}
+use Rattle.base.proofs.Conds.{by-test}
+use Rattle.wire.specs.declared.segment.Header.{Header}
+use Rattle.wire.specs.declared.instances.Side.{Side}
+use Rattle.wire.specs.declared.instances.Route.{Route}
+use Rattle.wire.specs.declared.instances.Route.the-variants.{Unknown, Wrong, To}
+use Rattle.wire.specs.Segments.{headerLength, added, decoded}
+use Rattle.wire.specs.Instances.{routeOf}
+use Rattle.connection.specs.declared.Closing.{Closing}
+use Rattle.connection.specs.declared.Closing.the-variants.{Bare, Of}
+use Rattle.connection.specs.declared.Gate.{Gate}
+use Rattle.connection.specs.declared.Gate.the-variants.{Open, Closed}
+use Rattle.connection.specs.Closings.{numberOf, isOpen}
+use Rattle.feeding.specs.declared.Admission.{Admission}
+use Rattle.feeding.specs.declared.Admission.the-variants.{Fault, Payload}
+use Rattle.feeding.specs.Feeding.{State, admitted, admission, settled, headed, kept, step, fed, used}
+use Rattle.feeding.specs.Feeds.{Eighth}
+use Rattle.feeding.proofs.Bytes.{step-headed, fed-closed, used-closed, fed-append, used-append}
+
+-- an open gate is not closed
+never : {P : Type 0} (g : Gate) (x : Closing) → isOpen g ≡ true → g ≡ Closed x → P
+never g x o e = absurd (true≢false (sym o ∙ ap isOpen e))
+
+-- ---- why
+
+-- why a header is a fault
+pub data Cause (caps held : List ℕ) (n : ℕ) : Route → Closing → Type 0 where
+  unknown : Cause caps held n Unknown (Bare 11)
+  wrong : (i : ℕ) → Cause caps held n (Wrong i) (Of 12 i)
+  overflow : (i : ℕ) → getD caps i 0 < getD held i 0 + n → Cause caps held n (To i) (Of 13 i)
+
+fault-is : (x y : Closing) → Fault x ≡ Fault y → x ≡ y
+fault-is x y e = cc
+
+payload-not : {P : Type 0} (i n : ℕ) (x : Closing) → Payload i n ≡ Fault x → P
+payload-not i n x e = absurd (let z : _≡_ {A = ℕ} 0 1 = cc in omega arith)
+
+pub cause : (caps held : List ℕ) (n : ℕ) (r : Route) (x : Closing) → admitted caps held n r ≡ Fault x → Cause caps held n r x
+cause caps held n Unknown x e = subst (Cause caps held n Unknown) (fault-is (Bare 11) x e) unknown
+cause caps held n (Wrong i) x e = subst (Cause caps held n (Wrong i)) (fault-is (Of 12 i) x e) (wrong i)
+cause caps held n (To i) x e =
+    by-test (leb (getD held i 0 + n) (getD caps i 0))
+    (λ t. payload-not i n x (rw t at e))
+    (λ t.
+    subst (Cause caps held n (To i)) (fault-is (Of 13 i) x (rw t at e))
+    (overflow i (leb-false (getD held i 0 + n) (getD caps i 0) t)))
+
+-- its number
+pub cause-number : {caps held : List ℕ} {n : ℕ} {r : Route} {x : Closing} → Cause caps held n r x → (11 ≤ numberOf x) × (numberOf x ≤ 13)
+cause-number unknown = (omega arith, omega arith)
+cause-number (wrong i) = (omega arith, omega arith)
+cause-number (overflow i h) = (omega arith, omega arith)
+
+-- ---- which byte
+
+-- what follows from what an eighth byte says
+pub eighth-so : {side : Side} {caps : List ℕ} {s : State} {xs : List ℕ} {P Q : List ℕ → ℕ → Route → Type 0}
+    → ((held : List ℕ) (n : ℕ) (to : Route) → P held n to → Q held n to) → Eighth side caps s xs P → Eighth side caps s xs Q
+eighth-so f k =
+    record {
+      front = k .front;
+      byte = k .byte;
+      back = k .back;
+      run = k .run;
+      reached = k .reached;
+      idle = k .idle;
+      whole = k .whole;
+      says = f _ _ _ (k .says);
+    }
+
+module _ (side : Side) (caps : List ℕ) where
+  -- what an eighth byte says
+  abbrev pub Refuses : Closing → List ℕ → ℕ → Route → Type 0
+  Refuses x held n to = admitted caps held n to ≡ Fault x
+
+  settled-closes : (s : State) (a : Admission) (x : Closing) → isOpen (s .gate) ≡ true → settled s a .gate ≡ Closed x → a ≡ Fault x
+  settled-closes s (Fault y) x o e = let q : y ≡ x = cc in ap Fault q
+  settled-closes s (Payload i n) x o e = never (s .gate) x o e
+
+  -- a byte that closes is the eighth of a header that is a fault
+  step-closes : (s : State) (b : ℕ) (x : Closing) → isOpen (s .gate) ≡ true → step side caps s b .gate ≡ Closed x
+      → (s .receiving .rest ≡ 0) × (headerLength ≤ added (s .receiving .header) b .count)
+      × (admission side caps (s .receiving .held) (added (s .receiving .header) b) ≡ Fault x)
+  unfolding step headed kept
+  step-closes s b x o e =
+      let h : Header = added (s .receiving .header) b in
+      by-test (eqb (s .receiving .rest) 0)
+      (λ t.
+      by-test (leb headerLength (h .count))
+      (λ q. (
+        eqb-true (s .receiving .rest) 0 t,
+        leb-true headerLength (h .count) q,
+        settled-closes s (admission side caps (s .receiving .held) h) x o (rw (o, t, q) at e),
+      ))
+      (λ q. never (s .gate) x o (rw (o, t, q) at e)))
+      (λ t. never (s .gate) x o (rw (o, t) at e))
+
+  pub fault-found : (s : State) (xs : List ℕ) (x : Closing) → isOpen (s .gate) ≡ true → fed side caps s xs .gate ≡ Closed x
+      → Eighth side caps s xs (Refuses x)
+  unfolding fed admission
+  fault-found s [] x o e = never (s .gate) x o e
+  fault-found s (b ∷ bs) x o e =
+      by-test (isOpen (step side caps s b .gate))
+      (λ t.
+      let k = fault-found (step side caps s b) bs x t e in
+      record {
+        front = b ∷ k .front;
+        byte = k .byte;
+        back = k .back;
+        run = ap (λ (l : List ℕ). b ∷ l) (k .run);
+        reached = k .reached;
+        idle = k .idle;
+        whole = k .whole;
+        says = k .says;
+      })
+      (λ t.
+      let k = step-closes s b x o (ap (λ (q : State). q .gate) (sym (fed-closed side caps (step side caps s b) bs t)) ∙ e) in
+      record { front = []; byte = b; back = bs; run = refl; reached = o; idle = k .0; whole = k .1; says = k .2 })
+
+  -- ---- what it leaves
+
+  -- while the connection stays open, all bytes are used
+  pub used-all : (s : State) (xs : List ℕ) → isOpen (fed side caps s xs .gate) ≡ true → used side caps s xs ≡ length xs
+  unfolding fed used
+  used-all s [] o = refl
+  used-all s (x ∷ xs) o =
+      by-test (isOpen (s .gate)) (λ t. rw t (ap suc (used-all (step side caps s x) xs o)))
+      (λ t.
+      let stays : fed side caps s (x ∷ xs) ≡ s = fed-closed side caps s (x ∷ xs) t in
+      absurd (true≢false (sym o ∙ ap (λ (q : State). isOpen (q .gate)) stays ∙ t)))
+
+  pub fault-leaves : (s : State) (xs : List ℕ) (x : Closing) (e : Eighth side caps s xs (Refuses x))
+      → (fed side caps s xs ≡ settled (fed side caps s (e .front)) (Fault x)) × (used side caps s xs ≡ suc (length (e .front)))
+  unfolding fed used headed admission
+  fault-leaves s xs x e =
+      let m : State = fed side caps s (e .front) in
+      let n : State = settled m (Fault x) in
+      let h : Header = added (m .receiving .header) (e .byte) in
+      let leads : step side caps m (e .byte) ≡ n =
+      step-headed side caps m (e .byte) (e .reached) (e .idle)
+      ∙ rw (le-leb headerLength (h .count) (e .whole), e .says) in
+      let on : fed side caps m (e .byte ∷ e .back) ≡ n =
+      ap (λ (q : State). fed side caps q (e .back)) leads ∙ fed-closed side caps n (e .back) refl in
+      let last : used side caps (step side caps m (e .byte)) (e .back) ≡ 0 =
+      ap (λ (q : State). used side caps q (e .back)) leads ∙ used-closed side caps n (e .back) refl in
+      let some : used side caps m (e .byte ∷ e .back) ≡ 1 = rw (e .reached) (ap suc last) in (
+        ap (λ (l : List ℕ). fed side caps s l) (e .run) ∙ fed-append side caps s (e .front) (e .byte ∷ e .back) ∙ on,
+        ap (λ (l : List ℕ). used side caps s l) (e .run) ∙ used-append side caps s (e .front) (e .byte ∷ e .back)
+            ∙ omega (arith, used-all s (e .front) (e .reached), some),
+      )
+
+  pub fault-why : (s : State) (xs : List ℕ) (x : Closing) → isOpen (s .gate) ≡ true → fed side caps s xs .gate ≡ Closed x
+      → Eighth side caps s xs (λ held n to. Cause caps held n to x)
+  fault-why s xs x o e =
+      eighth-so {P = Refuses x} {Q = λ held n to. Cause caps held n to x} (λ held n to f. cause caps held n to x f) (fault-found s xs x o e)

@@ -1,0 +1,242 @@
+-- Feeding keeps the range, byte by byte.
+-- Assumes nothing.
+use mathlib.Core.Path.{_≡_, refl, sym, ap, _∙_, subst}
+use mathlib.Core.Bool.{Bool, true, false, cond, not, _&&_, _||_}
+use mathlib.Core.List.{List, [], _∷_, _++_}
+use Prim.Native.Nat.{ℕ, zero, suc, _+_, _-_, _≤_, _<_}
+use native.Mathlib.Omega.{arith}
+use borrow.Author.Tests.{eq-eqb, ne-eqb, eqb-true, eqb-false, lt-ltb, le-leb, leb-true, leb-false}
+use lib.Dec.{eqb, leb, ltb}
+use lib.ListN.{length, getD, set, replicate, length-set}
+use lib.Seq.{getD-set-same, getD-set-other}
+use Rattle.base.specs.Below.{allBelow}
+use Rattle.base.specs.Numbers.{Bytes}
+use Rattle.base.proofs.Conds.{by-test, cond-cases}
+use Rattle.ring.specs.Ring.{together, baseOf, laid}
+use Rattle.ring.proofs.Stores.{laid-length}
+use Rattle.wire.specs.declared.segment.Header.{Header}
+use Rattle.wire.specs.declared.instances.Side.{Side}
+use Rattle.wire.specs.declared.instances.Route.{Route}
+use Rattle.wire.specs.declared.instances.Route.the-variants.{Unknown, Wrong, To}
+use Rattle.wire.specs.Segments.{headerLength, empty, added, decoded}
+use Rattle.wire.specs.Instances.{instances, routeOf, Within}
+use Rattle.wire.proofs.SegmentLaws.{round-trip}
+use Rattle.wire.proofs.InstanceLaws.{one-way}
+use Rattle.connection.specs.declared.Settings.{Settings}
+use Rattle.connection.specs.declared.Receiving.{Receiving}
+use Rattle.connection.specs.declared.Connection.{Connection}
+use Rattle.connection.specs.declared.Closing.{Closing}
+use Rattle.connection.specs.declared.Gate.{Gate}
+use Rattle.connection.specs.declared.Gate.the-variants.{Open, Closed}
+use Rattle.connection.specs.Closings.{isOpen, gateOk}
+use Rattle.connection.specs.Parts.{withReceiving}
+use Rattle.connection.specs.Ranges.{settingsOk, restFor, receivingOk, sendingOk, stateOk, turnOk, headerOk, acceptOk, inRange}
+use Rattle.connection.proofs.RangeLaws.{Ranged, ranged}
+use Rattle.feeding.specs.declared.Admission.{Admission}
+use Rattle.feeding.specs.declared.Admission.the-variants.{Fault, Payload}
+use Rattle.feeding.specs.Feeding.{State, admitted, admission, instanceFor, settled, headed, kept, step, fed, given}
+use Rattle.feeding.specs.Feeds.{Spelt}
+use Rattle.feeding.proofs.Bytes.{both-true, route-within}
+
+-- what feeding can change of the range
+pub record Kept (caps starts : List ℕ) (n : ℕ) (s : State) : Type 0 where
+  pub places : s .receiving .starts ≡ starts
+  pub held : (i : ℕ) → i < instances → getD (s .receiving .held) i 0 + restFor (s .receiving .instance) (s .receiving .rest) i ≤ getD caps i 0
+  pub header : s .receiving .header .count < headerLength
+  pub under-way : 0 < s .receiving .rest → (s .receiving .header .count ≡ 0) × (s .receiving .instance < instances)
+  pub long : length (s .store) ≡ n
+
+-- of a payload with nothing to come, any instance has nothing to come
+rest-for : (n i j : ℕ) → restFor (instanceFor n i) n j ≡ restFor i n j
+rest-for n i j =
+    by-test (eqb n 0) (λ t. let z : n ≡ 0 = eqb-true n 0 t in rw z (nothing (eqb 0 j) ∙ sym (nothing (eqb i j)))) (λ t. rw t)
+  where
+    nothing : (t : Bool) → _≡_ {A = ℕ} (cond t 0 0) 0
+    nothing true = refl
+    nothing false = refl
+
+set-most : (l : List ℕ) (i a : ℕ) → getD (set l i a) i 0 ≤ a
+set-most [] i a = omega arith
+set-most (x ∷ l) zero a = omega arith
+set-most (x ∷ l) (suc i) a = set-most l i a
+
+module _ (side : Side) (caps starts : List ℕ) (n : ℕ) where
+  kept-settled : (s : State) (m : ℕ) (r : Route) → Within r → Kept caps starts n s → s .receiving .rest ≡ 0
+      → Kept caps starts n (settled s (admitted caps (s .receiving .held) m r))
+  kept-settled s m Unknown w k z =
+      record { places = k .places; held = k .held; header = omega arith; under-way = λ more. absurd (omega arith); long = k .long }
+  kept-settled s m (Wrong i) w k z =
+      record { places = k .places; held = k .held; header = omega arith; under-way = λ more. absurd (omega arith); long = k .long }
+  kept-settled s m (To i) w k z =
+      cond-cases (λ (a : Admission). Kept caps starts n (settled s a)) (leb (getD (s .receiving .held) i 0 + m) (getD caps i 0))
+      (λ t.
+      record {
+        places = k .places;
+        held = λ j l.
+            rw (rest-for m i j)
+            (by-test (eqb i j)
+            (λ q.
+            let e : i ≡ j = eqb-true i j q in
+            rw (q, ← e) (leb-true (getD (s .receiving .held) i 0 + m) (getD caps i 0) t))
+            (λ q. rw q (omega (arith, k .held j l))));
+        header = omega arith;
+        under-way = λ more. (refl, rw (ne-eqb m 0 (λ e. omega arith)) w);
+        long = k .long;
+      })
+      (λ t. record { places = k .places; held = k .held; header = omega arith; under-way = λ more. absurd (omega arith); long = k .long })
+
+  kept-headed : (s : State) (b : ℕ) → Kept caps starts n s → s .receiving .rest ≡ 0 → Kept caps starts n (headed side caps s b)
+  unfolding headed admission
+  kept-headed s b k z =
+      let h = added (s .receiving .header) b in
+      let d = decoded (h .bytes) in
+      cond-cases (Kept caps starts n) (leb headerLength (h .count))
+      (λ t. kept-settled s (d .len) (routeOf side (d .protocol) (d .mode)) (route-within side (d .protocol) (d .mode)) k z)
+      (λ t.
+      record {
+        places = k .places;
+        held = k .held;
+        header = leb-false headerLength (h .count) t;
+        under-way = λ more. absurd (omega arith);
+        long = k .long;
+      })
+
+  kept-payload : (s : State) (b : ℕ) → Kept caps starts n s → 0 < s .receiving .rest → Kept caps starts n (kept caps s (b ∷ []))
+  unfolding kept
+  kept-payload s b k more =
+      let r = s .receiving in
+      let i = r .instance in
+      let held = r .held in
+      record {
+        places = k .places;
+        held = λ j l.
+            rw (rest-for (r .rest - 1) i j)
+            (by-test (eqb i j)
+            (λ q.
+            let e : i ≡ j = eqb-true i j q in
+            let was : getD held i 0 + r .rest ≤ getD caps i 0 = rw (q, ← e) at (k .held j l) in
+            rw (q, ← e) (omega (arith, set-most held i (getD held i 0 + 1), was)))
+            (λ q.
+            let was : getD held j 0 + 0 ≤ getD caps j 0 = rw q at (k .held j l) in
+            rw (q, getD-set-other held i j (getD held i 0 + 1) 0 (λ e. eqb-false i j q (sym e))) was));
+        header = k .header;
+        under-way = λ still. (k .under-way more .0, rw (ne-eqb (r .rest - 1) 0 (λ e. omega arith)) (k .under-way more .1));
+        long = laid-length (s .store) (baseOf caps i) (getD caps i 0) (getD (r .starts) i 0 + getD held i 0) (b ∷ []) ∙ k .long;
+      }
+
+  kept-step : (s : State) (b : ℕ) → Kept caps starts n s → Kept caps starts n (step side caps s b)
+  unfolding step
+  kept-step s b k =
+      cond-cases (Kept caps starts n) (isOpen (s .gate))
+      (λ o.
+      cond-cases (Kept caps starts n) (eqb (s .receiving .rest) 0) (λ t. kept-headed s b k (eqb-true (s .receiving .rest) 0 t))
+      (λ t. let z = eqb-false (s .receiving .rest) 0 t in kept-payload s b k (omega arith)))
+      (λ o. k)
+
+  pub kept-fed : (s : State) (xs : List ℕ) → Kept caps starts n s → Kept caps starts n (fed side caps s xs)
+  unfolding fed
+  kept-fed s [] k = k
+  kept-fed s (x ∷ xs) k = kept-fed (step side caps s x) xs (kept-step s x k)
+
+-- ---- the range of the whole record
+
+below-all : (f : ℕ → Bool) (n : ℕ) → ((i : ℕ) → i < n → f i ≡ true) → allBelow f n ≡ true
+unfolding allBelow
+below-all f zero h = refl
+below-all f (suc n) h = rw (below-all f n (λ i l. h i (omega arith))) (h n (omega arith))
+
+pub kept-given : (c : Connection) (st : List ℕ) → inRange c ≡ true → Kept (c .settings .receive) (c .receiving .starts) (length st) (given c st)
+kept-given c st e =
+    let k : Ranged c = ranged c e in
+    record { places = refl; held = λ i l. k .receiving i l .1; header = k .header; under-way = k .under-way; long = refl }
+
+-- a record in range stays so with what feeding leaves and a closing that a fault leaves
+pub range-with : (c : Connection) (n : ℕ) (s : State) → inRange c ≡ true → Kept (c .settings .receive) (c .receiving .starts) n s
+    → gateOk (s .gate) ≡ true → inRange (withReceiving c (s .receiving) (s .gate)) ≡ true
+unfolding inRange
+range-with c n s e k g =
+    let set = c .settings in
+    let r = s .receiving in
+    let seven = acceptOk (c .talk) && gateOk (c .gate) in
+    let six = headerOk (c .receiving) && seven in
+    let five = turnOk (c .sending .turn) && six in
+    let four = allBelow (stateOk (c .talk)) instances && five in
+    let three = allBelow (sendingOk set (c .sending)) instances && four in
+    let two = allBelow (receivingOk set (c .receiving)) instances && three in
+    let p1 = both-true (settingsOk set) two e in
+    let p2 = both-true (allBelow (receivingOk set (c .receiving)) instances) three (p1 .1) in
+    let p3 = both-true (allBelow (sendingOk set (c .sending)) instances) four (p2 .1) in
+    let p4 = both-true (allBelow (stateOk (c .talk)) instances) five (p3 .1) in
+    let p5 = both-true (turnOk (c .sending .turn)) six (p4 .1) in
+    let p6 = both-true (headerOk (c .receiving)) seven (p5 .1) in
+    let p7 = both-true (acceptOk (c .talk)) (gateOk (c .gate)) (p6 .1) in
+    let was : Ranged c = ranged c e in
+    let low : (i : ℕ) → i < instances → getD (r .starts) i 0 < getD (set .receive) i 0 = λ i l. rw (k .places) (was .receiving i l .0) in
+    let areas : allBelow (receivingOk set r) instances ≡ true =
+    below-all (receivingOk set r) instances
+    (λ i l. rw (lt-ltb (getD (r .starts) i 0) (getD (set .receive) i 0) (low i l)) (le-leb _ _ (k .held i l))) in
+    let head : headerOk r ≡ true =
+    rw (lt-ltb (r .header .count) headerLength (k .header))
+    (by-test (eqb (r .rest) 0) (λ t. rw t)
+    (λ t.
+    let z = eqb-false (r .rest) 0 t in
+    let u = k .under-way (omega arith) in
+    rw (t, eq-eqb (r .header .count) 0 (u .0)) (lt-ltb (r .instance) instances (u .1)))) in
+    rw (p1 .0, areas, p3 .0, p4 .0, p5 .0, head, p7 .0) g
+
+-- ---- bytes
+
+bytes-set : (l : List ℕ) (i x : ℕ) → Bytes l → x < 256 → Bytes (set l i x)
+unfolding Bytes
+bytes-set [] i x b h = b
+bytes-set (y ∷ l) zero x (_, b) h = (h, b)
+bytes-set (y ∷ l) (suc i) x (g, b) h = (g, bytes-set l i x b h)
+
+spelt-added : (h : Header) (b : ℕ) → Spelt h → b < 256 → Spelt (added h b)
+unfolding added
+spelt-added h b (l, s) t =
+    cond-cases Spelt (ltb (h .count) headerLength) (λ q. (length-set (h .bytes) (h .count) b ∙ l, bytes-set (h .bytes) (h .count) b s t)) (λ q. (l, s))
+
+zeros : (k : ℕ) → Bytes (replicate k 0)
+unfolding Bytes
+zeros zero = tt
+zeros (suc k) = (omega arith, zeros k)
+
+spelt-empty : Spelt empty
+spelt-empty = (refl, zeros headerLength)
+
+module _ (side : Side) (caps : List ℕ) where
+  -- the closing is one that a fault leaves
+  abbrev Sound : State → Type 0
+  Sound s = Spelt (s .receiving .header) × (gateOk (s .gate) ≡ true)
+
+  sound-settled : (s : State) (p m n : ℕ) → m < 2 → Sound s → Sound (settled s (admitted caps (s .receiving .held) n (routeOf side p m)))
+  sound-settled s p m n two k = go (routeOf side p m) refl
+    where
+      go : (r : Route) → routeOf side p m ≡ r → Sound (settled s (admitted caps (s .receiving .held) n r))
+      go Unknown e = (spelt-empty, refl)
+      go (Wrong i) e = let z : i ≡ 0 = (one-way .wrong side p m i two .0 e) .0 in (spelt-empty, rw z refl)
+      go (To i) e =
+          cond-cases (λ (a : Admission). Sound (settled s a)) (leb (getD (s .receiving .held) i 0 + n) (getD caps i 0)) (λ t. (spelt-empty, k .1))
+          (λ t. (spelt-empty, lt-ltb i instances (subst Within e (route-within side p m))))
+
+  sound-step : (s : State) (b : ℕ) → Sound s → b < 256 → Sound (step side caps s b)
+  unfolding step headed admission kept
+  sound-step s b k l =
+      let h : Header = added (s .receiving .header) b in
+      let spelt : Spelt h = spelt-added (s .receiving .header) b (k .0) l in
+      let d = decoded (h .bytes) in
+      cond-cases Sound (isOpen (s .gate))
+      (λ o.
+      cond-cases Sound (eqb (s .receiving .rest) 0)
+      (λ t.
+      cond-cases Sound (leb headerLength (h .count))
+      (λ q. sound-settled s (d .protocol) (d .mode) (d .len) (round-trip .written-read (h .bytes) (spelt .0) (spelt .1) .0 .mode) k)
+      (λ q. (spelt, k .1)))
+      (λ t. k))
+      (λ o. k)
+
+  pub sound-fed : (s : State) (xs : List ℕ) → Sound s → Bytes xs → Sound (fed side caps s xs)
+  unfolding fed Bytes
+  sound-fed s [] k b = k
+  sound-fed s (x ∷ xs) k (l, b) = sound-fed (step side caps s x) xs (sound-step s x k l) b
