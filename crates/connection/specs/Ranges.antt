@@ -1,4 +1,4 @@
--- In range (document 01, "What the front holds"): exactly the settings and record numbers for which no call answers 23.
+-- In range (document 01, "What the front holds"): the settings, the record, and how long a store is.
 use Prim.Native.Nat.{ℕ, _+_}
 use mathlib.Core.Bool.{Bool, true, false, cond, not, _&&_, _||_}
 use lib.Dec.{eqb, leb, ltb}
