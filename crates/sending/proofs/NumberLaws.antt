@@ -4,26 +4,32 @@ use mathlib.Core.Path.{_≡_, refl, sym, ap, subst, _∙_}
 use mathlib.Core.Bool.{Bool, true, false, true≢false, cond, _&&_}
 use mathlib.Core.List.{List}
 use mathlib.Core.Logic.{_↔_}
-use Prim.Native.Nat.{ℕ, _+_, _<_, _≤_}
+use Prim.Native.Nat.{ℕ, _+_, _-_, _%_, _<_, _≤_}
 use native.Mathlib.Omega.{arith}
-use lib.Dec.{T, eqb, ltb}
-use lib.ListN.{length, getD}
-use borrow.Author.Tests.{lt-ltb, le-ltb, ltb-true, ltb-false}
-use Rattle.base.proofs.Conds.{by-test, so, is, and-left}
+use lib.Dec.{T, eqb, ltb, leb}
+use native.Mathlib.Nat.{mod-lt}
+use mathlib.Core.Logic.{_≢_}
+use lib.ListN.{length, getD, length-set}
+use lib.Seq.{getD-set-same, getD-set-other}
+use borrow.Author.Tests.{lt-ltb, le-ltb, ltb-true, ltb-false, eqb-true, eqb-false, le-leb}
+use Rattle.base.proofs.Conds.{by-test, cond-cases, so, is, and-left, and-right, below-all}
 use Rattle.wire.specs.Segments.{headerLength}
 use Rattle.wire.specs.Instances.{instances}
-use Rattle.ready.specs.Ready.{chosen}
+use Rattle.ready.specs.Ready.{chosen, afterOf}
 use Rattle.ready.specs.declared.Choice.{Choice}
 use Rattle.ready.specs.declared.Choice.the-variants.{Instance, Nobody}
-use Rattle.ready.proofs.ReadyLaws.{nobody-waits}
+use Rattle.ready.proofs.ReadyLaws.{nobody-waits, chosen-waits, after-low}
 use Rattle.connection.specs.declared.Connection.{Connection}
 use Rattle.connection.specs.Shapes.{Shaped}
-use Rattle.connection.specs.Closings.{isOpen}
-use Rattle.connection.specs.Ranges.{inRange, sendStoreOk}
+use Rattle.base.specs.Below.{allBelow}
+use Rattle.connection.specs.Closings.{isOpen, gateOk}
+use Rattle.connection.specs.declared.Sending.{Sending}
+use Rattle.connection.specs.Ranges.{inRange, sendStoreOk, settingsOk, receivingOk, sendingOk, stateOk, turnOk, headerOk, acceptOk}
 use Rattle.connection.proofs.RangeLaws.{ranged}
 use Rattle.sending.specs.declared.Made.{Made}
-use Rattle.sending.specs.NextSegment.{Told, told, refused, much, serve, byChoice, nextOf}
-use Rattle.sending.specs.Numbers.{Ranged, Ready, Numbers, Exactly, Untouched, Once}
+use Rattle.connection.specs.Parts.{withSending}
+use Rattle.sending.specs.NextSegment.{Told, told, refused, much, sentOf, serve, byChoice, nextOf}
+use Rattle.sending.specs.Numbers.{Ranged, Ready, Numbers, Exactly, Untouched, Once, Keeps}
 
 module _ (c : Connection) (store : List ℕ) (time : ℕ) (buf : List ℕ) where
   abbrev out : Told
@@ -38,14 +44,15 @@ module _ (c : Connection) (store : List ℕ) (time : ℕ) (buf : List ℕ) where
     shut : Ranged c store → isOpen (c .gate) ≡ false → out ≡ refused c buf 20 → Way
     idle : Ready c store → who ≡ Nobody → out ≡ refused c buf 4 → Way
     short : Ready c store → (i : ℕ) → who ≡ Instance i → length buf < headerLength + much c i → out ≡ refused c buf 18 → Way
-    made : Ready c store → (i : ℕ) → who ≡ Instance i → headerLength + much c i ≤ length buf → out .made .number ≡ 0 → Way
+    made : Ready c store → (i : ℕ) → who ≡ Instance i → headerLength + much c i ≤ length buf → out .made .number ≡ 0
+        → out .made .connection ≡ withSending c (sentOf (c .sending) (c .settings .send) i (much c i)) → Way
 
   served : Ready c store → (i : ℕ) → who ≡ Instance i → out ≡ serve c store time buf i → Way
   unfolding serve
   served r i e o =
       by-test (ltb (length buf) (headerLength + much c i))
       (λ t. short r i e (ltb-true (length buf) (headerLength + much c i) t) (o ∙ rw t))
-      (λ t. made r i e (ltb-false (length buf) (headerLength + much c i) t) (ap (λ (x : Told). x .made .number) o ∙ rw t))
+      (λ t. made r i e (ltb-false (length buf) (headerLength + much c i) t) (ap (λ (x : Told). x .made .number) o ∙ rw t) (ap (λ (x : Told). x .made .connection) o ∙ rw t))
 
   by-who : Ready c store → (x : Choice) → who ≡ x → out ≡ byChoice c store time buf x → Way
   by-who r Nobody e o = idle r e o
@@ -81,35 +88,35 @@ module _ (c : Connection) (store : List ℕ) (time : ℕ) (buf : List ℕ) where
   n23 (shut r o e) = (λ q. absurd (omega (arith, numbered 20 e)), λ q. absurd (q r))
   n23 (idle r w e) = (λ q. absurd (omega (arith, numbered 4 e)), λ q. absurd (q (r .0)))
   n23 (short r i w l e) = (λ q. absurd (omega (arith, numbered 18 e)), λ q. absurd (q (r .0)))
-  n23 (made r i w l e) = (λ q. absurd (omega arith), λ q. absurd (q (r .0)))
+  n23 (made r i w l e k′) = (λ q. absurd (omega arith), λ q. absurd (q (r .0)))
 
   n20 : Way → (number ≡ 20) ↔ (Ranged c store × (isOpen (c .gate) ≡ false))
   n20 (unranged u e) = (λ q. absurd (omega (arith, numbered 23 e)), λ q. absurd (u (q .0)))
   n20 (shut r o e) = (λ q. (r, o), λ q. numbered 20 e)
   n20 (idle r w e) = (λ q. absurd (omega (arith, numbered 4 e)), λ q. absurd (differ (r .1) (q .1)))
   n20 (short r i w l e) = (λ q. absurd (omega (arith, numbered 18 e)), λ q. absurd (differ (r .1) (q .1)))
-  n20 (made r i w l e) = (λ q. absurd (omega arith), λ q. absurd (differ (r .1) (q .1)))
+  n20 (made r i w l e k′) = (λ q. absurd (omega arith), λ q. absurd (differ (r .1) (q .1)))
 
   idle-way : Way → (number ≡ 4) ↔ (Ready c store × (who ≡ Nobody))
   idle-way (unranged u e) = (λ q. absurd (omega (arith, numbered 23 e)), λ q. absurd (u (q .0 .0)))
   idle-way (shut r o e) = (λ q. absurd (omega (arith, numbered 20 e)), λ q. absurd (differ (q .0 .1) o))
   idle-way (idle r w e) = (λ q. (r, w), λ q. numbered 4 e)
   idle-way (short r i w l e) = (λ q. absurd (omega (arith, numbered 18 e)), λ q. absurd (apart i w (q .1)))
-  idle-way (made r i w l e) = (λ q. absurd (omega arith), λ q. absurd (apart i w (q .1)))
+  idle-way (made r i w l e k′) = (λ q. absurd (omega arith), λ q. absurd (apart i w (q .1)))
 
   n18 : Way → (number ≡ 18) ↔ (Ready c store × ((i : ℕ) × (who ≡ Instance i) × (length buf < headerLength + much c i)))
   n18 (unranged u e) = (λ q. absurd (omega (arith, numbered 23 e)), λ q. absurd (u (q .0 .0)))
   n18 (shut r o e) = (λ q. absurd (omega (arith, numbered 20 e)), λ q. absurd (differ (q .0 .1) o))
   n18 (idle r w e) = (λ q. absurd (omega (arith, numbered 4 e)), λ (p, (i, v, l)). absurd (apart i v w))
   n18 (short r i w l e) = (λ q. (r, (i, w, l)), λ q. numbered 18 e)
-  n18 (made r i w l e) = (λ q. absurd (omega arith), λ (p, (j, v, k)). absurd (omega (arith, ap (much c) (same i j w v))))
+  n18 (made r i w l e k′) = (λ q. absurd (omega arith), λ (p, (j, v, k)). absurd (omega (arith, ap (much c) (same i j w v))))
 
   n0 : Way → (number ≡ 0) ↔ (Ready c store × ((i : ℕ) × (who ≡ Instance i) × (headerLength + much c i ≤ length buf)))
   n0 (unranged u e) = (λ q. absurd (omega (arith, numbered 23 e)), λ q. absurd (u (q .0 .0)))
   n0 (shut r o e) = (λ q. absurd (omega (arith, numbered 20 e)), λ q. absurd (differ (q .0 .1) o))
   n0 (idle r w e) = (λ q. absurd (omega (arith, numbered 4 e)), λ (p, (i, v, l)). absurd (apart i v w))
   n0 (short r i w l e) = (λ q. absurd (omega (arith, numbered 18 e)), λ (p, (j, v, k)). absurd (omega (arith, ap (much c) (same i j w v))))
-  n0 (made r i w l e) = (λ q. (r, (i, w, l)), λ q. e)
+  n0 (made r i w l e k′) = (λ q. (r, (i, w, l)), λ q. e)
 
   -- every queue is empty exactly where nobody is chosen
   n4 : Shaped c → (number ≡ 4) ↔ (Ready c store × ((i : ℕ) → i < instances → getD (c .sending .waiting) i 0 ≡ 0))
@@ -135,7 +142,7 @@ module _ (c : Connection) (store : List ℕ) (time : ℕ) (buf : List ℕ) where
   untouched-by (shut r o e) m after q z = as-was 20 m after (q ∙ e)
   untouched-by (idle r w e) m after q z = as-was 4 m after (q ∙ e)
   untouched-by (short r i w l e) m after q z = as-was 18 m after (q ∙ e)
-  untouched-by (made r i w l e) m after q z = absurd (z (ap (λ (x : Told). x .made .number) q ∙ e))
+  untouched-by (made r i w l e k′) m after q z = absurd (z (ap (λ (x : Told). x .made .number) q ∙ e))
 
 pub exactly : Exactly
 exactly c store time buf s =
@@ -147,3 +154,100 @@ untouched c store time buf m after q z = untouched-by c store time buf (way c st
 
 pub once : Once
 once c store time buf m m′ after after′ e e′ = let q = e ∙ sym e′ in (ap (λ (x : Told). x .made) q, ap (λ (x : Told). x .buffer) q)
+
+-- ---- the range
+
+low-and-within : (start cap count : ℕ) → start < cap → count ≤ cap → (ltb start cap && leb count cap) ≡ true
+low-and-within start cap count h l = rw (lt-ltb start cap h, le-leb count cap l)
+
+-- two tests of six exchanged for others that hold
+exchanged : (a b c c′ d e e′ f : Bool) → (a && (b && (c && (d && (e && f))))) ≡ true → c′ ≡ true → e′ ≡ true → (a && (b && (c′ && (d && (e′ && f))))) ≡ true
+exchanged a b c c′ d e e′ f h p q =
+    let t1 = so (a && (b && (c && (d && (e && f))))) h in
+    let t2 = and-right a (b && (c && (d && (e && f)))) t1 in
+    let t3 = and-right b (c && (d && (e && f))) t2 in
+    let t4 = and-right c (d && (e && f)) t3 in
+    let t5 = and-right d (e && f) t4 in
+    rw (
+      is a (and-left a (b && (c && (d && (e && f)))) t1),
+      is b (and-left b (c && (d && (e && f))) t2),
+      p,
+      is d (and-left d (e && f) t4),
+      q,
+    )
+    (is f (and-right e f t5))
+
+-- n bytes sent of instance i leave every area, and the turn, in range
+module _ (c : Connection) (s : Shaped c) (r : inRange c ≡ true) (i : ℕ) (inside : i < instances) (n : ℕ) where
+  abbrev w : Sending
+  w = sentOf (c .sending) (c .settings .send) i n
+
+  sent-here : sendingOk (c .settings) w i ≡ true
+  sent-here =
+      let cap = getD (c .settings .send) i 0 in
+      let k = ranged c r in
+      let l = k .set .send i inside in
+      let q = k .sending i inside in
+      rw (
+        getD-set-same (c .sending .starts) i ((getD (c .sending .starts) i 0 + n) % cap) 0 (omega (arith, s .send-starts)),
+        getD-set-same (c .sending .waiting) i (getD (c .sending .waiting) i 0 - n) 0 (omega (arith, s .waiting)),
+      )
+      (low-and-within _ cap _ (mod-lt (getD (c .sending .starts) i 0 + n) (omega arith)) (omega arith))
+
+  sent-there : (j : ℕ) → j < instances → j ≢ i → sendingOk (c .settings) w j ≡ true
+  sent-there j h ne =
+      let q = ranged c r .sending j h in
+      rw (
+        getD-set-other (c .sending .starts) i j ((getD (c .sending .starts) i 0 + n) % getD (c .settings .send) i 0) 0 ne,
+        getD-set-other (c .sending .waiting) i j (getD (c .sending .waiting) i 0 - n) 0 ne,
+      )
+      (low-and-within (getD (c .sending .starts) j 0) (getD (c .settings .send) j 0) (getD (c .sending .waiting) j 0) (q .0) (q .1))
+
+  sent-ok : (j : ℕ) → j < instances → sendingOk (c .settings) w j ≡ true
+  sent-ok j h = by-test (eqb j i) (λ t. rw (eqb-true j i t) sent-here) (λ t. sent-there j h (eqb-false j i t))
+
+  turn-ok : turnOk (w .turn) ≡ true
+  turn-ok =
+      cond-cases (λ (k : ℕ). turnOk k ≡ true) (eqb i 0)
+      (λ t. let q = ranged c r .turn in rw (le-leb 1 (c .sending .turn) (q .0), lt-ltb (c .sending .turn) instances (q .1)))
+      (λ t. let l = after-low instances i (omega arith) inside in rw (le-leb 1 (afterOf instances i) up, lt-ltb (afterOf instances i) instances l))
+    where
+      up : 1 ≤ afterOf instances i
+      up = cond-cases (λ (k : ℕ). 1 ≤ k) (eqb (i + 1) instances) (λ t. omega arith) (λ t. omega arith)
+
+  sent-ranged : inRange (withSending c w) ≡ true
+  unfolding inRange
+  sent-ranged =
+      exchanged (settingsOk (c .settings)) (allBelow (receivingOk (c .settings) (c .receiving)) instances)
+      (allBelow (sendingOk (c .settings) (c .sending)) instances) (allBelow (sendingOk (c .settings) w) instances)
+      (allBelow (stateOk (c .talk)) instances) (turnOk (c .sending .turn)) (turnOk (w .turn))
+      (headerOk (c .receiving) && (acceptOk (c .talk) && gateOk (c .gate)))
+      r (below-all (sendingOk (c .settings) w) instances sent-ok) turn-ok
+
+  sent-shaped : Shaped (withSending c w)
+  sent-shaped =
+      record {
+        receive = s .receive;
+        send = s .send;
+        receive-starts = s .receive-starts;
+        held = s .held;
+        header = s .header;
+        send-starts = rw length-set (s .send-starts);
+        waiting = rw length-set (s .waiting);
+        states = s .states;
+      }
+
+keeps-by : (c : Connection) (store : List ℕ) (time : ℕ) (buf : List ℕ) → Shaped c → inRange c ≡ true → Way c store time buf
+    → (inRange (nextOf c store time buf .made .connection) ≡ true) × Shaped (nextOf c store time buf .made .connection)
+keeps-by c store time buf s r (unranged u e) = rw e (r, s)
+keeps-by c store time buf s r (shut p o e) = rw e (r, s)
+keeps-by c store time buf s r (idle p w e) = rw e (r, s)
+keeps-by c store time buf s r (short p i w l e) = rw e (r, s)
+keeps-by c store time buf s r (made p i w l e k) =
+    let t = ranged c r .turn in
+    let h = chosen-waits (c .sending .waiting) (c .sending .turn) i (t .0) (omega (arith, t .1, s .waiting)) w .0 in
+    let inside : i < instances = omega (arith, s .waiting) in
+    rw k (sent-ranged c s r i inside (much c i), sent-shaped c s r i inside (much c i))
+
+pub keeps : Keeps
+keeps c store time buf s r = keeps-by c store time buf s r (way c store time buf)

@@ -48,3 +48,9 @@ abbrev pub Once : Type 0
 Once =
     (c : Connection) (store : List ℕ) (time : ℕ) (buf : List ℕ) (m m′ : Made) (after after′ : List ℕ)
     → told m after ≡ nextOf c store time buf → told m′ after′ ≡ nextOf c store time buf → (m ≡ m′) × (after ≡ after′)
+
+-- a record in range stays in range (for T10)
+abbrev pub Keeps : Type 0
+Keeps =
+    (c : Connection) (store : List ℕ) (time : ℕ) (buf : List ℕ) → Shaped c → inRange c ≡ true
+    → (inRange (nextOf c store time buf .made .connection) ≡ true) × Shaped (nextOf c store time buf .made .connection)
