@@ -25,6 +25,7 @@ use Rattle.wire.specs.Segments.{headerLength, empty, added, decoded}
 use mathlib.Core.Option.{Option, none, some}
 use Rattle.wire.specs.Instances.{Instance, ofSide, bundle, instances, find, takes, orElse, routeOf, Within}
 use Rattle.wire.proofs.InstanceLaws.{find-some}
+use Rattle.connection.specs.declared.Closing.the-variants.{Of}
 use Rattle.connection.specs.declared.Gate.{Gate}
 use Rattle.connection.specs.declared.Gate.the-variants.{Open, Closed}
 use Rattle.connection.specs.declared.Connection.{Connection}
@@ -158,6 +159,15 @@ route-within side p m = go (find (takes side p m) 0 bundle) refl
         within-or (find (λ (x : Instance). eqb (x .protocol) p) 0 bundle) Unknown (λ i q. found (λ (x : Instance). eqb (x .protocol) p) i q) tt
 
 -- ---- a header byte, as the code goes
+
+-- by the test of the room
+pub room-enough : (caps held : List ℕ) (n i : ℕ) (t : Bool) → t ≡ leb (getD held i 0 + n) (getD caps i 0) → t ≡ true
+    → Payload i n ≡ admitted caps held n (To i)
+room-enough caps held n i t e y = let q : leb (getD held i 0 + n) (getD caps i 0) ≡ true = sym e ∙ y in rw q
+
+pub room-short : (caps held : List ℕ) (n i : ℕ) (t : Bool) → t ≡ leb (getD held i 0 + n) (getD caps i 0) → t ≡ false
+    → Fault (Of 13 i) ≡ admitted caps held n (To i)
+room-short caps held n i t e y = let q : leb (getD held i 0 + n) (getD caps i 0) ≡ false = sym e ∙ y in rw q
 
 -- by what the header says
 pub admission-by : (side : Side) (caps held : List ℕ) (h : Header) (d : Segment) (r : Route) → d ≡ decoded (h .bytes)

@@ -1,15 +1,20 @@
 -- `feeding::room` meets its contract: the test decides.
 -- Assumes nothing.
-use mathlib.Core.Path.{sym, _∙_}
+use denote.Ref.{now}
+use Rattle.feeding.proofs.Bytes.{room-enough, room-short}
 use borrow.Author.Needs.{needs}
 use Rattle.feeding.proofs.room.Statement.{statement}
 use Rattle.feeding.proofs.room.Tie as tie
 
 returns : tie.Need-returns
-returns c = let e = sym (c .before .fits2 .ensures) ∙ c .if1 .taken in rw e
+returns c =
+    let a = c .before .before .before .before .args in
+    room-enough (now (a .caps)) (now (a .held)) (a .n) (a .i) (c .before .fits2 .result) (c .before .fits2 .ensures) (c .if1 .taken)
 
 returns-2 : tie.Need-returns-2
-returns-2 c = let e = sym (c .before .fits2 .ensures) ∙ c .if1 .left in rw e
+returns-2 c =
+    let a = c .before .before .before .before .args in
+    room-short (now (a .caps)) (now (a .held)) (a .n) (a .i) (c .before .fits2 .result) (c .before .fits2 .ensures) (c .if1 .left)
 
 pub room-spec : {M : Type 1} → statement M
 room-spec =
