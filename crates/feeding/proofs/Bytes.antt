@@ -21,7 +21,7 @@ use Rattle.wire.specs.declared.segment.Segment.{Segment}
 use Rattle.wire.specs.declared.instances.Side.{Side}
 use Rattle.wire.specs.declared.instances.Route.{Route}
 use Rattle.wire.specs.declared.instances.Route.the-variants.{Unknown, Wrong, To}
-use Rattle.wire.specs.Segments.{headerLength, empty, added, decoded}
+use Rattle.wire.specs.Segments.{headerLength, added, decoded}
 use mathlib.Core.Option.{Option, none, some}
 use Rattle.wire.specs.Instances.{Instance, ofSide, bundle, instances, find, takes, orElse, routeOf, Within}
 use Rattle.wire.proofs.InstanceLaws.{find-some}

@@ -1,18 +1,18 @@
 -- Feeding keeps the range, byte by byte.
 -- Assumes nothing.
-use mathlib.Core.Path.{_≡_, refl, sym, ap, _∙_, subst}
-use mathlib.Core.Bool.{Bool, true, false, cond, not, _&&_, _||_}
-use mathlib.Core.List.{List, [], _∷_, _++_}
+use mathlib.Core.Path.{_≡_, refl, sym, _∙_, subst}
+use mathlib.Core.Bool.{Bool, true, false, cond, _&&_}
+use mathlib.Core.List.{List, [], _∷_}
 use Prim.Native.Nat.{ℕ, zero, suc, _+_, _-_, _≤_, _<_}
 use native.Mathlib.Omega.{arith}
 use borrow.Author.Tests.{eq-eqb, ne-eqb, eqb-true, eqb-false, lt-ltb, le-leb, leb-true, leb-false}
 use lib.Dec.{eqb, leb, ltb}
 use lib.ListN.{length, getD, set, replicate, length-set}
-use lib.Seq.{getD-set-same, getD-set-other}
+use lib.Seq.{getD-set-other}
 use Rattle.base.specs.Below.{allBelow}
 use Rattle.base.specs.Numbers.{Bytes}
 use Rattle.base.proofs.Conds.{by-test, cond-cases}
-use Rattle.ring.specs.Ring.{together, baseOf, laid}
+use Rattle.ring.specs.Ring.{baseOf, laid}
 use Rattle.ring.proofs.Stores.{laid-length}
 use Rattle.wire.specs.declared.segment.Header.{Header}
 use Rattle.wire.specs.declared.instances.Side.{Side}
@@ -22,18 +22,12 @@ use Rattle.wire.specs.Segments.{headerLength, empty, added, decoded}
 use Rattle.wire.specs.Instances.{instances, routeOf, Within}
 use Rattle.wire.proofs.SegmentLaws.{round-trip}
 use Rattle.wire.proofs.InstanceLaws.{one-way}
-use Rattle.connection.specs.declared.Settings.{Settings}
-use Rattle.connection.specs.declared.Receiving.{Receiving}
 use Rattle.connection.specs.declared.Connection.{Connection}
-use Rattle.connection.specs.declared.Closing.{Closing}
-use Rattle.connection.specs.declared.Gate.{Gate}
-use Rattle.connection.specs.declared.Gate.the-variants.{Open, Closed}
 use Rattle.connection.specs.Closings.{isOpen, gateOk}
 use Rattle.connection.specs.Parts.{withReceiving}
 use Rattle.connection.specs.Ranges.{settingsOk, restFor, receivingOk, sendingOk, stateOk, turnOk, headerOk, acceptOk, inRange}
 use Rattle.connection.proofs.RangeLaws.{Ranged, ranged}
 use Rattle.feeding.specs.declared.Admission.{Admission}
-use Rattle.feeding.specs.declared.Admission.the-variants.{Fault, Payload}
 use Rattle.feeding.specs.Feeding.{State, admitted, admission, instanceFor, settled, headed, kept, step, fed, given}
 use Rattle.feeding.specs.Feeds.{Spelt}
 use Rattle.feeding.proofs.Bytes.{both-true, route-within}

@@ -1,18 +1,16 @@
 -- The theorems of feed: T1 `once`, T2 and T3 `answers`, T4' `whole-or-cut`, and that the range is kept, `keeps`.
 -- Assumes nothing.
 use mathlib.Core.Path.{_≡_, refl, sym, ap, _∙_, subst}
-use mathlib.Core.Bool.{Bool, true, false, true≢false, cond, _&&_}
-use mathlib.Core.List.{List, [], _∷_, _++_}
+use mathlib.Core.Bool.{true, false, true≢false, cond}
+use mathlib.Core.List.{List, _++_}
 use mathlib.Core.Logic.{_↔_}
-use Prim.Native.Nat.{ℕ, zero, suc, _+_, _≤_, _<_}
+use Prim.Native.Nat.{ℕ, suc, _+_, _≤_, _<_}
 use native.Mathlib.Omega.{arith}
 use native.Mathlib.Nat.{add-zero}
-use borrow.Author.Tests.{eq-eqb, ne-eqb, eqb-true, lt-leb}
-use lib.Dec.{eqb, leb}
+use borrow.Author.Tests.{ne-eqb, lt-leb}
+use lib.Dec.{eqb}
 use lib.ListN.{length, getD}
-use Rattle.base.specs.Numbers.{Bytes}
 use Rattle.base.proofs.Conds.{by-test}
-use Rattle.ring.specs.Ring.{together}
 use Rattle.wire.specs.declared.instances.Side.{Side}
 use Rattle.wire.specs.declared.instances.Route.{Route}
 use Rattle.wire.specs.declared.instances.Route.the-variants.{Unknown, Wrong, To}
@@ -25,11 +23,11 @@ use Rattle.connection.specs.Closings.{numberOf, isOpen, gateOk}
 use Rattle.connection.specs.Parts.{withReceiving}
 use Rattle.connection.specs.Ranges.{inRange, receiveStoreOk}
 use Rattle.connection.proofs.RangeLaws.{ranged}
-use Rattle.feeding.specs.declared.Admission.the-variants.{Fault, Payload}
-use Rattle.feeding.specs.Feeding.{State, admitted, settled, fed, used, left, Told, told, refused, given, accepted, fits, taken, feedOf}
-use Rattle.feeding.specs.Feeds.{Once, Eighth, Taking, Comes, When, Leaves, Answers, Spelt, Keeps, Joins, WholeOrCut}
+use Rattle.feeding.specs.declared.Admission.the-variants.{Fault}
+use Rattle.feeding.specs.Feeding.{State, admitted, fed, used, left, Told, refused, given, accepted, fits, taken, feedOf}
+use Rattle.feeding.specs.Feeds.{Once, Taking, Comes, When, Leaves, Answers, Keeps, Joins, WholeOrCut}
 use Rattle.feeding.proofs.Bytes.{open-is, both-true, fed-closed, used-closed, fed-append, used-append, feed-range, feed-closed, feed-taken}
-use Rattle.feeding.proofs.Keeping.{Kept, kept-given, kept-fed, range-with, sound-fed}
+use Rattle.feeding.proofs.Keeping.{kept-given, kept-fed, range-with, sound-fed}
 use Rattle.feeding.proofs.Faults.{Cause, unknown, wrong, overflow, cause-number, eighth-so, Refuses, fault-why, fault-leaves, used-all}
 
 -- T1

@@ -13,7 +13,6 @@ use Rattle.wire.specs.declared.instances.Route.the-variants.{Unknown, Wrong, To
 use Rattle.wire.specs.Instances.{routeOf}
 use Rattle.connection.specs.declared.Receiving.{Receiving}
 use Rattle.connection.specs.declared.Connection.{Connection}
-use Rattle.connection.specs.declared.Closing.{Closing}
 use Rattle.connection.specs.declared.Closing.the-variants.{Bare, Of}
 use Rattle.connection.specs.declared.Gate.{Gate}
 use Rattle.connection.specs.declared.Gate.the-variants.{Open, Closed}

@@ -1,7 +1,6 @@
 -- What only this crate's own functions cite.
 use Prim.Native.Nat.{ℕ, _+_, _-_, _≤_, _<_}
 use mathlib.Core.Path.{_≡_}
-use mathlib.Core.Bool.{true}
 use mathlib.Core.List.{List}
 use lib.ListN.{length, getD, drop}
 use Rattle.ring.specs.Ring.{together, run}

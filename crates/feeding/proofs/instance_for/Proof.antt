@@ -1,7 +1,6 @@
 -- `feeding::instance_for` meets its contract: the test decides.
 -- Assumes nothing.
 use Rattle.base.proofs.Conds.{tests}
-use borrow.Author.Needs.{needs}
 use Rattle.feeding.proofs.instance_for.Statement.{statement}
 use Rattle.feeding.proofs.instance_for.Tie as tie
 
