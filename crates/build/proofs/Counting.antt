@@ -1,18 +1,14 @@
 -- How many elements stand end to end: what is counted stands there.
 -- Assumes nothing.
-use Prim.Native.Nat.{ℕ, zero, suc, _+_, _≤_, _<_}
-use mathlib.Core.Path.{_≡_, refl, sym, ap, subst, subst⁻¹, _∙_}
-use mathlib.Core.Bool.{Bool, true, false, cond}
-use mathlib.Core.List.{List}
+use Prim.Native.Nat.{ℕ, zero, suc, _+_, _≤_}
+use mathlib.Core.Path.{_≡_, subst, subst⁻¹}
 use mathlib.Core.Option.{Option, none, some}
 use native.Mathlib.Omega.{arith}
 use lib.Dec.{eqb}
-use lib.ListN.{length}
 use borrow.Author.Tests.{eqb-true}
 use Rattle.base.proofs.Conds.{cond-cases}
 use Rattle.messages.specs.declared.elements.Number.{Number}
 use Rattle.messages.specs.declared.elements.Number.the-variants.{Is, Not}
-use Rattle.messages.specs.Reading.{onNumber}
 use Rattle.messages.proofs.ElementLaws.{Numbers, number-cases}
 use Rattle.build.specs.Made.{onSome, howMany}
 

@@ -1,13 +1,12 @@
 -- What stands in a part stands in the whole, as many places further on as there are bytes in front.
 -- Assumes nothing.
-use Prim.Native.Nat.{ℕ, zero, suc, _+_, _≤_, _<_}
-use mathlib.Core.Path.{_≡_, refl, sym, ap, subst, _∙_}
-use mathlib.Core.List.{List, [], _∷_, _++_}
+use Prim.Native.Nat.{ℕ, _+_, _≤_}
+use mathlib.Core.Path.{_≡_, sym, ap, subst, _∙_}
+use mathlib.Core.List.{List, _++_}
 use native.Mathlib.Omega.{arith}
 use lib.ListN.{length, drop, length-append}
 use lib.Seq.{drop-append-add, drop-append-le, drop-append-seam}
 use Rattle.head.specs.Read.{headAt}
-use Rattle.head.specs.declared.read.Head.{Head}
 use Rattle.head.specs.declared.read.Head.the-variants.{Definite, Short}
 use Rattle.head.proofs.ReadLaws.{moved, head-longer, head-moved}
 use Rattle.item.specs.Grammar.{Frame, Reads}

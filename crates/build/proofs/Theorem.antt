@@ -1,16 +1,14 @@
 -- T9: what is made of parts reads back. Each field stands where it is put, so that the fields stand one after the other.
 -- Assumes nothing.
-use Prim.Native.Nat.{ℕ, zero, suc, _+_, _^_, _≤_, _<_}
+use Prim.Native.Nat.{ℕ, _+_, _^_, _≤_, _<_}
 use mathlib.Core.Path.{_≡_, refl, sym, ap, subst, _∙_}
-use mathlib.Core.Bool.{Bool, true, false, cond, _&&_}
+use mathlib.Core.Bool.{Bool, true, _&&_}
 use mathlib.Core.List.{List, [], _∷_, _++_, append-assoc}
 use mathlib.Core.Option.{Option, none, some}
 use native.Mathlib.Omega.{arith}
 use lib.Dec.{T, eqb, leb, leb→le}
 use lib.ListN.{length, length-append}
 use Rattle.base.proofs.Conds.{cond-cases, and-left, and-right}
-use Rattle.ring.specs.Ring.{run}
-use Rattle.head.specs.Read.{headAt}
 use Rattle.head.specs.declared.read.Head.the-variants.{Definite}
 use Rattle.head.specs.Write.{shortest}
 use Rattle.head.proofs.WriteLaws.{reads-back}
@@ -18,11 +16,11 @@ use Rattle.rows.specs.declared.Protocol.{Protocol}
 use Rattle.rows.specs.declared.Protocol.the-variants.{Handshake, ChainSync, BlockFetch, TxSubmission, KeepAlive}
 use Rattle.messages.specs.declared.forms.Field.{Field}
 use Rattle.messages.specs.Forms.{Form, forms, formIn, formOf}
-use Rattle.messages.specs.Matching.{Value, number, place, FieldAt, FieldsAt, no-field, a-field, Matches, array, Opens, UnsignedAt}
+use Rattle.messages.specs.Matching.{Value, number, place, FieldAt, FieldsAt, no-field, a-field, Matches, array}
 use Rattle.build.specs.Made.{onSome, ofNumber, ofRun, numeric, firstOf, allUsed, made, encoded}
 use Rattle.build.specs.Theorem.{numbersOf, runsOf, Slices, ReadsBack}
 use Rattle.build.proofs.Counting.{Found, some-cases}
-use Rattle.build.proofs.Written.{Says, Holds, number-says, run-holds}
+use Rattle.build.proofs.Written.{number-says, run-holds}
 
 -- one field in front of others
 step : (f : Field) (fs : List Field) (x : Value) (values : List Value) (xs cs ys : List ℕ)

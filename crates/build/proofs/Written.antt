@@ -1,13 +1,13 @@
 -- A field that is made stands where it is put, and says what it was made of.
 -- Assumes nothing.
-use Prim.Native.Nat.{ℕ, zero, suc, _+_, _-_, _^_, _≤_, _<_}
+use Prim.Native.Nat.{ℕ, suc, _+_, _-_, _^_, _≤_, _<_}
 use mathlib.Core.Path.{_≡_, refl, sym, ap, subst, subst⁻¹, _∙_}
 use mathlib.Core.Bool.{Bool, true, false, cond}
-use mathlib.Core.List.{List, [], _∷_, _++_, append-assoc}
+use mathlib.Core.List.{List, _∷_, _++_, append-assoc}
 use mathlib.Core.Option.{Option, none, some}
 use native.Mathlib.Omega.{arith}
 use lib.Dec.{eqb, ltb}
-use lib.ListN.{length, getD, take, drop, length-append}
+use lib.ListN.{length, take, length-append}
 use lib.Seq.{take-at, drop-at, getD-append-seam}
 use borrow.Author.Tests.{eqb-true, ltb-true}
 use Rattle.base.proofs.Conds.{cond-cases}
@@ -19,13 +19,13 @@ use Rattle.head.proofs.WriteLaws.{reads-back}
 use Rattle.item.specs.Grammar.{Frame}
 use Rattle.messages.specs.declared.forms.Field.{Field}
 use Rattle.messages.specs.declared.forms.Field.the-variants as field
-use Rattle.messages.specs.declared.elements.Number.the-variants.{Is, Not}
-use Rattle.messages.specs.Matching.{Value, number, place, Stands, ItemAt, ItemsAt, Opens, UnsignedAt, array, map, versions, words, False, True, inMessage, inList, PairsAt, no-pair, pair, VersionsAt, no-version, version, FieldAt}
+use Rattle.messages.specs.declared.elements.Number.the-variants.{Is}
+use Rattle.messages.specs.Matching.{number, place, Stands, ItemAt, ItemsAt, Opens, UnsignedAt, array, map, versions, words, False, True, inMessage, inList, PairsAt, no-pair, pair, VersionsAt, no-version, version, FieldAt}
 use Rattle.messages.specs.Matching as matching
 use Rattle.messages.specs.Reading.{itemEnd, pairEnd, versionAt}
-use Rattle.messages.proofs.ElementLaws.{Ends, end-cases, number-cases, Numbers, item-sound, pair-sound, version-sound, none-at, item-then, number-item}
-use Rattle.build.specs.Made.{onSome, howMany, elementsOf, nextItem, nextPair, nextVersion, oneItem, headed, limited, truth, ofNumber, ofRun}
-use Rattle.build.proofs.Shift.{head-shift, shift, pairs-shift, versions-shift}
+use Rattle.messages.proofs.ElementLaws.{end-cases, number-cases, Numbers, item-sound, pair-sound, version-sound, none-at, item-then, number-item}
+use Rattle.build.specs.Made.{elementsOf, nextItem, nextPair, nextVersion, oneItem, headed, limited, truth, ofNumber, ofRun}
+use Rattle.build.proofs.Shift.{shift, pairs-shift, versions-shift}
 use Rattle.build.proofs.Counting.{Found, some-cases, count-sound, count-small}
 
 -- ---- numbers

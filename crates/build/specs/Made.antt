@@ -1,5 +1,5 @@
 -- What build makes of a kind, numbers and runs (document 01, "CBOR"): own heads as short as can be, runs byte for byte.
-use Prim.Native.Nat.{ℕ, zero, suc, _+_, _<_}
+use Prim.Native.Nat.{ℕ, zero, suc, _+_}
 use mathlib.Core.Bool.{Bool, true, false, cond}
 use mathlib.Core.List.{List, [], _∷_, _++_}
 use mathlib.Core.Option.{Option, none, some}

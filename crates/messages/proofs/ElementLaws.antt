@@ -1,24 +1,22 @@
 -- Elements of a message: what each definition of reading finds is what stands there, and what stands there is found.
 -- Assumes nothing.
 use Prim.Native.Nat.{ℕ, zero, suc, _+_, _-_, _*_, _≤_, _<_}
-use mathlib.Core.Path.{_≡_, refl, sym, ap, subst, subst⁻¹, _∙_}
+use mathlib.Core.Path.{_≡_, refl, ap, subst, subst⁻¹, _∙_}
 use mathlib.Core.Bool.{Bool, true, false, cond, _&&_}
-use mathlib.Core.List.{List, [], _∷_, _++_}
+use mathlib.Core.List.{List}
 use native.Mathlib.Omega.{arith}
-use native.Mathlib.Decide.{decLt}
-use lib.Dec.{T, ltb, leb, eqb}
-use lib.ListN.{length, getD, take, drop, length-drop, length-append, List·getD-eq-default}
+use lib.Dec.{ltb, leb, eqb}
+use lib.ListN.{length, getD, drop, length-drop, length-append}
 use borrow.Author.Tests.{ltb-true, leb-true, eqb-true, lt-ltb, le-leb, eq-eqb}
-use Rattle.base.proofs.Conds.{by-test, cond-cases}
+use Rattle.base.proofs.Conds.{cond-cases}
 use Rattle.head.specs.Read.{headAt}
-use Rattle.head.specs.Initial.{initial}
 use Rattle.head.specs.declared.read.Head.{Head}
 use Rattle.head.specs.declared.read.Head.the-variants as head
 use Rattle.head.proofs.ReadLaws.{definite-within}
 use Rattle.item.specs.declared.Verdict.{Verdict}
 use Rattle.item.specs.declared.Verdict.the-variants.{Whole, Bad, Incomplete}
-use Rattle.item.specs.Grammar.{Frame, One, Items, Content, Reads, nest, enter, one, no-more, item, no-byte}
-use Rattle.item.specs.Verdict.{nil, push, judge, start}
+use Rattle.item.specs.Grammar.{Frame, One, Items, Reads, nest, no-more, item, no-byte}
+use Rattle.item.specs.Verdict.{judge, start}
 use Rattle.item.proofs.Local.{Cuts, cuts}
 use Rattle.item.proofs.Parts.{whole-reads, whole-place, reads-whole}
 use Rattle.messages.specs.declared.forms.Field.{Field}
@@ -29,10 +27,10 @@ use Rattle.messages.specs.declared.elements.End.{End}
 use Rattle.messages.specs.declared.elements.End.the-variants.{At, Nowhere}
 use Rattle.messages.specs.declared.elements.Part.{Part}
 use Rattle.messages.specs.declared.elements.Part.the-variants as part
-use Rattle.messages.specs.Matching.{Value, number, place, Stands, ItemAt, ItemsAt, UnsignedAt, Opens, array, map, versions, sizes, words, False, True, inMessage, inList, inPair, PairsAt, no-pair, pair, VersionsAt, no-version, version, FieldAt}
+use Rattle.messages.specs.Matching.{Value, number, place, ItemAt, ItemsAt, UnsignedAt, Opens, array, map, versions, sizes, words, False, True, inMessage, inList, inPair, PairsAt, no-pair, pair, VersionsAt, no-version, version, FieldAt}
 use Rattle.messages.specs.Matching as matching
 use Rattle.messages.specs.Reading.{onNumber, onEnd, leads, unsignedAt, opensAt, ended, itemEnd, sizeEnd, sizedEnd, pairEnd, pairsEnd, keyAt, versionAt, versionsEnd, below, upTo, boolOf, partOf}
-use Rattle.messages.proofs.Heads.{Room, into, out}
+use Rattle.messages.proofs.Heads.{into, out}
 
 -- ---- by cases on what was found
 

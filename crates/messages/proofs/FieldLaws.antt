@@ -4,7 +4,7 @@
 use Prim.Native.Nat.{ℕ, zero, suc, _+_, _-_, _≤_, _<_}
 use mathlib.Core.Path.{_≡_, refl, sym, ap, subst, _∙_}
 use mathlib.Core.List.{List, [], _∷_}
-use mathlib.Core.Option.{none, some}
+use mathlib.Core.Option.{some}
 use borrow.Author.Tests.{eq-eqb, ne-eqb}
 use native.Mathlib.Omega.{arith}
 use native.Mathlib.Numerals.{add-one}
@@ -31,7 +31,7 @@ use Rattle.messages.specs.declared.elements.Part.the-variants as part
 use Rattle.messages.specs.declared.Reading.the-variants.{NotArray, UnknownKind, WrongCount, WrongField}
 use Rattle.messages.specs.declared.Message.{Message}
 use Rattle.messages.specs.declared.Answer.{Answer}
-use Rattle.messages.specs.Matching.{Stands, ItemAt, ItemsAt, UnsignedAt, Opens, array, inMessage, FieldAt, begun}
+use Rattle.messages.specs.Matching.{ItemAt, ItemsAt, UnsignedAt, Opens, array, inMessage, FieldAt, begun}
 use Rattle.messages.specs.Reading.{onEnd, unsignedAt, opensAt, itemEnd, partOf, failed, read, behind, withPart, fieldsOf, counted, numberedOf, messageOf}
 use Rattle.messages.proofs.ElementLaws.{Numbers, unsigned-sound, opens-sound, forward, item-found, number-item, item-array, Parts, part-sound}
 use Rattle.messages.proofs.Steps.{number-then, number-not, end-then, end-not}

@@ -1,6 +1,6 @@
 -- Laws of the table of forms: where a protocol's forms lie, a search along them, and what a row's columns say.
 -- Assumes nothing.
-use mathlib.Core.Path.{_≡_, refl, sym, ap, _∙_}
+use mathlib.Core.Path.{_≡_, refl, ap, _∙_}
 use mathlib.Core.Bool.{Bool, true, false}
 use mathlib.Core.List.{List, [], _∷_, _++_, map}
 use mathlib.Core.Option.{none, some}
@@ -8,14 +8,14 @@ use Prim.Native.Nat.{ℕ, zero, suc, _+_, _-_, _<_, _≤_}
 use native.Mathlib.Omega.{arith}
 use native.Mathlib.Numerals.{add-one}
 use lib.Dec.{T, eqb, leb, leb→le}
-use lib.ListN.{length, getD, take, drop, length-map, List·getD-append, List·getD-map}
+use lib.ListN.{length, getD, take, drop, length-map, List·getD-append}
 use lib.Seq.{drop-cons, getD-take}
 use Rattle.base.proofs.Table.{every, at}
 use Rattle.rows.specs.declared.Protocol.{Protocol}
 use Rattle.rows.specs.declared.Protocol.the-variants.{Handshake, ChainSync, BlockFetch, TxSubmission, KeepAlive}
 use Rattle.messages.specs.declared.forms.Field.{Field}
 use Rattle.messages.specs.declared.forms.Field.the-variants as field
-use Rattle.messages.specs.Forms.{Form, form, forms, formIn, formOf}
+use Rattle.messages.specs.Forms.{Form, form, forms, formIn}
 use Rattle.messages.specs.Inside.{formsUpTo, allForms, formCount, formAt, firstOf, countOf, markOf, fieldOf, columns}
 
 -- a protocol's forms in the table

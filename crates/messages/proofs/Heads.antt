@@ -1,12 +1,10 @@
 -- A head in the grammar: what stands at a place where a head is read is an item, and what is in it follows the head.
 -- Assumes nothing.
-use Prim.Native.Nat.{ℕ, zero, suc, _+_, _-_, _/_, _%_, _*_, _≤_, _<_}
+use Prim.Native.Nat.{ℕ, zero, suc, _+_, _-_, _/_, _%_, _*_, _<_}
 use mathlib.Core.Path.{_≡_, refl, sym, ap, subst, subst⁻¹, _∙_}
-use mathlib.Core.Bool.{cond}
-use mathlib.Core.List.{List, [], _∷_, _++_}
-use mathlib.Core.Option.{Option, none, some}
+use mathlib.Core.List.{List, [], _∷_}
+use mathlib.Core.Option.{some}
 use native.Mathlib.Omega.{arith}
-use native.Mathlib.Numerals.{add-one}
 use native.Mathlib.Decide.{decLt}
 use lib.Dec.{ltb, leb, eqb}
 use lib.ListN.{length, getD, take, drop, length-drop}
@@ -16,15 +14,15 @@ use Rattle.base.specs.Numbers.{spelled, number}
 use Rattle.base.proofs.Conds.{cond-cases}
 use Rattle.ring.specs.Ring.{run}
 use Rattle.head.specs.Initial.{majorOf, initial}
-use Rattle.head.specs.Read.{headAt, headBy, longAt, simpleAt}
+use Rattle.head.specs.Read.{headAt, headBy, simpleAt}
 use Rattle.head.specs.declared.Major.{Major}
 use Rattle.head.specs.declared.Major.the-variants as major
 use Rattle.head.specs.declared.Initial.{Initial}
 use Rattle.head.specs.declared.Initial.the-variants as says
 use Rattle.head.specs.declared.read.Head.{Head}
 use Rattle.head.specs.declared.read.Head.the-variants.{Definite, Indefinite, Break, Short, Bad}
-use Rattle.head.proofs.ReadLaws.{head-by, head-none, long-here, long-short, simple-here, simple-bad, simple-short, definite-within}
-use Rattle.item.specs.Grammar.{Frame, One, Items, Content, Second, Argument, content, nest, within, enter, Reads, one, no-byte, simple, last, digit}
+use Rattle.head.proofs.ReadLaws.{head-by, long-here, long-short, definite-within}
+use Rattle.item.specs.Grammar.{Frame, One, Argument, content, nest, enter, Reads, one, last, digit}
 use Rattle.item.proofs.Derivative.{nothing}
 
 -- ---- the major type that an initial byte names

@@ -7,8 +7,7 @@ use mathlib.Core.List.{List}
 use lib.Dec.{ltb, leb, eqb}
 use native.Mathlib.Omega.{arith}
 use lib.ListN.{length, getD, set, drop, drop-of-length-le, List·getD-eq-default}
-use Rattle.item.specs.declared.Verdict.the-variants.{Incomplete}
-use Rattle.item.specs.Verdict.{judge, met, start}
+use Rattle.item.specs.Verdict.{judge, met}
 use Rattle.messages.specs.declared.elements.Number.{Number}
 use Rattle.messages.specs.declared.elements.Number.the-variants.{Is, Not}
 use Rattle.messages.specs.declared.elements.End.{End}

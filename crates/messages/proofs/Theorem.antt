@@ -1,32 +1,30 @@
 -- T7: reading finds exactly the messages. Each field that matches is one item, so that the fields of a form and the
 -- elements of the array end at the same place.
 -- Assumes nothing.
-use Prim.Native.Nat.{ℕ, zero, suc, _+_, _-_, _*_, _≤_, _<_}
+use Prim.Native.Nat.{ℕ, suc, _+_, _-_, _≤_, _<_}
 use mathlib.Core.Path.{_≡_, refl, sym, ap, subst, subst⁻¹, _∙_}
-use mathlib.Core.Bool.{Bool, true, false, cond}
-use mathlib.Core.List.{List, [], _∷_, _++_}
+use mathlib.Core.Bool.{true, false}
+use mathlib.Core.List.{List, [], _∷_}
 use mathlib.Core.Option.{Option, none, some}
 use native.Mathlib.Omega.{arith}
 use native.Mathlib.Decide.{decLt}
 use lib.Dec.{eqb}
-use lib.ListN.{length, getD, take, drop, length-drop, List·getD-eq-default}
+use lib.ListN.{length, getD, drop, length-drop, List·getD-eq-default}
 use lib.Seq.{drop-cons, drop-length}
 use borrow.Author.Tests.{eqb-true, eq-eqb}
 use Rattle.base.proofs.Conds.{cond-cases}
 use Rattle.head.specs.Initial.{initial}
 use Rattle.head.specs.Read.{headAt}
-use Rattle.head.specs.declared.read.Head.{Head}
 use Rattle.head.specs.declared.read.Head.the-variants as head
 use Rattle.head.proofs.ReadLaws.{definite-within}
 use Rattle.item.specs.declared.Verdict.{Verdict}
 use Rattle.item.specs.declared.Verdict.the-variants.{Whole, Bad, Incomplete}
-use Rattle.item.specs.Grammar.{Frame, One, Items, Content, Item, Reads, nest, enter, one, no-more, item, no-byte, nesting}
-use Rattle.item.specs.Verdict.{nil, push, judge, start, verdict}
-use Rattle.item.proofs.Parts.{whole-reads, whole-place, reads-whole}
+use Rattle.item.specs.Grammar.{One, Items, Content, Reads, nest, enter, one, item, no-byte, nesting}
+use Rattle.item.specs.Verdict.{verdict}
+use Rattle.item.proofs.Parts.{whole-reads, reads-whole}
 use Rattle.item.proofs.Theorem.{one-end}
 use Rattle.rows.specs.declared.Protocol.{Protocol}
 use Rattle.messages.specs.declared.forms.Field.{Field}
-use Rattle.messages.specs.declared.forms.Field.the-variants as field
 use Rattle.messages.specs.declared.elements.Part.{Part}
 use Rattle.messages.specs.declared.elements.Part.the-variants as part
 use Rattle.messages.specs.declared.Reading.{Reading}
@@ -34,11 +32,11 @@ use Rattle.messages.specs.declared.Reading.the-variants.{Read, NotArray,
 use Rattle.messages.specs.declared.Message.{Message}
 use Rattle.messages.specs.declared.Answer.{Answer}
 use Rattle.messages.specs.Forms.{formOf}
-use Rattle.messages.specs.Matching.{Value, number, place, Stands, ItemAt, ItemsAt, UnsignedAt, Opens, array, map, inMessage, FieldAt, FieldsAt, no-field, a-field, Matches, begun, withNumber, withPlace, saying, told, messageFrom}
+use Rattle.messages.specs.Matching.{Value, number, place, ItemAt, ItemsAt, UnsignedAt, Opens, array, inMessage, FieldAt, FieldsAt, no-field, a-field, Matches, begun, withNumber, withPlace, saying, told, messageFrom}
 use Rattle.messages.specs.Matching as matching
-use Rattle.messages.specs.Reading.{onNumber, onEnd, unsignedAt, opensAt, partOf, failed, read, behind, withPart, fieldsOf, counted, wholly, numberedOf, messageOf}
+use Rattle.messages.specs.Reading.{onEnd, unsignedAt, opensAt, partOf, failed, read, behind, withPart, fieldsOf, counted, wholly, numberedOf, messageOf}
 use Rattle.messages.specs.Theorem.{Says, ReadsForms, OneMatch, MessageIsItem}
-use Rattle.messages.proofs.ElementLaws.{Numbers, number-cases, unsigned-sound, opens-sound, unsigned-found, opens-found, number-item, array-item, map-item, item-array, none-at, item-then, pairs-items, versions-items, Parts, part-sound, got, part-found}
+use Rattle.messages.proofs.ElementLaws.{number-cases, unsigned-sound, opens-sound, unsigned-found, opens-found, number-item, array-item, map-item, item-array, none-at, item-then, pairs-items, versions-items, Parts, part-sound, got, part-found}
 
 module _ (bs : List ℕ) where
   -- ---- a field is an item

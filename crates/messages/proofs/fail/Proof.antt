@@ -1,7 +1,6 @@
 -- `messages::fail` meets its contract: the message is that of which nothing is known.
 -- Assumes nothing.
 use mathlib.Core.Path.{ap}
-use Rattle.messages.specs.declared.Answer.{Answer}
 use Rattle.messages.specs.declared.Message.{Message}
 use borrow.Author.Needs.{needs}
 use Rattle.messages.proofs.fail.Statement.{statement}

@@ -1,7 +1,7 @@
 -- `messages::fields` meets its contract: the loop's invariant is that the fields left, at the place reached, give what all of them give, and that they are
 -- what is left of the array.
 -- Assumes nothing.
-use mathlib.Core.Path.{_≡_, refl, sym, ap, subst, _∙_}
+use mathlib.Core.Path.{_≡_, ap, subst, _∙_}
 use Prim.Native.Nat.{ℕ, _+_, _-_, _≤_, _<_}
 use native.Mathlib.Omega.{arith}
 use denote.Ref.{now}
@@ -12,7 +12,7 @@ use Rattle.ring.specs.Ring.{around}
 use Rattle.ring.proofs.Around.{around-length}
 use Rattle.messages.specs.declared.Message.{Message}
 use Rattle.messages.specs.Matching.{ItemsAt, inMessage, begun}
-use Rattle.messages.specs.Reading.{withPart, fieldsOf}
+use Rattle.messages.specs.Reading.{fieldsOf}
 use Rattle.messages.specs.Inside.{formsUpTo, formAt}
 use Rattle.messages.proofs.FieldLaws.{with-count, one-more, one-wrong, none-left, items-after, part-item, last-ends}
 use borrow.Author.Needs.{needs}

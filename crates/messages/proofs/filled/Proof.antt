@@ -5,7 +5,6 @@ use mathlib.Core.Path.{_≡_, ap, subst, sym, _∙_}
 use lib.ListN.{length}
 use denote.Ref.{now}
 use Rattle.ring.specs.Ring.{around}
-use Rattle.ring.proofs.Around.{around-length}
 use native.Mathlib.Omega.{arith}
 use Rattle.messages.specs.Matching.{ItemsAt, inMessage}
 use Rattle.messages.specs.Inside.{formAt}

@@ -3,7 +3,6 @@
 use mathlib.Core.Path.{_≡_, refl, sym, _∙_}
 use Prim.Native.Nat.{_≤_, _<_}
 use native.Mathlib.Omega.{arith}
-use denote.Ref.{now}
 use borrow.Author.Tests.{ltb-true, ltb-false}
 use Rattle.ring.specs.Ring.{around}
 use Rattle.messages.specs.Matching.{versions}

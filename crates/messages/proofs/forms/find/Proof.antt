@@ -1,7 +1,7 @@
 -- `messages::forms::find` meets its contract: the loop's invariant is that the forms from i on are found as all of the protocol's are.
 -- Assumes nothing.
 use mathlib.Core.Path.{_≡_, refl, sym, ap, _∙_}
-use Prim.Native.Nat.{_+_, _-_, _≤_, _<_}
+use Prim.Native.Nat.{_+_, _-_, _≤_}
 use native.Mathlib.Omega.{arith}
 use borrow.Author.Tests.{eq-eqb, ne-eqb}
 use Rattle.messages.specs.Forms.{formIn}
