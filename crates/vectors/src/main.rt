@@ -64,7 +64,7 @@ fn indefinite() {
     each(b"bf61610161629f0203ffff 826161bf61626163ff bf6346756ef563416d7421ff");
 }
 
-// Appendix F, section F.1, in its order and words.
+// Appendix F, section F.1: not yet held beside the text of the RFC.
 fn too_little_data() {
     // end of input in a head
     each(b"18 19 1a 1b 1901 1a0102 1b01020304050607 38 58 78 98 9a01ff00 b8 d8 f8 f900 fa0000");
