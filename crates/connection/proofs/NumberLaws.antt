@@ -18,7 +18,8 @@ use Rattle.wire.specs.Instances.{instances}
 use Rattle.connection.specs.declared.Settings.{Settings}
 use Rattle.connection.specs.declared.Connection.{Connection}
 use Rattle.connection.specs.declared.opening.Opened.{Opened}
-use Rattle.connection.specs.Ranges.{settingsOk, speaks, restFor, receiveStoreOk, sendStoreOk, receivingOk, sendingOk, stateOk, turnOk, headerOk, acceptOk, inRange}
+use Rattle.rows.specs.Spoken.{speaks}
+use Rattle.connection.specs.Ranges.{settingsOk, restFor, receiveStoreOk, sendStoreOk, receivingOk, sendingOk, stateOk, turnOk, headerOk, acceptOk, inRange}
 use Rattle.connection.specs.Openings.{zeros, fresh, refusedOpen, openOf}
 use Rattle.connection.specs.Statuses.{statusOf}
 use Rattle.connection.specs.Numbers.{Opens, OpenNumbers, OpenExactly, Opening, StatusExactly, OpenOnce, StatusOnce}

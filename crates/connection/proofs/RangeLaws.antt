@@ -1,4 +1,4 @@
--- Laws of the range: the tables by instance, and what a record in range promises.
+-- Laws of the range: what a record in range promises.
 -- Assumes nothing.
 use mathlib.Core.Path.{_≡_, refl, sym, ap, _∙_}
 use mathlib.Core.Bool.{Bool, true, false, true≢false, cond, not, _&&_, _||_}
@@ -11,11 +11,9 @@ use borrow.Author.Tests.{ne-eqb, le-leb, lt-leb, leb-true, leb-false}
 use native.Mathlib.Nat.{le-refl}
 use Rattle.base.specs.Below.{allBelow}
 use Rattle.base.proofs.Conds.{by-test, so, is, and-left, and-right, below-at}
-use Rattle.base.proofs.ListLaws.{getD-map}
-use Rattle.rows.specs.Rows.{doneOf, placeIn}
-use Rattle.rows.specs.declared.Protocol.{Protocol}
-use Rattle.rows.specs.declared.Protocol.the-variants.{Handshake, ChainSync, BlockFetch, TxSubmission, KeepAlive}
-use Rattle.wire.specs.Instances.{Instance, ofSide, bundle, instances, protocolOf}
+use Rattle.rows.specs.Rows.{doneOf}
+use Rattle.rows.specs.Spoken.{speaks}
+use Rattle.wire.specs.Instances.{instances}
 use Rattle.ring.specs.Ring.{together}
 use Rattle.ring.proofs.Areas.{base-small}
 use Rattle.wire.specs.Segments.{headerLength}
@@ -23,20 +21,13 @@ use Rattle.connection.specs.declared.Settings.{Settings}
 use Rattle.connection.specs.declared.Connection.{Connection}
 use Rattle.connection.specs.Closings.{gateOk}
 use Rattle.connection.specs.Inside.{Small}
-use Rattle.connection.specs.Ranges.{limitOk, capacityOk, capacitiesOk, settingsOk, speaks, spoken, restFor, receivingOk, sendingOk, stateOk, turnOk, headerOk, acceptOk, inRange}
+use Rattle.connection.specs.Ranges.{limitOk, capacityOk, capacitiesOk, settingsOk, restFor, receivingOk, sendingOk, stateOk, turnOk, headerOk, acceptOk, inRange}
 
 -- a sum within a capacity
 pub fits-left : (a b c : ℕ) → a ≤ c → leb (a + b) c ≡ leb b (c - a)
 fits-left a b c h =
     by-test (leb b (c - a)) (λ t. let q : b ≤ c - a = leb-true b (c - a) t in le-leb (a + b) c (omega arith) ∙ sym t)
     (λ t. let q : c - a < b = leb-false b (c - a) t in lt-leb (a + b) c (omega arith) ∙ sym t)
-
--- ---- the tables by instance
-
--- a table of what is said of each instance's protocol
-pub said : {B : Type 0} (f : Protocol → B) (i : ℕ) (e : B) → i < instances → getD (map (λ (x : Instance). f (spoken (x .protocol))) bundle) i e ≡ f (speaks i)
-unfolding speaks
-said f i e h = getD-map (λ (x : Instance). f (spoken (x .protocol))) bundle i (record { protocol = 0; role = ofSide }) e h
 
 -- ---- settings in range
 

@@ -6,7 +6,8 @@ use lib.Dec.{eqb, leb, ltb}
 use lib.ListN.{getD}
 use Rattle.wire.specs.Instances.{instances}
 use Rattle.rows.specs.Rows.{doneOf}
-use Rattle.connection.specs.Ranges.{capacityOk, restFor, speaks}
+use Rattle.rows.specs.Spoken.{speaks}
+use Rattle.connection.specs.Ranges.{capacityOk, restFor}
 
 abbrev pub capacitiesIn : List ℕ → List ℕ → ℕ → Bool
 capacitiesIn receive send i = capacityOk (getD receive i 0) && capacityOk (getD send i 0)

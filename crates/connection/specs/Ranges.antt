@@ -6,10 +6,9 @@ use lib.ListN.{getD}
 use Rattle.base.specs.Below.{allBelow}
 use Rattle.ring.specs.Ring.{together}
 use Rattle.wire.specs.Segments.{headerLength}
-use Rattle.wire.specs.Instances.{instances, protocolOf}
-use Rattle.rows.specs.declared.Protocol.{Protocol}
-use Rattle.rows.specs.declared.Protocol.the-variants.{Handshake, ChainSync, BlockFetch, TxSubmission, KeepAlive}
+use Rattle.wire.specs.Instances.{instances}
 use Rattle.rows.specs.Rows.{doneOf}
+use Rattle.rows.specs.Spoken.{speaks}
 use Rattle.connection.specs.declared.Settings.{Settings}
 use Rattle.connection.specs.declared.Receiving.{Receiving}
 use Rattle.connection.specs.declared.Sending.{Sending}
@@ -29,15 +28,6 @@ capacitiesOk s i = capacityOk (getD (s .receive) i 0) && capacityOk (getD (s .se
 
 unfoldable pub settingsOk : Settings → Bool
 settingsOk s = limitOk (s .limit) && allBelow (capacitiesOk s) instances
-
--- Handshake 0, Chain-Sync 2, Block-Fetch 3, TxSubmission 4, Keep-alive 8
-abbrev pub spoken : ℕ → Protocol
-spoken n =
-    cond (eqb n 2) ChainSync (cond (eqb n 3) BlockFetch (cond (eqb n 4) TxSubmission (cond (eqb n 8) KeepAlive Handshake)))
-
--- the protocol that instance i speaks
-unfoldable pub speaks : ℕ → Protocol
-speaks i = spoken (protocolOf i)
 
 -- of the payload under way, the bytes still to come for instance i
 abbrev pub restFor : ℕ → ℕ → ℕ → ℕ

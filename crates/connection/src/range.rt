@@ -8,7 +8,6 @@ use crate::Receiving;
 use crate::Sending;
 use crate::Settings;
 use crate::Talk;
-use rows::Protocol;
 use wire::instances::INSTANCES;
 ghost use mathlib.Core.Path.{_≡_};
 ghost use mathlib.Core.Bool.{_&&_};
@@ -16,10 +15,11 @@ ghost use Prim.Native.Nat.{_+_, _<_};
 ghost use lib.Dec.{leb};
 ghost use Rattle.base.specs.Below.{allBelow};
 ghost use Rattle.rows.specs.Rows.{doneOf};
+ghost use Rattle.rows.specs.Spoken.{speaks};
 ghost use Rattle.ring.specs.Ring.{together};
 ghost use Rattle.wire.specs.Instances.{instances};
 ghost use Rattle.connection.specs.Closings.{faultLeaves, gateOk};
-ghost use Rattle.connection.specs.Ranges.{capacityOk, settingsOk, speaks, restFor, turnOk, headerOk, acceptOk, inRange};
+ghost use Rattle.connection.specs.Ranges.{capacityOk, settingsOk, restFor, turnOk, headerOk, acceptOk, inRange};
 ghost use Rattle.connection.specs.Inside.{capacitiesIn, receivingIn, sendingIn, statesIn, acceptIn, Small};
 ghost use Rattle.connection.specs.declared.Closing.the-variants.{Of};
 
@@ -59,33 +59,12 @@ pub fn together(caps: [u64; INSTANCES]) -> usize
     ring::base_of(&caps, INSTANCES)
 }
 
-// By instance, the protocol that it speaks, and that protocol's last state.
-const SPOKEN: [Protocol; INSTANCES] = [
-    Protocol::Handshake,
-    Protocol::ChainSync,
-    Protocol::ChainSync,
-    Protocol::BlockFetch,
-    Protocol::BlockFetch,
-    Protocol::TxSubmission,
-    Protocol::TxSubmission,
-    Protocol::KeepAlive,
-    Protocol::KeepAlive,
-];
-
-const DONE: [u64; INSTANCES] = [2, 4, 4, 3, 3, 5, 5, 2, 2];
-
-pub fn protocol(i: usize) -> Protocol
-    requires { ⌜ i < instances ⌝ }
-    ensures { λ r. ⌜ r ≡ speaks i ⌝ }
-{
-    SPOKEN[i]
-}
-
+// The last state of an instance's protocol.
 pub fn done(i: usize) -> u64
     requires { ⌜ i < instances ⌝ }
     ensures { λ r. ⌜ r ≡ doneOf (speaks i) ⌝ }
 {
-    DONE[i]
+    rows::done(rows::spoken::protocol(i))
 }
 
 // Whether a count and more of it are within a capacity, whatever the numbers.

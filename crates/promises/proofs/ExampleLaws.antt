@@ -14,7 +14,8 @@ use Rattle.rows.specs.Rows.{placeIn}
 use Rattle.messages.specs.Forms.{formIn}
 use Rattle.messages.specs.Reading.{unsignedAt, opensAt, itemEnd, partOf, fieldsOf, numberedOf, messageOf}
 use Rattle.ready.specs.Ready.{wordOf, countOf, lowestFrom, seek}
-use Rattle.connection.specs.Ranges.{settingsOk, speaks, inRange}
+use Rattle.rows.specs.Spoken.{speaks}
+use Rattle.connection.specs.Ranges.{settingsOk, inRange}
 use Rattle.connection.specs.Statuses.{statusOf}
 use Rattle.feeding.specs.Feeding as feeding
 use Rattle.sending.specs.NextSegment.{serve, nextOf}

@@ -2,6 +2,8 @@
 //
 // One table serves taking and putting: `find` gives where a message leads in a state, `agent` who may send
 // there. There is no transition outside the table. States are numbered in row order, Done last.
+pub mod spoken;
+
 ghost use mathlib.Core.Path.{_≡_};
 ghost use Prim.Native.Nat.{_<_};
 ghost use lib.ListN.{getD};
