@@ -7,10 +7,10 @@ use Prim.Native.Nat.{ℕ, zero, suc, _+_, _-_, _*_, _^_, _≤_, _<_}
 use native.Mathlib.Omega.{arith}
 use lib.Dec.{T, eqb, leb, ltb, leb→le, ltb→lt, eqb→eq}
 use lib.ListN.{length, getD}
-use borrow.Author.Tests.{ne-eqb, le-leb, lt-leb, leb-true, leb-false}
+use borrow.Author.Tests.{eq-eqb, ne-eqb, eqb-false, lt-ltb, le-leb, lt-leb, leb-true, leb-false}
 use native.Mathlib.Nat.{le-refl}
 use Rattle.base.specs.Below.{allBelow}
-use Rattle.base.proofs.Conds.{by-test, so, is, and-left, and-right, below-at}
+use Rattle.base.proofs.Conds.{by-test, so, is, and-left, and-right, below-at, below-all}
 use Rattle.rows.specs.Rows.{doneOf}
 use Rattle.rows.specs.Spoken.{speaks}
 use Rattle.wire.specs.Instances.{instances}
@@ -18,6 +18,8 @@ use Rattle.ring.specs.Ring.{together}
 use Rattle.ring.proofs.Areas.{base-small}
 use Rattle.wire.specs.Segments.{headerLength}
 use Rattle.connection.specs.declared.Settings.{Settings}
+use Rattle.connection.specs.declared.Receiving.{Receiving}
+use Rattle.connection.specs.declared.Talk.{Talk}
 use Rattle.connection.specs.declared.Connection.{Connection}
 use Rattle.connection.specs.Closings.{gateOk}
 use Rattle.connection.specs.Inside.{Small}
@@ -122,3 +124,47 @@ ranged c e =
       accepted = λ a. eqb→eq (getD (t .states) 0 0) (doneOf (speaks 0)) (second (not (t .accepted)) (eqb (getD (t .states) 0 0) (doneOf (speaks 0))) (p7 .0) (ap not a));
       closing = is (gateOk (c .gate)) (p7 .1);
     }
+
+-- ---- and back: what has all that is in range
+
+between-is : (a b c : ℕ) → (a ≤ b) × (b ≤ c) → (leb a b && leb b c) ≡ true
+between-is a b c (l, h) = rw (le-leb a b l, le-leb b c h)
+
+pub set-settings : (s : Settings) → Set s → settingsOk s ≡ true
+unfolding settingsOk
+set-settings s k =
+    rw (
+      between-is 1 (s .limit) 65535 (k .limit),
+      below-all (capacitiesOk s) instances (λ i h. rw (between-is 16 _ 131072 (k .receive i h), between-is 16 _ 131072 (k .send i h))),
+    )
+
+pub in-range : (c : Connection) → Ranged c → inRange c ≡ true
+unfolding inRange
+in-range c k =
+    let s = c .settings in
+    let r = c .receiving in
+    let w = c .sending in
+    let t = c .talk in
+    rw (
+      set-settings s (k .set),
+      below-all (receivingOk s r) instances (λ i h. let q = k .receiving i h in rw (lt-ltb _ _ (q .0), le-leb _ _ (q .1))),
+      below-all (sendingOk s w) instances (λ i h. let q = k .sending i h in rw (lt-ltb _ _ (q .0), le-leb _ _ (q .1))),
+      below-all (stateOk t) instances (λ i h. le-leb _ _ (k .states i h)),
+      between-is-low (w .turn) (k .turn),
+      header-is r (k .header) (k .under-way),
+      accept-is t (k .accepted),
+      k .closing,
+    )
+  where
+    between-is-low : (n : ℕ) → (1 ≤ n) × (n < instances) → turnOk n ≡ true
+    between-is-low n (l, h) = rw (le-leb 1 n l, lt-ltb n instances h)
+    header-is : (r : Receiving) → r .header .count < headerLength → (0 < r .rest → (r .header .count ≡ 0) × (r .instance < instances))
+        → headerOk r ≡ true
+    header-is r h u =
+        by-test (eqb (r .rest) 0) (λ q. rw (lt-ltb (r .header .count) headerLength h, q))
+        (λ q.
+        let ne = eqb-false (r .rest) 0 q in
+        let p = u (omega arith) in
+        rw (lt-ltb (r .header .count) headerLength h, q, eq-eqb (r .header .count) 0 (p .0), lt-ltb (r .instance) instances (p .1)))
+    accept-is : (t : Talk) → (t .accepted ≡ true → getD (t .states) 0 0 ≡ doneOf (speaks 0)) → acceptOk t ≡ true
+    accept-is t h = by-test (t .accepted) (λ q. rw (q, eq-eqb (getD (t .states) 0 0) (doneOf (speaks 0)) (h q))) (λ q. rw q)

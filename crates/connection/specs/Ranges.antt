@@ -72,3 +72,10 @@ receiveStoreOk s n = eqb n (together (s .receive))
 
 abbrev pub sendStoreOk : Settings → ℕ → Bool
 sendStoreOk s n = eqb n (together (s .send))
+
+-- a record in range, and the store that is lent, of n bytes, as long as it says
+abbrev pub receives : Connection → ℕ → Bool
+receives c n = inRange c && receiveStoreOk (c .settings) n
+
+abbrev pub sends : Connection → ℕ → Bool
+sends c n = inRange c && sendStoreOk (c .settings) n

@@ -19,7 +19,7 @@ ghost use Rattle.rows.specs.Spoken.{speaks};
 ghost use Rattle.ring.specs.Ring.{together};
 ghost use Rattle.wire.specs.Instances.{instances};
 ghost use Rattle.connection.specs.Closings.{faultLeaves, gateOk};
-ghost use Rattle.connection.specs.Ranges.{capacityOk, settingsOk, restFor, turnOk, headerOk, acceptOk, inRange};
+ghost use Rattle.connection.specs.Ranges.{capacityOk, settingsOk, restFor, turnOk, headerOk, acceptOk, inRange, receives, sends};
 ghost use Rattle.connection.specs.Inside.{capacitiesIn, receivingIn, sendingIn, statesIn, acceptIn, Small};
 ghost use Rattle.connection.specs.declared.Closing.the-variants.{Of};
 
@@ -201,4 +201,28 @@ pub fn in_range(c: Connection) -> bool
     let sending = base::and(sending_ok(send, firsts, waiting), talk);
     let receiving = receiving_ok(receive, starts, held, r.instance, r.rest);
     base::and(settings_ok(s), base::and(receiving, sending))
+}
+
+// Whether a record is in range, and the store that is lent, of n bytes, as long as it says: the receive store, and the
+// send store.
+pub fn receives(c: Connection, n: usize) -> bool
+    ensures { λ r. ⌜ r ≡ receives c n ⌝ }
+{
+    if !in_range(c) {
+        return false;
+    }
+    let settings = c.settings;
+    let caps = settings.receive;
+    n == together(caps)
+}
+
+pub fn sends(c: Connection, n: usize) -> bool
+    ensures { λ r. ⌜ r ≡ sends c n ⌝ }
+{
+    if !in_range(c) {
+        return false;
+    }
+    let settings = c.settings;
+    let caps = settings.send;
+    n == together(caps)
 }

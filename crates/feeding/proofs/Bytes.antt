@@ -30,13 +30,13 @@ use Rattle.connection.specs.declared.Gate.{Gate}
 use Rattle.connection.specs.declared.Gate.the-variants.{Open, Closed}
 use Rattle.connection.specs.declared.Connection.{Connection}
 use Rattle.connection.specs.Closings.{isOpen}
-use Rattle.connection.specs.Ranges.{inRange, receiveStoreOk}
+use Rattle.connection.specs.Ranges.{inRange, receiveStoreOk, receives}
 use Rattle.connection.proofs.RangeLaws.{Ranged, ranged}
 use Rattle.feeding.specs.declared.Admission.{Admission}
 use Rattle.feeding.specs.declared.Admission.the-variants.{Fault, Payload}
 use Rattle.feeding.specs.declared.Way.{Way}
 use Rattle.feeding.specs.declared.Turn.{Turn}
-use Rattle.feeding.specs.Feeding.{State, admitted, admission, instanceFor, settled, headed, kept, step, fed, used, refused, given, accepted, fits, taken, feedOf}
+use Rattle.feeding.specs.Feeding.{State, admitted, admission, instanceFor, settled, headed, kept, step, fed, used, refused, given, accepted, taken, feedOf}
 use Rattle.feeding.specs.Inside.{state, Ready, Area, Under, Settles, Heads, Keeps, Turns}
 
 pub open-is : (g : Gate) → isOpen g ≡ true → g ≡ Open
@@ -361,7 +361,7 @@ both-true true b e = (refl, e)
 both-true false b e = absurd (true≢false (sym e))
 
 -- a record in range and its store are ready
-pub ready-given : (c : Connection) (st : List ℕ) → fits c (length st) ≡ true → length (c .settings .receive) ≡ instances
+pub ready-given : (c : Connection) (st : List ℕ) → receives c (length st) ≡ true → length (c .settings .receive) ≡ instances
     → length (c .receiving .held) ≡ instances → Ready (c .settings .receive) (given c st)
 ready-given c st e wide many =
     let r = c .receiving in
@@ -389,14 +389,14 @@ taken-by c st xs n s s₀ e f g = rw (f, g, e)
 
 -- the ways out
 module _ (c : Connection) (st xs : List ℕ) where
-  pub feed-range : fits c (length st) ≡ false → feedOf c st xs ≡ refused 23 c st
+  pub feed-range : receives c (length st) ≡ false → feedOf c st xs ≡ refused 23 c st
   unfolding feedOf
   feed-range e = rw e
 
-  pub feed-closed : fits c (length st) ≡ true → isOpen (c .gate) ≡ false → feedOf c st xs ≡ refused 20 c st
+  pub feed-closed : receives c (length st) ≡ true → isOpen (c .gate) ≡ false → feedOf c st xs ≡ refused 20 c st
   unfolding feedOf
   feed-closed e g = rw (e, g)
 
-  pub feed-taken : fits c (length st) ≡ true → isOpen (c .gate) ≡ true → feedOf c st xs ≡ taken c st xs
+  pub feed-taken : receives c (length st) ≡ true → isOpen (c .gate) ≡ true → feedOf c st xs ≡ taken c st xs
   unfolding feedOf
   feed-taken e g = rw (e, g)

@@ -21,10 +21,10 @@ use Rattle.connection.specs.declared.Gate.{Gate}
 use Rattle.connection.specs.declared.Gate.the-variants.{Open, Closed}
 use Rattle.connection.specs.Closings.{numberOf, isOpen, gateOk}
 use Rattle.connection.specs.Parts.{withReceiving}
-use Rattle.connection.specs.Ranges.{inRange, receiveStoreOk}
+use Rattle.connection.specs.Ranges.{inRange, receiveStoreOk, receives}
 use Rattle.connection.proofs.RangeLaws.{ranged}
 use Rattle.feeding.specs.declared.Admission.the-variants.{Fault}
-use Rattle.feeding.specs.Feeding.{State, admitted, fed, used, left, Told, refused, given, accepted, fits, taken, feedOf}
+use Rattle.feeding.specs.Feeding.{State, admitted, fed, used, left, Told, refused, given, accepted, taken, feedOf}
 use Rattle.feeding.specs.Feeds.{Once, Taking, Comes, When, Leaves, Answers, Keeps, Joins, WholeOrCut}
 use Rattle.feeding.proofs.Bytes.{open-is, both-true, fed-closed, used-closed, fed-append, used-append, feed-range, feed-closed, feed-taken}
 use Rattle.feeding.proofs.Keeping.{kept-given, kept-fed, range-with, sound-fed}
@@ -47,7 +47,7 @@ gate-is : {P : Type 0} (g : Gate) → (isOpen g ≡ true → g ≡ Open → P) �
 gate-is Open p q = p refl refl
 gate-is (Closed x) p q = q x refl refl
 
-module _ (c : Connection) (st xs : List ℕ) (ok : fits c (length st) ≡ true) (o : isOpen (c .gate) ≡ true) where
+module _ (c : Connection) (st xs : List ℕ) (ok : receives c (length st) ≡ true) (o : isOpen (c .gate) ≡ true) where
   answer : feedOf c st xs ≡ accepted c (uses c st xs) (ends c st xs)
   unfolding taken
   answer = feed-taken c st xs ok o
@@ -67,11 +67,11 @@ module _ (c : Connection) (st xs : List ℕ) (ok : fits c (length st) ≡ true) 
 
 -- the three ways of a call, by its number
 module _ (c : Connection) (st xs : List ℕ) {P : Type 0} where
-  ways : (fits c (length st) ≡ false → feedOf c st xs ≡ refused 23 c st → P)
-      → (fits c (length st) ≡ true → isOpen (c .gate) ≡ false → feedOf c st xs ≡ refused 20 c st → P)
-      → (fits c (length st) ≡ true → isOpen (c .gate) ≡ true → P) → P
+  ways : (receives c (length st) ≡ false → feedOf c st xs ≡ refused 23 c st → P)
+      → (receives c (length st) ≡ true → isOpen (c .gate) ≡ false → feedOf c st xs ≡ refused 20 c st → P)
+      → (receives c (length st) ≡ true → isOpen (c .gate) ≡ true → P) → P
   ways p q r =
-      by-test (fits c (length st))
+      by-test (receives c (length st))
       (λ ok. by-test (isOpen (c .gate)) (λ o. r ok o) (λ o. q ok o (feed-closed c st xs ok o)))
       (λ out. p out (feed-range c st xs out))
 
@@ -87,13 +87,13 @@ module _ (c : Connection) (st xs : List ℕ) where
   at-20 : feedOf c st xs ≡ refused 20 c st → number ≡ 20
   at-20 e = ap (λ (t : Told). t .answer .number) e
 
-  out-of-range : (number ≡ 23) ↔ (fits c (length st) ≡ false)
+  out-of-range : (number ≡ 23) ↔ (receives c (length st) ≡ false)
   out-of-range = (
     λ n. ways c st xs (λ out e. out) (λ ok o e. absurd (omega (arith, at-20 e))) (λ ok o. absurd (omega (arith, number-low c st xs ok o))),
     λ out. at-23 (feed-range c st xs out),
   )
 
-  closed : (number ≡ 20) ↔ ((fits c (length st) ≡ true) × (isOpen (c .gate) ≡ false))
+  closed : (number ≡ 20) ↔ ((receives c (length st) ≡ true) × (isOpen (c .gate) ≡ false))
   closed = (
     λ n. ways c st xs (λ out e. absurd (omega (arith, at-23 e))) (λ ok o e. (ok, o)) (λ ok o. absurd (omega (arith, number-low c st xs ok o))),
     λ p. at-20 (feed-closed c st xs (p .0) (p .1)),
@@ -217,9 +217,9 @@ answers c st xs = (when c st xs, leaves c st xs)
 -- ---- the range
 
 -- record and store after a call that took bytes and left a closing in range
-fits-after : (c : Connection) (st xs : List ℕ) → fits c (length st) ≡ true → gateOk (ends c st xs .gate) ≡ true
-    → fits (withReceiving c (ends c st xs .receiving) (ends c st xs .gate)) (length (ends c st xs .store)) ≡ true
-fits-after c st xs ok g =
+receives-after : (c : Connection) (st xs : List ℕ) → receives c (length st) ≡ true → gateOk (ends c st xs .gate) ≡ true
+    → receives (withReceiving c (ends c st xs .receiving) (ends c st xs .gate)) (length (ends c st xs .store)) ≡ true
+receives-after c st xs ok g =
     let p = both-true (inRange c) (receiveStoreOk (c .settings) (length st)) ok in
     let k = kept-fed (c .settings .side) (c .settings .receive) (c .receiving .starts) (length st) (given c st) xs (kept-given c st (p .0)) in
     rw (range-with c (length st) (ends c st xs) (p .0) k g, k .long) (p .1)
@@ -230,7 +230,7 @@ keeps c st xs spelt bytes ok =
     (λ _ o.
     let p = both-true (inRange c) (receiveStoreOk (c .settings) (length st)) ok in
     let s = sound-fed (c .settings .side) (c .settings .receive) (given c st) xs (spelt, ranged c (p .0) .closing) bytes in
-    rw (answer c st xs ok o) (fits-after c st xs ok (s .1), s .0))
+    rw (answer c st xs ok o) (receives-after c st xs ok (s .1), s .0))
 
 -- ---- T4'
 
@@ -249,7 +249,7 @@ module _ (c : Connection) (st xs ys : List ℕ) where
         used = omega (arith, ap (λ (t : Told). t .answer .used) (e (xs ++ ys)), ap (λ (t : Told). t .answer .used) (e ys));
       })
 
-  module _ (ok : fits c (length st) ≡ true) (o : isOpen (c .gate) ≡ true) where
+  module _ (ok : receives c (length st) ≡ true) (o : isOpen (c .gate) ≡ true) where
     abbrev side : Side
     side = c .settings .side
 
@@ -276,7 +276,7 @@ module _ (c : Connection) (st xs ys : List ℕ) where
     -- the first leaves it open: the second goes on
     cut-open : isOpen (s .gate) ≡ true → s .gate ≡ Open → Cut c st xs ys (accepted c (uses c st xs) s)
     cut-open t g =
-        let ok′ : fits next (length (s .store)) ≡ true = fits-after c st xs ok (ap gateOk g) in
+        let ok′ : receives next (length (s .store)) ≡ true = receives-after c st xs ok (ap gateOk g) in
         let second : feedOf next (s .store) ys ≡ accepted next (used side caps s ys) (fed side caps s ys) = answer next (s .store) ys ok′ t in
         record {
           connection = ap (λ (r : Told). r .answer .connection) whole ∙ sym (ap (λ (r : Told). r .answer .connection) second);
@@ -309,7 +309,7 @@ module _ (c : Connection) (st xs ys : List ℕ) where
 
 pub whole-or-cut : WholeOrCut
 whole-or-cut c st xs ys =
-    by-test (fits c (length st))
+    by-test (receives c (length st))
     (λ ok.
     by-test (isOpen (c .gate))
     (λ o.

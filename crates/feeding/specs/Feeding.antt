@@ -18,7 +18,7 @@ use Rattle.connection.specs.declared.Gate.{Gate}
 use Rattle.connection.specs.declared.Gate.the-variants.{Open, Closed}
 use Rattle.connection.specs.Closings.{numberOf, isOpen}
 use Rattle.connection.specs.Parts.{withReceiving}
-use Rattle.connection.specs.Ranges.{inRange, receiveStoreOk}
+use Rattle.connection.specs.Ranges.{receives}
 use Rattle.feeding.specs.declared.Admission.{Admission}
 use Rattle.feeding.specs.declared.Admission.the-variants.{Fault, Payload}
 use Rattle.feeding.specs.declared.Fed.{Fed}
@@ -134,10 +134,6 @@ abbrev pub accepted : Connection → ℕ → State → Told
 accepted c n s =
     told (record { number = left (s .gate); used = n; connection = withReceiving c (s .receiving) (s .gate) }) (s .store)
 
--- the record is in range and the receive store, of n bytes, as long as it says
-abbrev pub fits : Connection → ℕ → Bool
-fits c n = inRange c && receiveStoreOk (c .settings) n
-
 -- the bytes, from record and store as given
 unfoldable pub taken : Connection → List ℕ → List ℕ → Told
 taken c st xs =
@@ -148,4 +144,4 @@ taken c st xs =
 
 -- Feed: 23; 20 (also for no bytes); and else the bytes.
 unfoldable pub feedOf : Connection → List ℕ → List ℕ → Told
-feedOf c st xs = cond (fits c (length st)) (cond (isOpen (c .gate)) (taken c st xs) (refused 20 c st)) (refused 23 c st)
+feedOf c st xs = cond (receives c (length st)) (cond (isOpen (c .gate)) (taken c st xs) (refused 20 c st)) (refused 23 c st)

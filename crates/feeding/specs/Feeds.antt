@@ -18,8 +18,9 @@ use Rattle.connection.specs.declared.Closing.{Closing}
 use Rattle.connection.specs.declared.Gate.the-variants.{Closed}
 use Rattle.connection.specs.Closings.{numberOf, isOpen}
 use Rattle.connection.specs.Parts.{withReceiving}
+use Rattle.connection.specs.Ranges.{receives}
 use Rattle.feeding.specs.declared.Admission.the-variants.{Fault}
-use Rattle.feeding.specs.Feeding.{State, admitted, withHeader, fed, Told, told, refused, given, fits, feedOf}
+use Rattle.feeding.specs.Feeding.{State, admitted, withHeader, fed, Told, told, refused, given, feedOf}
 
 -- T1: the contract leaves one outcome
 abbrev pub Once : Type 0
@@ -41,15 +42,15 @@ pub record Eighth (side : Side) (caps : List ℕ) (s : State) (xs : List ℕ) (P
 
 -- a call that takes bytes, and a header in them
 abbrev pub Taking : Connection → List ℕ → Type 0
-Taking c st = (fits c (length st) ≡ true) × (isOpen (c .gate) ≡ true)
+Taking c st = (receives c (length st) ≡ true) × (isOpen (c .gate) ≡ true)
 
 abbrev pub Comes : Connection → List ℕ → List ℕ → (List ℕ → ℕ → Route → Type 0) → Type 0
 Comes c st xs P = Eighth (c .settings .side) (c .settings .receive) (given c st) xs P
 
 -- T2: each number exactly when document 01 says.
 pub record When (c : Connection) (st xs : List ℕ) (r : Told) : Type 0 where
-  pub out-of-range : (r .answer .number ≡ 23) ↔ (fits c (length st) ≡ false)
-  pub closed : (r .answer .number ≡ 20) ↔ ((fits c (length st) ≡ true) × (isOpen (c .gate) ≡ false))
+  pub out-of-range : (r .answer .number ≡ 23) ↔ (receives c (length st) ≡ false)
+  pub closed : (r .answer .number ≡ 20) ↔ ((receives c (length st) ≡ true) × (isOpen (c .gate) ≡ false))
   pub unknown : (r .answer .number ≡ 11) ↔ (Taking c st × Comes c st xs (λ held n to. to ≡ Unknown))
   pub wrong : (r .answer .number ≡ 12) ↔ (Taking c st × Comes c st xs (λ held n to. (i : ℕ) × (to ≡ Wrong i)))
   pub overflow : (r .answer .number ≡ 13)
@@ -74,8 +75,8 @@ Spelt h = (length (h .bytes) ≡ headerLength) × Bytes (h .bytes)
 
 -- In range for ever: bytes fed to a record in range and its store leave a record in range and its store.
 abbrev pub Keeps : Type 0
-Keeps = (c : Connection) (st xs : List ℕ) → Spelt (c .receiving .header) → Bytes xs → fits c (length st) ≡ true
-    → let r = feedOf c st xs in (fits (r .answer .connection) (length (r .store)) ≡ true) × Spelt (r .answer .connection .receiving .header)
+Keeps = (c : Connection) (st xs : List ℕ) → Spelt (c .receiving .header) → Bytes xs → receives c (length st) ≡ true
+    → let r = feedOf c st xs in (receives (r .answer .connection) (length (r .store)) ≡ true) × Spelt (r .answer .connection .receiving .header)
 
 -- T4': a run fed whole or cut, with no other call between, leaves the same record and store. The number is the first that is not 0, and what is
 -- used adds up.

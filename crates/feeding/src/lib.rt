@@ -19,7 +19,8 @@ ghost use Rattle.wire.specs.Instances.{instances};
 ghost use Rattle.wire.specs.declared.instances.Route.the-variants.{To};
 ghost use Rattle.connection.specs.declared.Gate.the-variants.{Open};
 ghost use Rattle.connection.specs.Closings.{numberOf};
-ghost use Rattle.feeding.specs.Feeding.{admitted, admission, instanceFor, left, fits, fed, used, told, taken, feedOf};
+ghost use Rattle.connection.specs.Ranges.{receives};
+ghost use Rattle.feeding.specs.Feeding.{admitted, admission, instanceFor, left, fed, used, told, taken, feedOf};
 ghost use Rattle.feeding.specs.Inside.{state, Ready, Area, Under, Settles, Heads, Keeps, Turns};
 
 // What a whole header leads to: a fault, or a payload for an instance and how many bytes it has.
@@ -282,21 +283,9 @@ pub struct Fed {
     pub connection: Connection,
 }
 
-// Whether record and store are in range.
-fn fitting(c: Connection, n: usize) -> bool
-    ensures { λ r. ⌜ r ≡ fits c n ⌝ }
-{
-    if !connection::range::in_range(c) {
-        return false;
-    }
-    let settings = c.settings;
-    let caps = settings.receive;
-    n == connection::range::together(caps)
-}
-
 // The bytes of an open connection in range.
 fn taken(c: Connection, store: &mut [u8], input: &[u8]) -> Fed
-    requires { ⌜ (fits c (length (now store)) ≡ true) × (c .gate ≡ Open) ⌝ }
+    requires { ⌜ (receives c (length (now store)) ≡ true) × (c .gate ≡ Open) ⌝ }
     ensures { λ r. ⌜ told r (now (store .exit)) ≡ taken c (now (store .entry)) (now (input .entry)) ⌝ }
 {
     let settings = c.settings;
@@ -333,7 +322,7 @@ fn taken(c: Connection, store: &mut [u8], input: &[u8]) -> Fed
 pub fn feed(c: Connection, store: &mut [u8], input: &[u8]) -> Fed
     ensures { λ r. ⌜ told r (now (store .exit)) ≡ feedOf c (now (store .entry)) (now (input .entry)) ⌝ }
 {
-    if !fitting(c, store.len()) {
+    if !connection::range::receives(c, store.len()) {
         return Fed {
             number: 23,
             used: 0,

@@ -11,24 +11,24 @@ use Rattle.feeding.proofs.feed.Tie as tie
 returns : tie.Need-returns
 returns c =
     let a = c .before .before .before .before .args in
-    sym (feed-range (a .c) (now (a .store)) (now (a .input)) (sym (c .before .fitting .ensures) ∙ not-true _ (c .if1 .taken)))
+    sym (feed-range (a .c) (now (a .store)) (now (a .input)) (sym (c .before .receives .ensures) ∙ not-true _ (c .if1 .taken)))
 
 returns-2 : tie.Need-returns-2
 returns-2 c =
     let a = c .before .before .before .before .before .before .args in
-    sym (feed-closed (a .c) (now (a .store)) (now (a .input)) (sym (c .before .before .before .fitting .ensures) ∙ not-false _ (c .before .before .if1 .left))
+    sym (feed-closed (a .c) (now (a .store)) (now (a .input)) (sym (c .before .before .before .receives .ensures) ∙ not-false _ (c .before .before .if1 .left))
     (sym (c .before .is-open .ensures) ∙ not-true _ (c .if2 .taken)))
 
 taken-requires : tie.Need-taken-requires
 taken-requires c κs =
     let a = c .before .before .before .before .before .before .before .args in
-    (sym (c .before .before .before .before .fitting .ensures) ∙ not-false _ (c .before .before .before .if1 .left), open-is (a .c .gate) (sym (c .before .before .is-open .ensures) ∙ not-false _ (c .before .if2 .left)))
+    (sym (c .before .before .before .before .receives .ensures) ∙ not-false _ (c .before .before .before .if1 .left), open-is (a .c .gate) (sym (c .before .before .is-open .ensures) ∙ not-false _ (c .before .if2 .left)))
 
 returns-3 : tie.Need-returns-3
 returns-3 c =
     let a = c .before .before .before .before .before .before .before .before .before .before .args in
     c .before .before .taken .ensures
-    ∙ sym (feed-taken (a .c) (now (a .store)) (now (a .input)) (sym (c .before .before .before .before .before .before .before .fitting .ensures) ∙ not-false _ (c .before .before .before .before .before .before .if1 .left))
+    ∙ sym (feed-taken (a .c) (now (a .store)) (now (a .input)) (sym (c .before .before .before .before .before .before .before .receives .ensures) ∙ not-false _ (c .before .before .before .before .before .before .if1 .left))
     (sym (c .before .before .before .before .before .is-open .ensures) ∙ not-false _ (c .before .before .before .before .if2 .left)))
 
 pub feed-spec : {M : Type 1} → statement M

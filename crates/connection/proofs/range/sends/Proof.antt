@@ -1,11 +1,11 @@
--- `feeding::fitting` meets its contract: the record is tested first, so that its capacities can be summed.
+-- `connection::range::sends` meets its contract: the record is tested first, so that its capacities can be summed.
 -- Assumes nothing.
 use mathlib.Core.Path.{sym, _∙_}
 use borrow.Author.Tests.{not-true, not-false}
 use Rattle.connection.proofs.RangeLaws.{ranged}
 use borrow.Author.Needs.{needs}
-use Rattle.feeding.proofs.fitting.Statement.{statement}
-use Rattle.feeding.proofs.fitting.Tie as tie
+use Rattle.connection.proofs.range.sends.Statement.{statement}
+use Rattle.connection.proofs.range.sends.Tie as tie
 
 returns : tie.Need-returns
 returns c = let e = sym (c .before .in-range .ensures) ∙ not-true _ (c .if1 .taken) in rw e
@@ -13,15 +13,15 @@ returns c = let e = sym (c .before .in-range .ensures) ∙ not-true _ (c .if1 .t
 together-requires : tie.Need-together-requires
 together-requires c κs =
     let e = sym (c .before .before .before .in-range .ensures) ∙ not-false _ (c .before .before .if1 .left) in
-    λ i h. ranged (c .before .before .before .before .args .c) e .set .receive i h .1
+    λ i h. ranged (c .before .before .before .before .args .c) e .set .send i h .1
 
 returns-2 : tie.Need-returns-2
 returns-2 c =
     let e = sym (c .before .before .before .before .in-range .ensures) ∙ not-false _ (c .before .before .before .if1 .left) in
     rw (e, c .together .ensures)
 
-pub fitting-spec : {M : Type 1} → statement M
-fitting-spec =
+pub sends-spec : {M : Type 1} → statement M
+sends-spec =
     tie.close
     (tie.spec
     (λ c κs. search needs)
