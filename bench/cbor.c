@@ -1,10 +1,12 @@
 /* Times the proved walk over one CBOR item beside two plain C walks: one that does the same work (definite and
    indefinite lengths, nesting, heads counted), and one that knows definite lengths only and counts nothing.
    Built and run by bench/cbor. Each time is the least of 31 runs, the walks in turn, so that what else the machine does
-   counts little. */
+   counts little. With a size as its argument it times nothing, and walks one item of that size once: for a tool that
+   counts instructions. */
 #include <stdint.h>
 #include <stdio.h>
 #include <stdlib.h>
+#include <string.h>
 #include <time.h>
 
 extern size_t cbor_end(const uint8_t *, size_t, size_t);
@@ -13,8 +15,8 @@ extern size_t cbor_heads(const uint8_t *, size_t, size_t);
 /* A block-like item: a header, and transactions of inputs, outputs, values, a fee and witnesses. */
 static uint8_t *out;
 static size_t len;
-static int endless;
-static uint32_t seed;
+static int endless, alike;
+static uint32_t seed, first = 1;
 
 static void byte(unsigned b) { out[len++] = b; }
 
@@ -94,6 +96,8 @@ static void witness(void)
 
 static void transaction(void)
 {
+    if (alike)
+        seed = first;
     unsigned inputs = 1 + any(3), outputs = 1 + any(3);
     opened(4, 2);
     opened(5, 4);
@@ -133,10 +137,10 @@ static size_t build(uint8_t *b, size_t size, int indefinite)
     size_t n = 0;
     endless = indefinite;
     out = b;
-    for (len = 0, seed = 1; len + 800 < size; n++)
+    for (len = 0, seed = first; len + 800 < size; n++)
         transaction();
     len = 0;
-    seed = 1;
+    seed = first;
     opened(4, 2);
     opened(4, 3);
     head(0, 7654321);
@@ -285,8 +289,8 @@ static long lean(const uint8_t *b, long n)
     }
 }
 
-static uint8_t item[1 << 19], open_item[1 << 19], ring[1 << 19];
-static size_t size, open_size, from;
+static uint8_t item[1 << 19], open_item[1 << 19], ring[1 << 19], alike_item[1 << 19], apart[1 << 19], copies[1 << 19];
+static size_t size, open_size, from, alike_size, parts, ends[1 << 10], part;
 static volatile long sink;
 
 static void walked(void) { sink += cbor_end(item, size, 0); }
@@ -295,6 +299,19 @@ static void walked_ring(void) { sink += cbor_end(ring, size, from); }
 static void plainly(void) { sink += plain(item, size).end; }
 static void plainly_open(void) { sink += plain(open_item, open_size).end; }
 static void leanly(void) { sink += lean(item, size); }
+static void walked_alike(void) { sink += cbor_end(alike_item, alike_size, 0); }
+
+static void walked_apart(void)
+{
+    for (size_t i = 0; i < parts; i++)
+        sink += cbor_end(apart + ends[i], ends[i + 1] - ends[i], 0);
+}
+
+static void walked_copies(void)
+{
+    for (size_t i = 0; i < parts; i++)
+        sink += cbor_end(copies + i * part, part, 0);
+}
 
 static double now(void)
 {
@@ -304,10 +321,11 @@ static double now(void)
 }
 
 /* The least times of the walks, run in turn. */
-enum { WALKS = 6, RUNS = 31 };
+enum { WALKS = 9, RUNS = 31 };
 static void times(double *least)
 {
-    static void (*const walks[WALKS])(void) = { walked, walked_open, walked_ring, plainly, plainly_open, leanly };
+    static void (*const walks[WALKS])(void) = { walked, walked_open, walked_ring, plainly, plainly_open, leanly,
+                                                walked_alike, walked_apart, walked_copies };
     int rounds = 1 + 6000000 / (int)size;
     for (int r = 0; r < RUNS; r++)
         for (int w = 0; w < WALKS; w++) {
@@ -320,25 +338,63 @@ static void times(double *least)
         }
 }
 
+/* About as many bytes in small items: different ones, that go on with each other's transactions, and copies of the
+   first. */
+static void made_small(void)
+{
+    for (parts = 0; parts == 0 || ends[parts] + part <= size; parts++) {
+        ends[parts + 1] = ends[parts] + build(apart + ends[parts], 2000, 0);
+        first = seed;
+        part = ends[1];
+    }
+    first = 1;
+    for (size_t i = 0; i < parts; i++)
+        memcpy(copies + i * part, apart, part);
+}
+
+static int small_whole(void)
+{
+    for (size_t i = 0; i < parts; i++)
+        if (cbor_end(apart + ends[i], ends[i + 1] - ends[i], 0) != ends[i + 1] - ends[i] || cbor_end(copies + i * part, part, 0) != part)
+            return 0;
+    return 1;
+}
+
 static void made(size_t wanted)
 {
     size = build(item, wanted, 0);
     open_size = build(open_item, wanted, 1);
+    alike = 1;
+    alike_size = build(alike_item, wanted, 0);
+    alike = 0;
+    made_small();
     from = size * 2 / 3;
     for (size_t i = 0; i < size; i++)
         ring[(from + i) % size] = item[i];
     struct told a = plain(item, size), b = plain(open_item, open_size);
     if ((size_t)a.end != size || cbor_end(item, size, 0) != size || cbor_end(ring, size, from) != size || (size_t)lean(item, size) != size
         || (size_t)b.end != open_size || cbor_end(open_item, open_size, 0) != open_size || cbor_heads(item, size, 0) != (size_t)a.heads
-        || cbor_heads(ring, size, from) != (size_t)a.heads || cbor_heads(open_item, open_size, 0) != (size_t)b.heads) {
+        || cbor_heads(ring, size, from) != (size_t)a.heads || cbor_heads(open_item, open_size, 0) != (size_t)b.heads
+        || cbor_end(alike_item, alike_size, 0) != alike_size || !small_whole()) {
         puts("the walks do not agree");
         exit(1);
     }
 }
 
-int main(void)
+static int walked_once(size_t wanted)
+{
+    if (wanted > sizeof item)
+        return 1;
+    size = build(item, wanted, 0);
+    printf("%zu bytes\n", size);
+    return cbor_end(item, size, 0) != size;
+}
+
+int main(int argc, char **argv)
 {
     double t[WALKS];
+    if (argc == 2)
+        return walked_once(strtoul(argv[1], 0, 10));
     made(65000);
     times(t);
     printf("item of %zu bytes, %zu heads: walk %.1f us, plain C %.1f us (ratio %.2f), definite-only C %.1f us (ratio %.2f)\n", size,
@@ -349,8 +405,10 @@ int main(void)
     for (size_t wanted = 1000; wanted <= 128000; wanted *= 2) {
         made(wanted);
         times(t);
-        printf("%6zu bytes: walk %.3f ns a byte, plain C %.3f, definite-only C %.3f\n", size, t[0] * 1000 / size, t[3] * 1000 / size,
-               t[5] * 1000 / size);
+        printf("%6zu bytes: walk %.3f ns a byte, plain C %.3f, definite-only C %.3f; walk, transactions alike, %.3f\n", size,
+               t[0] * 1000 / size, t[3] * 1000 / size, t[5] * 1000 / size, t[6] * 1000 / alike_size);
     }
+    printf("%6zu bytes in %zu different items: walk %.3f ns a byte; in %zu copies of the first: %.3f\n", ends[parts], parts,
+           t[7] * 1000 / ends[parts], parts, t[8] * 1000 / (parts * part));
     return 0;
 }
