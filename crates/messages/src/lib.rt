@@ -78,7 +78,7 @@ fn set_place(a: [usize; 4], i: usize, v: usize) -> [usize; 4]
 }
 
 // A message of which nothing but its kind is known.
-fn begin(kind: u64) -> Message
+pub fn begin(kind: u64) -> Message
     ensures { λ r. ⌜ r ≡ begun kind ⌝ }
 {
     Message {

@@ -1,0 +1,11 @@
+-- `judging::moved` meets its contract: the tests are those of the definition.
+-- Assumes nothing.
+use borrow.Author.Needs.{needs}
+use Rattle.judging.proofs.moved.Statement.{statement}
+use Rattle.judging.proofs.moved.Tie as tie
+
+returns : tie.Need-returns
+returns c = cc
+
+pub moved-spec : {M : Type 1} → statement M
+moved-spec = tie.close (tie.spec (λ c κs. search needs) (λ c κs. search needs) (λ c κs. search needs) returns)

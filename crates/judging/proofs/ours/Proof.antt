@@ -1,0 +1,17 @@
+-- `judging::ours` meets its contract: we are initiator exactly if we send with mode 0.
+-- Assumes nothing.
+use Rattle.wire.specs.Instances.{at, initiates}
+use Rattle.judging.specs.Judging.{ours}
+use Rattle.judging.proofs.JudgingLaws.{initiator-mode}
+use borrow.Author.Needs.{needs}
+use Rattle.judging.proofs.ours.Statement.{statement}
+use Rattle.judging.proofs.ours.Tie as tie
+
+returns : tie.Need-returns
+unfolding ours
+returns c =
+    let a = c .before .before .before .before .args in
+    rw (c .is-ours .ensures, c .before .mode .ensures, initiator-mode (initiates (a .side) (at (a .i) .role)), c .before .before .agent .ensures, c .before .before .before .protocol .ensures)
+
+pub ours-spec : {M : Type 1} → statement M
+ours-spec = tie.close (tie.spec (λ c κs. search needs) (λ c κs. search needs) (λ c κs. search needs) (λ c κs. search needs) returns)

@@ -1,0 +1,165 @@
+// What taking and putting have in common: who may send, whether bytes are a message with a row in the present state,
+// and where it leads.
+//
+// One reader and one row search serve both. Nothing here changes anything: what is judged is told, with the number that
+// a refusal has.
+use connection::Talk;
+use connection::parts::changed;
+use item::Verdict;
+use messages::Message;
+use messages::Reading;
+use rows::Agency;
+use rows::Next;
+use rows::Protocol;
+use wire::instances::Side;
+ghost use mathlib.Core.Path.{_≡_};
+ghost use Prim.Native.Nat.{_≤_, _<_};
+ghost use lib.ListN.{length};
+ghost use Rattle.ring.specs.Ring.{around};
+ghost use Rattle.wire.specs.Instances.{instances};
+ghost use Rattle.item.specs.declared.Verdict.the-variants.{Whole};
+ghost use Rattle.item.specs.Verdict.{verdict};
+ghost use Rattle.messages.specs.Reading.{numberOf};
+ghost use Rattle.judging.specs.Judging.{holds, ours, barred, movedBy, unjudged, byRow, judgedOf};
+
+// Whether bytes are a message that moves the state: 0 with the message, its length and the next state, or the number of
+// a refusal or notice, and all else 0.
+pub struct Judged {
+    pub number: u64,
+    pub len: usize,
+    pub message: Message,
+    pub next: u64,
+}
+
+// Whether agency is with us, as initiator or not.
+fn is_ours(initiator: bool, agency: Agency) -> bool
+    ensures { λ r. ⌜ r ≡ holds initiator agency ⌝ }
+{
+    match agency {
+        Agency::Initiator => initiator,
+        Agency::Responder => base::not(initiator),
+        Agency::Nobody => false,
+    }
+}
+
+// Whether we have agency in a state of instance i. At Done nobody has.
+pub fn ours(side: Side, i: usize, state: u64) -> bool
+    requires { ⌜ i < instances ⌝ }
+    ensures { λ r. ⌜ r ≡ ours side i state ⌝ }
+{
+    let agency = rows::agent(rows::spoken::protocol(i), state);
+    is_ours(wire::instances::mode(side, i) == 0, agency)
+}
+
+// Whether Handshake, which hasn't ended in Accept, bars instance i.
+pub fn barred(t: Talk, i: usize) -> bool
+    ensures { λ r. ⌜ r ≡ barred t i ⌝ }
+{
+    base::and(base::not(i == 0), base::not(t.accepted))
+}
+
+// The states, and the mark of Accept, once a message of this kind has moved instance i to the next state.
+pub fn moved(t: Talk, i: usize, kind: u64, next: u64) -> Talk
+    requires { ⌜ i < instances ⌝ }
+    ensures { λ r. ⌜ r ≡ movedBy t i kind next ⌝ }
+{
+    let states = t.states;
+    let accept = base::and(i == 0, kind == 1);
+    Talk {
+        states: changed(states, i, next),
+        accepted: base::or(t.accepted, accept),
+    }
+}
+
+// A refusal or a notice.
+pub fn refused(number: u64) -> Judged
+    ensures { λ r. ⌜ r ≡ unjudged number ⌝ }
+{
+    Judged {
+        number,
+        len: 0,
+        message: messages::begin(0),
+        next: 0,
+    }
+}
+
+// A message of n bytes that leads to a state.
+fn led(n: usize, message: Message, next: u64) -> Judged
+    ensures { λ r. ⌜ r ≡ byRow n message (Next.To next) ⌝ }
+{
+    Judged {
+        number: 0,
+        len: n,
+        message,
+        next,
+    }
+}
+
+// Where a message of n bytes leads, if it has a row.
+fn leads(n: usize, message: Message, next: Next) -> Judged
+    ensures { λ r. ⌜ r ≡ byRow n message next ⌝ }
+{
+    match next {
+        Next::To(state) => led(n, message, state),
+        Next::None => refused(16),
+    }
+}
+
+// Document 01's number for what reading came to.
+fn number_of(reading: Reading) -> u64
+    ensures { λ r. ⌜ r ≡ numberOf reading ⌝ }
+{
+    match reading {
+        Reading::Read => 0,
+        Reading::NotArray => 15,
+        Reading::UnknownKind => 15,
+        Reading::WrongCount => 15,
+        Reading::WrongField(_) => 15,
+    }
+}
+
+// The n bytes from the place `from` on of a slice seen as a ring, which were measured, in a state of the protocol.
+pub fn judge(p: Protocol, state: u64, s: &[u8], from: usize, n: usize) -> Judged
+    requires { ⌜ (from ≤ length (now s)) × (n ≤ length (now s)) × (verdict (around (now s) from n) ≡ Whole n) ⌝ }
+    ensures { λ r. ⌜ r ≡ judgedOf p state (around (now (s .entry)) from n) ⌝ }
+{
+    let answer = messages::read(p, s, from, n);
+    let reading = answer.reading;
+    let message = answer.message;
+    let number = number_of(reading);
+    if number != 0 {
+        return refused(number);
+    }
+    let next = rows::find(p, state, message.kind, messages::flag(p, message));
+    leads(n, message, next)
+}
+
+// Bytes that are not exactly one item are no message.
+fn no_message() -> Judged
+    ensures { λ r. ⌜ r ≡ unjudged (numberOf Reading.NotArray) ⌝ }
+{
+    refused(number_of(Reading::NotArray))
+}
+
+// The slice, whose first n bytes are an item.
+fn judge_item(p: Protocol, state: u64, s: &[u8], n: usize) -> Judged
+    requires { ⌜ verdict (now s) ≡ Whole n ⌝ }
+    ensures { λ r. ⌜ r ≡ judgedOf p state (now (s .entry)) ⌝ }
+{
+    if n == s.len() {
+        return judge(p, state, s, 0, n);
+    }
+    no_message()
+}
+
+// All bytes of a slice, in a state of the protocol.
+pub fn judge_slice(p: Protocol, state: u64, s: &[u8]) -> Judged
+    ensures { λ r. ⌜ r ≡ judgedOf p state (now (s .entry)) ⌝ }
+{
+    let v = cbor::measure_slice(s);
+    match v {
+        Verdict::Whole(n) => judge_item(p, state, s, n),
+        Verdict::Bad(_) => no_message(),
+        Verdict::Incomplete => no_message(),
+    }
+}
