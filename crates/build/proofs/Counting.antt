@@ -1,11 +1,12 @@
--- How many elements stand end to end: what is counted stands there.
+-- How many elements stand end to end: what is counted stands there, and what stands there is counted.
 -- Assumes nothing.
-use Prim.Native.Nat.{ℕ, zero, suc, _+_, _≤_}
+use Prim.Native.Nat.{ℕ, zero, suc, _+_, _≤_, _<_}
 use mathlib.Core.Path.{_≡_, subst, subst⁻¹}
 use mathlib.Core.Option.{Option, none, some}
 use native.Mathlib.Omega.{arith}
+use native.Mathlib.Numerals.{add-one}
 use lib.Dec.{eqb}
-use borrow.Author.Tests.{eqb-true}
+use borrow.Author.Tests.{eqb-true, eq-eqb, ne-eqb}
 use Rattle.base.proofs.Conds.{cond-cases}
 use Rattle.messages.specs.declared.elements.Number.{Number}
 use Rattle.messages.specs.declared.elements.Number.the-variants.{Is, Not}
@@ -38,6 +39,22 @@ module _ (next : ℕ → ℕ → Number) (n : ℕ) (R : ℕ → ℕ → ℕ → 
       (λ l q (s, i).
       some-cases P (λ k. some (k + 1)) (howMany next n bytes l q) (count-sound bytes l q i) tt
       (λ k r. let e : suc k ≡ k + 1 = omega arith in subst (λ (j : ℕ). R left j p n) e (more left p l q k s r))))
+
+-- And k elements that stand up to the end, each of a byte or more, are counted: R says that they do, k of them from p on.
+module _ (next : ℕ → ℕ → Number) (n : ℕ) (R : ℕ → ℕ → ℕ → Type 0) (end : (left p : ℕ) → R left 0 p → p ≡ n)
+    (more : (left k p : ℕ) → R left (suc k) p → (l : ℕ) × (q : ℕ) × (next left p ≡ Is l q) × (p < q) × (q ≤ n) × R l k q) where
+  pub count-found : (k bytes left p : ℕ) → R left k p → n ≤ p + bytes → howMany next n bytes left p ≡ some k
+  unfolding howMany
+  count-found zero zero left p r h = rw (eq-eqb p n (end left p r))
+  count-found zero (suc bytes) left p r h = rw (eq-eqb p n (end left p r))
+  count-found (suc k) zero left p r h = let m = more left k p r in absurd (omega (arith, m .3, m .4))
+  count-found (suc k) (suc bytes) left p r h =
+      let m = more left k p r in
+      let l : ℕ = m .0 in
+      let q : ℕ = m .1 in
+      let before : p < n = omega (arith, m .3, m .4) in
+      let rest : howMany next n bytes l q ≡ some k = count-found k bytes l q (m .5) (omega (arith, m .3)) in
+      rw (ne-eqb p n (λ e. omega arith), m .2, rest, add-one)
 
 -- there are no more elements than bytes
 pub count-small : (next : ℕ → ℕ → Number) (n bytes left p : ℕ) → Found (λ k. k ≤ bytes) (howMany next n bytes left p)

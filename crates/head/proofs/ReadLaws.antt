@@ -155,22 +155,27 @@ module _ (bs : List ℕ) (at : ℕ) where
 
 -- a head that is not cut short is the same with more bytes behind
 module _ (bs more : List ℕ) where
+  long-there : (m k at : ℕ) → at + k ≤ length bs → longAt (bs ++ more) m k at ≡ longAt bs m k at
+  long-there m k at fits =
+      long-here (bs ++ more) m k at (omega (arith, length-append bs more))
+      ∙ ap (λ (r : List ℕ). Definite m (number r) (at + k)) (run-front bs more at k fits)
+      ∙ sym (long-here bs m k at fits)
+
   long-longer : (m k at : ℕ) → (longAt bs m k at ≡ Short → ⊥) → longAt (bs ++ more) m k at ≡ longAt bs m k at
   long-longer m k at told = elim (decLt (length bs) (at + k)) [
     | yes y ↦ absurd (told (long-short bs m k at y))
-    | no x ↦
-        let fits : at + k ≤ length bs = omega arith in
-        long-here (bs ++ more) m k at (omega (arith, length-append bs more))
-        ∙ ap (λ (r : List ℕ). Definite m (number r) (at + k)) (run-front bs more at k fits)
-        ∙ sym (long-here bs m k at fits)
+    | no x ↦ long-there m k at (omega arith)
   ]
 
-  simple-longer : (at : ℕ) → (simpleAt bs at ≡ Short → ⊥) → simpleAt (bs ++ more) at ≡ simpleAt bs at
+  simple-there : (at : ℕ) → at < length bs → simpleAt (bs ++ more) at ≡ simpleAt bs at
   unfolding simpleAt
+  simple-there at y =
+      let y′ : at < length (bs ++ more) = omega (arith, length-append bs more) in
+      rw (lt-ltb at (length bs) y, lt-ltb at (length (bs ++ more)) y′, List·getD-append bs more 0 at y)
+
+  simple-longer : (at : ℕ) → (simpleAt bs at ≡ Short → ⊥) → simpleAt (bs ++ more) at ≡ simpleAt bs at
   simple-longer at told = elim (decLt at (length bs)) [
-    | yes y ↦
-        let y′ : at < length (bs ++ more) = omega (arith, length-append bs more) in
-        rw (lt-ltb at (length bs) y, lt-ltb at (length (bs ++ more)) y′, List·getD-append bs more 0 at y)
+    | yes y ↦ simple-there at y
     | no x ↦ absurd (told (simple-short bs at (omega arith)))
   ]
 
@@ -194,6 +199,43 @@ module _ (bs more : List ℕ) where
     | no x ↦ absurd (told (head-none bs at (omega arith)))
   ]
 
+-- a head that ends in the front part is the same head in that part alone
+cut-short : {m v q : ℕ} → Short ≡ Definite m v q → ⊥
+cut-short e = let z : _≡_ {A = ℕ} 0 1 = cc in omega arith
+
+long-end : (bs : List ℕ) (m k at : ℕ) {M v q : ℕ} → longAt bs m k at ≡ Definite M v q → at + k ≡ q
+unfolding longAt
+long-end bs m k at {M} {v} {q} =
+    cond-cases (λ (h : Head). h ≡ Definite M v q → at + k ≡ q) (leb (at + k) (length bs)) (λ _ e. cc) (λ _ e. absurd (cut-short e))
+
+simple-end : (bs : List ℕ) (at : ℕ) {M v q : ℕ} → simpleAt bs at ≡ Definite M v q → at + 1 ≡ q
+unfolding simpleAt
+simple-end bs at {M} {v} {q} =
+    let P : Head → Type 0 = λ h. h ≡ Definite M v q → at + 1 ≡ q in
+    cond-cases P (ltb at (length bs))
+    (λ _. cond-cases P (ltb (getD bs at 0) 32) (λ _ e. absurd (let z : _≡_ {A = ℕ} 0 1 = cc in omega arith)) (λ _ e. cc))
+    (λ _ e. absurd (cut-short e))
+
+module _ (bs more : List ℕ) where
+  by-front : (i : Initial) (m at : ℕ) {M v q : ℕ} → headBy i (bs ++ more) m at ≡ Definite M v q → q ≤ length bs
+      → headBy i bs m at ≡ Definite M v q
+  unfolding headBy
+  by-front (says.Short _ v) m at e h = e
+  by-front (says.Long _ k) m at e h =
+      let end = long-end (bs ++ more) m (k + 1) at e in sym (long-there bs more m (k + 1) at (omega (arith, end))) ∙ e
+  by-front (says.Indefinite _) m at e h = e
+  by-front says.Simple m at e h = let end = simple-end (bs ++ more) at e in sym (simple-there bs more at (omega (arith, end))) ∙ e
+  by-front says.Break m at e h = e
+  by-front says.Reserved m at e h = e
+
+  pub head-front : (at : ℕ) {m v q : ℕ} → headAt (bs ++ more) at ≡ Definite m v q → q ≤ length bs → headAt bs at ≡ Definite m v q
+  head-front at {m} {v} {q} e h =
+      let y : at < length bs = omega (arith, definite-within (bs ++ more) at e .0) in
+      let b : ℕ = getD bs at 0 in
+      let longer : at < length (bs ++ more) = omega (arith, length-append bs more) in
+      head-by bs y refl refl refl
+      ∙ by-front (initial b) (b / 32) (at + 1) (sym (head-by (bs ++ more) longer (sym (List·getD-append bs more 0 at y)) refl refl) ∙ e) h
+
 -- a head whose places are counted from n bytes earlier
 unfoldable pub moved : ℕ → Head → Head
 moved n (Definite m v next) = Definite m v (n + next)
@@ -201,6 +243,19 @@ moved n (Indefinite m next) = Indefinite m (n + next)
 moved n (Break next) = Break (n + next)
 moved n Short = Short
 moved n Bad = Bad
+
+unmoved : (n : ℕ) (h : Head) {m v q : ℕ} → moved n h ≡ Definite m v (n + q) → h ≡ Definite m v q
+unfolding moved
+unmoved n (Definite M w r) {m} {v} {q} e =
+    let x : M ≡ m = cc in
+    let y : w ≡ v = cc in
+    let z : n + r ≡ n + q = cc in
+    let next : r ≡ q = omega arith in
+    cc
+unmoved n (Indefinite M r) e = absurd (let z : _≡_ {A = ℕ} 0 1 = cc in omega arith)
+unmoved n (Break r) e = absurd (let z : _≡_ {A = ℕ} 0 1 = cc in omega arith)
+unmoved n Short e = absurd (cut-short e)
+unmoved n Bad e = absurd (let z : _≡_ {A = ℕ} 0 1 = cc in omega arith)
 
 -- a head is the same in the part behind n bytes, but for where its places are counted from
 module _ (bs : List ℕ) (n : ℕ) (h : n ≤ length bs) where
@@ -251,3 +306,7 @@ module _ (bs : List ℕ) (n : ℕ) (h : n ≤ length bs) where
         ∙ ap (moved n) (sym (head-by (drop n bs) (omega (arith, length-drop n bs)) (sym (getD-drop n bs at 0)) refl refl))
     | no x ↦ rw (head-none bs (n + at) (omega arith), head-none (drop n bs) at (omega (arith, length-drop n bs)))
   ]
+
+  -- so a head in the whole is a head in the part behind
+  pub head-behind : (at : ℕ) {m v q : ℕ} → headAt bs (n + at) ≡ Definite m v (n + q) → headAt (drop n bs) at ≡ Definite m v q
+  head-behind at e = unmoved n (headAt (drop n bs) at) (sym (head-moved at) ∙ e)

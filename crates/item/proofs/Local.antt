@@ -1,8 +1,8 @@
--- Reading looks at what it reads and at nothing after it (`longer`, `cuts`), and a greater nesting reads no less
+-- Reading looks at what it reads and at nothing after it (`longer`, `cuts`, `shorter`), and a greater nesting reads no less
 -- (`deeper`).
 -- Assumes nothing.
 use Prim.Native.Nat.{ℕ, zero, suc, _-_}
-use mathlib.Core.List.{List, [], _∷_, _++_, append-assoc}
+use mathlib.Core.List.{List, [], _∷_, _++_, append-assoc, append-cancel-right}
 use mathlib.Core.Option.{some}
 use mathlib.Core.Path.{_≡_, refl, sym, ap, _∙_, subst}
 use native.Mathlib.Omega.{arith}
@@ -63,6 +63,13 @@ cuts (byte {x = x} g) = let r = cuts g in (x ∷ r .0, ap (λ (l : List ℕ). x 
 cuts (simple {x = x} p) = (x ∷ [], refl, simple p)
 cuts (last {x = x} g) = let r = cuts g in (x ∷ r .0, ap (λ (l : List ℕ). x ∷ l) (r .1), last (r .2))
 cuts (digit {x = x} g) = let r = cuts g in (x ∷ r .0, ap (λ (l : List ℕ). x ∷ l) (r .1), digit (r .2))
+
+-- so bytes that follow, and are not read, may be left away
+pub shorter : {d : ℕ} {f : Frame} (bs cs ys : List ℕ) → Reads d f (bs ++ ys) (cs ++ ys) → Reads d f bs cs
+shorter {d} {f} bs cs ys r =
+    let c : Cuts d f (bs ++ ys) (cs ++ ys) = cuts r in
+    let e : bs ≡ c .0 ++ cs = append-cancel-right bs (c .0 ++ cs) ys (c .1 ∙ sym (append-assoc (c .0) cs ys)) in
+    subst (λ (l : List ℕ). Reads d f l cs) (sym e) (longer cs (c .2))
 
 -- what an initial byte asks for within a nesting it asks for within a greater one
 within-more : (d : ℕ) (f : Frame) {g : Frame} → within d f ≡ some g → within (suc d) f ≡ some g

@@ -1,12 +1,13 @@
 -- Elements of a message: what each definition of reading finds is what stands there, and what stands there is found.
 -- Assumes nothing.
 use Prim.Native.Nat.{ℕ, zero, suc, _+_, _-_, _*_, _≤_, _<_}
-use mathlib.Core.Path.{_≡_, refl, ap, subst, subst⁻¹, _∙_}
+use mathlib.Core.Path.{_≡_, refl, sym, ap, subst, subst⁻¹, _∙_}
 use mathlib.Core.Bool.{Bool, true, false, cond, _&&_}
 use mathlib.Core.List.{List}
 use native.Mathlib.Omega.{arith}
 use lib.Dec.{ltb, leb, eqb}
 use lib.ListN.{length, getD, drop, length-drop, length-append}
+use lib.Seq.{drop-drop, drop-append-seam}
 use borrow.Author.Tests.{ltb-true, leb-true, eqb-true, lt-ltb, le-leb, eq-eqb}
 use Rattle.base.proofs.Conds.{cond-cases}
 use Rattle.head.specs.Read.{headAt}
@@ -15,7 +16,7 @@ use Rattle.head.specs.declared.read.Head.the-variants as head
 use Rattle.head.proofs.ReadLaws.{definite-within}
 use Rattle.item.specs.declared.Verdict.{Verdict}
 use Rattle.item.specs.declared.Verdict.the-variants.{Whole, Bad, Incomplete}
-use Rattle.item.specs.Grammar.{Frame, One, Items, Reads, nest, no-more, item, no-byte}
+use Rattle.item.specs.Grammar.{Frame, One, Items, Reads, nest, one, no-more, item, no-byte}
 use Rattle.item.specs.Verdict.{judge, start}
 use Rattle.item.proofs.Local.{Cuts, cuts}
 use Rattle.item.proofs.Parts.{whole-reads, whole-place, reads-whole}
@@ -156,6 +157,38 @@ module _ (bs : List ℕ) where
 
   pub item-then : {d k p q r : ℕ} → ItemAt bs d p q → ItemsAt bs d k q r → ItemsAt bs d (suc k) p r
   item-then s t = record { forward = omega (arith, s .forward, t .forward); inside = t .inside; reads = item (s .reads) (t .reads) }
+
+  -- an item has a byte at least
+  pub ahead : {d p q : ℕ} → ItemAt bs d p q → p < q
+  ahead {d} {p} {q} s = of (drop p bs) refl (s .reads)
+    where
+      of : (l : List ℕ) → l ≡ drop p bs → Reads d One l (drop q bs) → p < q
+      of l e (one w r) =
+          let c = cuts r in
+          omega (arith, ap length e, length-drop p bs, length-drop q bs, ap length (c .1) ∙ length-append (c .0) (drop q bs), s .forward, s .inside)
+
+  -- items end where they begin, or are one item and then others
+  pub no-items : {d p q : ℕ} → ItemsAt bs d zero p q → p ≡ q
+  no-items {d} {p} {q} s = omega (arith, ap length (of (s .reads)), length-drop p bs, length-drop q bs, s .forward, s .inside)
+    where
+      of : {xs ys : List ℕ} → Reads d (Items zero) xs ys → xs ≡ ys
+      of no-more = refl
+
+  pub first-item : {d k p r : ℕ} → ItemsAt bs d (suc k) p r → (q : ℕ) × ItemAt bs d p q × ItemsAt bs d k q r
+  first-item {d} {k} {p} {r} s = of (s .reads)
+    where
+      of : Reads d (Items (suc k)) (drop p bs) (drop r bs) → (q : ℕ) × ItemAt bs d p q × ItemsAt bs d k q r
+      of (item {cs = cs} g h) =
+          let c = cuts g in
+          let a : List ℕ = c .0 in
+          let q : ℕ = p + length a in
+          let there : cs ≡ drop q bs = sym (sym (drop-drop (length a) p bs) ∙ ap (drop (length a)) (c .1) ∙ drop-append-seam a cs) in
+          let within : q ≤ length bs = omega (arith, ap length (c .1) ∙ length-append a cs, length-drop p bs, s .forward, s .inside) in
+          let rest : Reads d (Items k) (drop q bs) (drop r bs) = subst (λ (l : List ℕ). Reads d (Items k) l (drop r bs)) there h in (
+            q,
+            record { forward = omega arith; inside = within; reads = subst (Reads d One (drop p bs)) there g },
+            record { forward = forward within (s .inside) rest; inside = s .inside; reads = rest },
+          )
 
   -- ---- pairs
 

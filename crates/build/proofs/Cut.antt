@@ -1,0 +1,98 @@
+-- What stands in the whole stands in the run cut out around it, as many places earlier as there are bytes in front.
+-- Assumes nothing.
+use Prim.Native.Nat.{ℕ, _+_, _-_, _≤_}
+use mathlib.Core.Path.{_≡_, sym, ap, subst, _∙_}
+use mathlib.Core.List.{List, _++_}
+use native.Mathlib.Omega.{arith}
+use lib.ListN.{length, drop, take-append-drop}
+use lib.Seq.{drop-drop, drop-append-le}
+use Rattle.ring.specs.Ring.{run}
+use Rattle.ring.proofs.Runs.{run-length}
+use Rattle.head.specs.Read.{headAt}
+use Rattle.head.specs.declared.read.Head.the-variants.{Definite}
+use Rattle.head.proofs.ReadLaws.{definite-within, head-front, head-behind}
+use Rattle.item.specs.Grammar.{Frame, Reads}
+use Rattle.item.proofs.Local.{shorter}
+use Rattle.messages.specs.Matching.{Stands, PairsAt, no-pair, pair, VersionsAt, no-version, version}
+use Rattle.messages.proofs.ElementLaws.{pairs-items, versions-items}
+
+-- the run from place a up to place e
+module _ (bs : List ℕ) (a e : ℕ) (h : a ≤ e) (l : e ≤ length bs) where
+  abbrev part : List ℕ
+  part = run bs a (e - a)
+
+  long : length part ≡ e - a
+  long = run-length bs a (e - a) (omega arith)
+
+  behind : drop a bs ≡ part ++ drop e bs
+  behind =
+      let end : a + (e - a) ≡ e = omega arith in
+      sym (take-append-drop (e - a) (drop a bs)) ∙ ap (λ (r : List ℕ). part ++ r) (drop-drop (e - a) a bs ∙ ap (λ (n : ℕ). drop n bs) end)
+
+  head-cut : {p m v q : ℕ} → a ≤ p → q ≤ e → headAt bs p ≡ Definite m v q → headAt part (p - a) ≡ Definite m v (q - a)
+  head-cut {p} {m} {v} {q} from to o =
+      let w = definite-within bs p o in
+      let p′ : a + (p - a) ≡ p = omega arith in
+      let q′ : q ≡ a + (q - a) = omega (arith, w .0) in
+      let there : headAt bs (a + (p - a)) ≡ Definite m v (a + (q - a)) = ap (headAt bs) p′ ∙ o ∙ ap (Definite m v) q′ in
+      head-front part (drop e bs) (p - a)
+      (ap (λ (r : List ℕ). headAt r (p - a)) (sym behind) ∙ head-behind bs a (omega arith) (p - a) there) (omega (arith, long))
+
+  drop-cut : (p : ℕ) → a ≤ p → p ≤ e → drop p bs ≡ drop (p - a) part ++ drop e bs
+  drop-cut p from to =
+      let p′ : p ≡ a + (p - a) = omega arith in
+      ap (λ (n : ℕ). drop n bs) p′ ∙ sym (drop-drop (p - a) a bs) ∙ ap (drop (p - a)) behind
+      ∙ drop-append-le (p - a) part (drop e bs) (omega (arith, long))
+
+  cut : {d : ℕ} {f : Frame} {p q : ℕ} → a ≤ p → q ≤ e → Stands bs d f p q → Stands part d f (p - a) (q - a)
+  cut {d} {f} {p} {q} from to s =
+      let o : p ≤ q = s .forward in
+      record {
+        forward = omega arith;
+        inside = omega (arith, long);
+        reads =
+            shorter (drop (p - a) part) (drop (q - a) part) (drop e bs)
+            (subst (λ (r : List ℕ). Reads d f r (drop (q - a) part ++ drop e bs)) (drop-cut p from (omega arith))
+            (subst (Reads d f (drop p bs)) (drop-cut q (omega arith) to) (s .reads)));
+      }
+
+  pairs-cut : {k p q : ℕ} → a ≤ p → q ≤ e → PairsAt bs k p q → PairsAt part k (p - a) (q - a)
+  pairs-cut from to no-pair = no-pair
+  pairs-cut from to (pair {p = p} {b = b} o i u less r) =
+      let w = definite-within bs p o in
+      let w′ = definite-within bs b u in
+      let rest = pairs-items bs (w′ .1) r in
+      pair (head-cut from (omega (arith, i .forward, w′ .0, rest .forward)) o)
+      (cut (omega (arith, w .0)) (omega (arith, w′ .0, rest .forward)) i)
+      (head-cut (omega (arith, w .0, i .forward)) (omega (arith, rest .forward)) u)
+      less
+      (pairs-cut (omega (arith, w .0, i .forward, w′ .0)) to r)
+
+  versions-cut : {low k p q : ℕ} → a ≤ p → q ≤ e → VersionsAt bs low k p q → VersionsAt part low k (p - a) (q - a)
+  versions-cut from to no-version = no-version
+  versions-cut from to (version {p = p} u low high i r) =
+      let w = definite-within bs p u in
+      let rest = versions-items bs (i .inside) r in
+      version (head-cut from (omega (arith, i .forward, rest .forward)) u) low high
+      (cut (omega (arith, w .0)) (omega (arith, rest .forward)) i)
+      (versions-cut (omega (arith, w .0, i .forward)) to r)
+
+-- the run from where it begins up to where it ends: from its first place up to its last
+module _ (bs : List ℕ) (p q : ℕ) (h : p ≤ q) (l : q ≤ length bs) where
+  abbrev alone : List ℕ
+  alone = run bs p (q - p)
+
+  from-first : (P : ℕ → ℕ → Type 0) → P (p - p) (q - p) → P 0 (length alone)
+  from-first P x =
+      let z : p - p ≡ 0 = omega arith in
+      let n : q - p ≡ length alone = omega (arith, run-length bs p (q - p) (omega arith)) in
+      subst (λ (i : ℕ). P i (length alone)) z (subst (P (p - p)) n x)
+
+  pub stands-alone : {d : ℕ} {f : Frame} → Stands bs d f p q → Stands alone d f 0 (length alone)
+  stands-alone {d} {f} s = from-first (Stands alone d f) (cut bs p q h l (omega arith) (omega arith) s)
+
+  pub pairs-alone : {k : ℕ} → PairsAt bs k p q → PairsAt alone k 0 (length alone)
+  pairs-alone {k} r = from-first (PairsAt alone k) (pairs-cut bs p q h l (omega arith) (omega arith) r)
+
+  pub versions-alone : {low k : ℕ} → VersionsAt bs low k p q → VersionsAt alone low k 0 (length alone)
+  versions-alone {low} {k} r = from-first (VersionsAt alone low k) (versions-cut bs p q h l (omega arith) (omega arith) r)
