@@ -158,6 +158,7 @@ in-range c k =
   where
     between-is-low : (n : ℕ) → (1 ≤ n) × (n < instances) → turnOk n ≡ true
     between-is-low n (l, h) = rw (le-leb 1 n l, lt-ltb n instances h)
+
     header-is : (r : Receiving) → r .header .count < headerLength → (0 < r .rest → (r .header .count ≡ 0) × (r .instance < instances))
         → headerOk r ≡ true
     header-is r h u =
@@ -166,5 +167,6 @@ in-range c k =
         let ne = eqb-false (r .rest) 0 q in
         let p = u (omega arith) in
         rw (lt-ltb (r .header .count) headerLength h, q, eq-eqb (r .header .count) 0 (p .0), lt-ltb (r .instance) instances (p .1)))
+
     accept-is : (t : Talk) → (t .accepted ≡ true → getD (t .states) 0 0 ≡ doneOf (speaks 0)) → acceptOk t ≡ true
     accept-is t h = by-test (t .accepted) (λ q. rw (q, eq-eqb (getD (t .states) 0 0) (doneOf (speaks 0)) (h q))) (λ q. rw q)

@@ -5,11 +5,10 @@ use mathlib.Core.Bool.{Bool, true, false, cond, _&&_}
 use mathlib.Core.List.{List, [], _∷_}
 use Prim.Native.Nat.{ℕ, zero, suc, _+_, _-_, _≤_, _<_}
 use native.Mathlib.Omega.{arith}
-use borrow.Author.Tests.{eq-eqb, ne-eqb, eqb-true, eqb-false, lt-ltb, le-leb, leb-true, leb-false}
+use borrow.Author.Tests.{ne-eqb, eqb-true, eqb-false, lt-ltb, leb-true, leb-false}
 use lib.Dec.{eqb, leb, ltb}
 use lib.ListN.{length, getD, set, replicate, length-set}
 use lib.Seq.{getD-set-other}
-use Rattle.base.specs.Below.{allBelow}
 use Rattle.base.specs.Numbers.{Bytes}
 use Rattle.base.proofs.Conds.{by-test, cond-cases}
 use Rattle.ring.specs.Ring.{baseOf, laid}
@@ -25,12 +24,12 @@ use Rattle.wire.proofs.InstanceLaws.{one-way}
 use Rattle.connection.specs.declared.Connection.{Connection}
 use Rattle.connection.specs.Closings.{isOpen, gateOk}
 use Rattle.connection.specs.Parts.{withReceiving}
-use Rattle.connection.specs.Ranges.{settingsOk, restFor, receivingOk, sendingOk, stateOk, turnOk, headerOk, acceptOk, inRange}
-use Rattle.connection.proofs.RangeLaws.{Ranged, ranged}
+use Rattle.connection.specs.Ranges.{restFor, inRange}
+use Rattle.connection.proofs.RangeLaws.{Ranged, ranged, in-range}
 use Rattle.feeding.specs.declared.Admission.{Admission}
 use Rattle.feeding.specs.Feeding.{State, admitted, admission, instanceFor, settled, headed, kept, step, fed, given}
 use Rattle.feeding.specs.Feeds.{Spelt}
-use Rattle.feeding.proofs.Bytes.{both-true, route-within}
+use Rattle.feeding.proofs.Bytes.{route-within}
 
 -- what feeding can change of the range
 pub record Kept (caps starts : List ℕ) (n : ℕ) (s : State) : Type 0 where
@@ -134,11 +133,6 @@ module _ (side : Side) (caps starts : List ℕ) (n : ℕ) where
 
 -- ---- the range of the whole record
 
-below-all : (f : ℕ → Bool) (n : ℕ) → ((i : ℕ) → i < n → f i ≡ true) → allBelow f n ≡ true
-unfolding allBelow
-below-all f zero h = refl
-below-all f (suc n) h = rw (below-all f n (λ i l. h i (omega arith))) (h n (omega arith))
-
 pub kept-given : (c : Connection) (st : List ℕ) → inRange c ≡ true → Kept (c .settings .receive) (c .receiving .starts) (length st) (given c st)
 kept-given c st e =
     let k : Ranged c = ranged c e in
@@ -147,36 +141,20 @@ kept-given c st e =
 -- a record in range stays so with what feeding leaves and a closing that a fault leaves
 pub range-with : (c : Connection) (n : ℕ) (s : State) → inRange c ≡ true → Kept (c .settings .receive) (c .receiving .starts) n s
     → gateOk (s .gate) ≡ true → inRange (withReceiving c (s .receiving) (s .gate)) ≡ true
-unfolding inRange
 range-with c n s e k g =
-    let set = c .settings in
-    let r = s .receiving in
-    let seven = acceptOk (c .talk) && gateOk (c .gate) in
-    let six = headerOk (c .receiving) && seven in
-    let five = turnOk (c .sending .turn) && six in
-    let four = allBelow (stateOk (c .talk)) instances && five in
-    let three = allBelow (sendingOk set (c .sending)) instances && four in
-    let two = allBelow (receivingOk set (c .receiving)) instances && three in
-    let p1 = both-true (settingsOk set) two e in
-    let p2 = both-true (allBelow (receivingOk set (c .receiving)) instances) three (p1 .1) in
-    let p3 = both-true (allBelow (sendingOk set (c .sending)) instances) four (p2 .1) in
-    let p4 = both-true (allBelow (stateOk (c .talk)) instances) five (p3 .1) in
-    let p5 = both-true (turnOk (c .sending .turn)) six (p4 .1) in
-    let p6 = both-true (headerOk (c .receiving)) seven (p5 .1) in
-    let p7 = both-true (acceptOk (c .talk)) (gateOk (c .gate)) (p6 .1) in
     let was : Ranged c = ranged c e in
-    let low : (i : ℕ) → i < instances → getD (r .starts) i 0 < getD (set .receive) i 0 = λ i l. rw (k .places) (was .receiving i l .0) in
-    let areas : allBelow (receivingOk set r) instances ≡ true =
-    below-all (receivingOk set r) instances
-    (λ i l. rw (lt-ltb (getD (r .starts) i 0) (getD (set .receive) i 0) (low i l)) (le-leb _ _ (k .held i l))) in
-    let head : headerOk r ≡ true =
-    rw (lt-ltb (r .header .count) headerLength (k .header))
-    (by-test (eqb (r .rest) 0) (λ t. rw t)
-    (λ t.
-    let z = eqb-false (r .rest) 0 t in
-    let u = k .under-way (omega arith) in
-    rw (t, eq-eqb (r .header .count) 0 (u .0)) (lt-ltb (r .instance) instances (u .1)))) in
-    rw (p1 .0, areas, p3 .0, p4 .0, p5 .0, head, p7 .0) g
+    in-range (withReceiving c (s .receiving) (s .gate))
+    (record {
+      set = was .set;
+      receiving = λ i l. (rw (k .places) (was .receiving i l .0), k .held i l);
+      sending = was .sending;
+      states = was .states;
+      turn = was .turn;
+      header = k .header;
+      under-way = k .under-way;
+      accepted = was .accepted;
+      closing = g;
+    })
 
 -- ---- bytes
 
@@ -196,7 +174,7 @@ unfolding Bytes
 zeros zero = tt
 zeros (suc k) = (omega arith, zeros k)
 
-spelt-empty : Spelt empty
+pub spelt-empty : Spelt empty
 spelt-empty = (refl, zeros headerLength)
 
 module _ (side : Side) (caps : List ℕ) where

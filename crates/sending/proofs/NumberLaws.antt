@@ -12,7 +12,7 @@ use mathlib.Core.Logic.{_≢_}
 use lib.ListN.{length, getD, length-set}
 use lib.Seq.{getD-set-same, getD-set-other}
 use borrow.Author.Tests.{lt-ltb, le-ltb, ltb-true, ltb-false, eqb-true, eqb-false, le-leb}
-use Rattle.base.proofs.Conds.{by-test, cond-cases, so, is, and-left, and-right, below-all}
+use Rattle.base.proofs.Conds.{by-test, cond-cases}
 use Rattle.wire.specs.Segments.{headerLength}
 use Rattle.wire.specs.Instances.{instances}
 use Rattle.ready.specs.Ready.{chosen, afterOf}
@@ -21,11 +21,11 @@ use Rattle.ready.specs.declared.Choice.the-variants.{Instance, Nobody}
 use Rattle.ready.proofs.ReadyLaws.{nobody-waits, chosen-waits, after-low}
 use Rattle.connection.specs.declared.Connection.{Connection}
 use Rattle.connection.specs.Shapes.{Shaped}
-use Rattle.base.specs.Below.{allBelow}
-use Rattle.connection.specs.Closings.{isOpen, gateOk}
+use Rattle.connection.specs.Closings.{isOpen}
 use Rattle.connection.specs.declared.Sending.{Sending}
-use Rattle.connection.specs.Ranges.{inRange, sendStoreOk, settingsOk, receivingOk, sendingOk, stateOk, turnOk, headerOk, acceptOk}
-use Rattle.connection.proofs.RangeLaws.{ranged}
+use Rattle.connection.specs.Ranges.{inRange, sends}
+use Rattle.connection.proofs.RangeLaws.{ranged, in-range}
+use Rattle.sending.proofs.SendingLaws.{in-both}
 use Rattle.sending.specs.declared.Made.{Made}
 use Rattle.connection.specs.Parts.{withSending}
 use Rattle.sending.specs.NextSegment.{Told, told, refused, much, sentOf, serve, byChoice, nextOf}
@@ -61,7 +61,7 @@ module _ (c : Connection) (store : List ℕ) (time : ℕ) (buf : List ℕ) where
   way : Way
   unfolding nextOf
   way =
-      by-test (inRange c && sendStoreOk (c .settings) (length store))
+      by-test (sends c (length store))
       (λ t. by-test (isOpen (c .gate)) (λ o. by-who (t, o) who refl (rw (t, o))) (λ o. shut t o (rw (t, o))))
       (λ t. unranged (λ q. true≢false (sym q ∙ t)) (rw t))
 
@@ -134,7 +134,7 @@ module _ (c : Connection) (store : List ℕ) (time : ℕ) (buf : List ℕ) where
       )
     where
       turn : Ready c store → (1 ≤ c .sending .turn) × (c .sending .turn < instances)
-      turn r = ranged c (is (inRange c) (and-left (inRange c) (sendStoreOk (c .settings) (length store)) (so (inRange c && sendStoreOk (c .settings) (length store)) (r .0)))) .turn
+      turn r = ranged c (in-both c store (r .0) .0) .turn
 
   -- with any number but 0, record and buffer are as they were
   untouched-by : Way → (m : Made) (after : List ℕ) → told m after ≡ out → (m .number ≡ 0 → ⊥) → (m .connection ≡ c) × (m .len ≡ 0) × (after ≡ buf)
@@ -157,32 +157,12 @@ once c store time buf m m′ after after′ e e′ = let q = e ∙ sym e′ in (
 
 -- ---- the range
 
-low-and-within : (start cap count : ℕ) → start < cap → count ≤ cap → (ltb start cap && leb count cap) ≡ true
-low-and-within start cap count h l = rw (lt-ltb start cap h, le-leb count cap l)
-
--- two tests of six exchanged for others that hold
-exchanged : (a b c c′ d e e′ f : Bool) → (a && (b && (c && (d && (e && f))))) ≡ true → c′ ≡ true → e′ ≡ true → (a && (b && (c′ && (d && (e′ && f))))) ≡ true
-exchanged a b c c′ d e e′ f h p q =
-    let t1 = so (a && (b && (c && (d && (e && f))))) h in
-    let t2 = and-right a (b && (c && (d && (e && f)))) t1 in
-    let t3 = and-right b (c && (d && (e && f))) t2 in
-    let t4 = and-right c (d && (e && f)) t3 in
-    let t5 = and-right d (e && f) t4 in
-    rw (
-      is a (and-left a (b && (c && (d && (e && f)))) t1),
-      is b (and-left b (c && (d && (e && f))) t2),
-      p,
-      is d (and-left d (e && f) t4),
-      q,
-    )
-    (is f (and-right e f t5))
-
 -- n bytes sent of instance i leave every area, and the turn, in range
 module _ (c : Connection) (s : Shaped c) (r : inRange c ≡ true) (i : ℕ) (inside : i < instances) (n : ℕ) where
   abbrev w : Sending
   w = sentOf (c .sending) (c .settings .send) i n
 
-  sent-here : sendingOk (c .settings) w i ≡ true
+  sent-here : (getD (w .starts) i 0 < getD (c .settings .send) i 0) × (getD (w .waiting) i 0 ≤ getD (c .settings .send) i 0)
   sent-here =
       let cap = getD (c .settings .send) i 0 in
       let k = ranged c r in
@@ -192,37 +172,41 @@ module _ (c : Connection) (s : Shaped c) (r : inRange c ≡ true) (i : ℕ) (ins
         getD-set-same (c .sending .starts) i ((getD (c .sending .starts) i 0 + n) % cap) 0 (omega (arith, s .send-starts)),
         getD-set-same (c .sending .waiting) i (getD (c .sending .waiting) i 0 - n) 0 (omega (arith, s .waiting)),
       )
-      (low-and-within _ cap _ (mod-lt (getD (c .sending .starts) i 0 + n) (omega arith)) (omega arith))
+      (mod-lt (getD (c .sending .starts) i 0 + n) (omega arith), omega arith)
 
-  sent-there : (j : ℕ) → j < instances → j ≢ i → sendingOk (c .settings) w j ≡ true
+  sent-there : (j : ℕ) → j < instances → j ≢ i
+      → (getD (w .starts) j 0 < getD (c .settings .send) j 0) × (getD (w .waiting) j 0 ≤ getD (c .settings .send) j 0)
   sent-there j h ne =
-      let q = ranged c r .sending j h in
       rw (
         getD-set-other (c .sending .starts) i j ((getD (c .sending .starts) i 0 + n) % getD (c .settings .send) i 0) 0 ne,
         getD-set-other (c .sending .waiting) i j (getD (c .sending .waiting) i 0 - n) 0 ne,
       )
-      (low-and-within (getD (c .sending .starts) j 0) (getD (c .settings .send) j 0) (getD (c .sending .waiting) j 0) (q .0) (q .1))
+      (ranged c r .sending j h)
 
-  sent-ok : (j : ℕ) → j < instances → sendingOk (c .settings) w j ≡ true
-  sent-ok j h = by-test (eqb j i) (λ t. rw (eqb-true j i t) sent-here) (λ t. sent-there j h (eqb-false j i t))
+  sent-area : (j : ℕ) → j < instances
+      → (getD (w .starts) j 0 < getD (c .settings .send) j 0) × (getD (w .waiting) j 0 ≤ getD (c .settings .send) j 0)
+  sent-area j h = by-test (eqb j i) (λ t. rw (eqb-true j i t) sent-here) (λ t. sent-there j h (eqb-false j i t))
 
-  turn-ok : turnOk (w .turn) ≡ true
-  turn-ok =
-      cond-cases (λ (k : ℕ). turnOk k ≡ true) (eqb i 0)
-      (λ t. let q = ranged c r .turn in rw (le-leb 1 (c .sending .turn) (q .0), lt-ltb (c .sending .turn) instances (q .1)))
-      (λ t. let l = after-low instances i (omega arith) inside in rw (le-leb 1 (afterOf instances i) up, lt-ltb (afterOf instances i) instances l))
-    where
-      up : 1 ≤ afterOf instances i
-      up = cond-cases (λ (k : ℕ). 1 ≤ k) (eqb (i + 1) instances) (λ t. omega arith) (λ t. omega arith)
+  sent-turn : (1 ≤ w .turn) × (w .turn < instances)
+  sent-turn =
+      cond-cases (λ (k : ℕ). (1 ≤ k) × (k < instances)) (eqb i 0) (λ t. ranged c r .turn)
+      (λ t. (cond-cases (λ (k : ℕ). 1 ≤ k) (eqb (i + 1) instances) (λ t. omega arith) (λ t. omega arith), after-low instances i (omega arith) inside))
 
   sent-ranged : inRange (withSending c w) ≡ true
-  unfolding inRange
   sent-ranged =
-      exchanged (settingsOk (c .settings)) (allBelow (receivingOk (c .settings) (c .receiving)) instances)
-      (allBelow (sendingOk (c .settings) (c .sending)) instances) (allBelow (sendingOk (c .settings) w) instances)
-      (allBelow (stateOk (c .talk)) instances) (turnOk (c .sending .turn)) (turnOk (w .turn))
-      (headerOk (c .receiving) && (acceptOk (c .talk) && gateOk (c .gate)))
-      r (below-all (sendingOk (c .settings) w) instances sent-ok) turn-ok
+      let k = ranged c r in
+      in-range (withSending c w)
+      (record {
+        set = k .set;
+        receiving = k .receiving;
+        sending = sent-area;
+        states = k .states;
+        turn = sent-turn;
+        header = k .header;
+        under-way = k .under-way;
+        accepted = k .accepted;
+        closing = k .closing;
+      })
 
   sent-shaped : Shaped (withSending c w)
   sent-shaped =

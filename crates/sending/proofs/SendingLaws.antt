@@ -1,14 +1,15 @@
 -- Laws of next segment.
 -- Assumes nothing.
 use mathlib.Core.Path.{_≡_, refl, sym, ap, subst, _∙_}
-use mathlib.Core.Bool.{true, false}
+use mathlib.Core.Bool.{true, false, _&&_}
 use mathlib.Core.List.{List, _++_}
 use Prim.Native.Nat.{ℕ, _+_, _≤_, _<_, _^_, min}
 use native.Mathlib.Omega.{arith}
 use native.Mathlib.Nat.{le-refl}
 use lib.ListN.{length, getD, length-append}
 use lib.Seq.{sets}
-use borrow.Author.Tests.{eq-eqb, ne-eqb, lt-ltb, le-ltb}
+use borrow.Author.Tests.{eqb-true, lt-ltb, le-ltb}
+use Rattle.base.proofs.Conds.{so, is, and-left, and-right}
 use Rattle.base.specs.Numbers.{octets}
 use Rattle.base.proofs.ListLaws.{sets-append}
 use Rattle.base.proofs.NumberLaws.{length-octets}
@@ -26,7 +27,7 @@ use Rattle.ready.specs.declared.Choice.the-variants.{Instance, Nobody}
 use Rattle.ready.proofs.ReadyLaws.{Low, chosen-word, chosen-low}
 use Rattle.connection.specs.declared.Connection.{Connection}
 use Rattle.connection.specs.Closings.{isOpen}
-use Rattle.connection.specs.Ranges.{inRange}
+use Rattle.connection.specs.Ranges.{inRange, sendStoreOk, sends}
 use Rattle.connection.proofs.RangeLaws.{Ranged, ranged}
 use Rattle.connection.specs.declared.Sending.{Sending}
 use Rattle.connection.specs.Parts.{withSending}
@@ -91,23 +92,28 @@ module _ (c : Connection) (store : List ℕ) (time : ℕ) (buf : List ℕ) (i n 
 -- ---- the ways out of next segment
 
 module _ (c : Connection) (store : List ℕ) (time : ℕ) (buf : List ℕ) where
-  pub next-unranged : inRange c ≡ false → told (unmadeOf c 23) buf ≡ nextOf c store time buf
+  pub next-unranged : sends c (length store) ≡ false → told (unmadeOf c 23) buf ≡ nextOf c store time buf
   unfolding nextOf
   next-unranged r = rw r
 
-  pub next-unstored : inRange c ≡ true → (length store ≡ together (c .settings .send) → ⊥) → told (unmadeOf c 23) buf ≡ nextOf c store time buf
-  unfolding nextOf
-  next-unstored r s = rw (r, ne-eqb (length store) (together (c .settings .send)) s)
-
-  module _ (r : inRange c ≡ true) (s : length store ≡ together (c .settings .send)) where
+  module _ (r : sends c (length store) ≡ true) where
     pub next-closed : isOpen (c .gate) ≡ false → told (unmadeOf c 20) buf ≡ nextOf c store time buf
     unfolding nextOf
-    next-closed o = rw (r, eq-eqb (length store) (together (c .settings .send)) s, o)
+    next-closed o = rw (r, o)
 
     pub next-served : isOpen (c .gate) ≡ true → (x : Choice) → x ≡ chosen (c .sending .waiting) (c .sending .turn)
         → byChoice c store time buf x ≡ nextOf c store time buf
     unfolding nextOf
-    next-served o x e = rw (r, eq-eqb (length store) (together (c .settings .send)) s, o, e)
+    next-served o x e = rw (r, o, e)
+
+-- a record in range with its store is both
+pub in-both : (c : Connection) (store : List ℕ) → sends c (length store) ≡ true → (inRange c ≡ true) × (length store ≡ together (c .settings .send))
+in-both c store r =
+    let t = so (inRange c && sendStoreOk (c .settings) (length store)) r in (
+      is (inRange c) (and-left (inRange c) (sendStoreOk (c .settings) (length store)) t),
+      eqb-true (length store) (together (c .settings .send))
+          (is (sendStoreOk (c .settings) (length store)) (and-right (inRange c) (sendStoreOk (c .settings) (length store)) t)),
+    )
 
 -- whoever the word chooses is whom the counts choose, and an instance
 pub by-word : (c : Connection) (word : ℕ) (x : Choice) → inRange c ≡ true → length (c .sending .waiting) ≡ instances

@@ -1,6 +1,6 @@
 -- Next segment (document 01, "Segments" and "Numbers and their order": 20; notice 4; 18; 23 before all others).
 use Prim.Native.Nat.{ℕ, _+_, _-_, _%_, min}
-use mathlib.Core.Bool.{Bool, cond, _&&_}
+use mathlib.Core.Bool.{cond}
 use mathlib.Core.List.{List, _++_}
 use lib.Dec.{ltb}
 use lib.ListN.{length, getD, set}
@@ -16,7 +16,7 @@ use Rattle.ready.specs.declared.Choice.the-variants.{Instance, Nobody}
 use Rattle.connection.specs.declared.Sending.{Sending}
 use Rattle.connection.specs.declared.Connection.{Connection}
 use Rattle.connection.specs.Closings.{isOpen}
-use Rattle.connection.specs.Ranges.{inRange, sendStoreOk}
+use Rattle.connection.specs.Ranges.{sends}
 use Rattle.connection.specs.Parts.{withSending}
 use Rattle.sending.specs.declared.Made.{Made}
 
@@ -67,6 +67,6 @@ byChoice c store time buf (Instance i) = serve c store time buf i
 
 unfoldable pub nextOf : Connection → List ℕ → ℕ → List ℕ → Told
 nextOf c store time buf =
-    cond (inRange c && sendStoreOk (c .settings) (length store))
+    cond (sends c (length store))
     (cond (isOpen (c .gate)) (byChoice c store time buf (chosen (c .sending .waiting) (c .sending .turn))) (refused c buf 20))
     (refused c buf 23)

@@ -1,7 +1,7 @@
 -- Which number next segment answers, exactly when (document 01, "Numbers and their order"), and what a refusal leaves, as statements.
 use Prim.Native.Nat.{ℕ, _+_, _<_, _≤_}
 use mathlib.Core.Path.{_≡_}
-use mathlib.Core.Bool.{Bool, true, false, _&&_}
+use mathlib.Core.Bool.{true, false}
 use mathlib.Core.List.{List}
 use mathlib.Core.Logic.{_↔_}
 use lib.ListN.{length, getD}
@@ -12,13 +12,13 @@ use Rattle.ready.specs.declared.Choice.the-variants.{Instance}
 use Rattle.connection.specs.declared.Connection.{Connection}
 use Rattle.connection.specs.Shapes.{Shaped}
 use Rattle.connection.specs.Closings.{isOpen}
-use Rattle.connection.specs.Ranges.{inRange, sendStoreOk}
+use Rattle.connection.specs.Ranges.{inRange, sends}
 use Rattle.sending.specs.declared.Made.{Made}
 use Rattle.sending.specs.NextSegment.{told, much, nextOf}
 
 -- a record in range with its send store
 abbrev pub Ranged : Connection → List ℕ → Type 0
-Ranged c store = (inRange c && sendStoreOk (c .settings) (length store)) ≡ true
+Ranged c store = sends c (length store) ≡ true
 
 -- the same, and open
 abbrev pub Ready : Connection → List ℕ → Type 0

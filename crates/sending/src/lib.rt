@@ -7,8 +7,7 @@ use connection::parts::at;
 use connection::parts::changed;
 use connection::parts::is_open;
 use connection::parts::with_sending;
-use connection::range::in_range;
-use connection::range::together;
+use connection::range::sends;
 use ready::Choice;
 use wire::instances::INSTANCES;
 use wire::instances::Side;
@@ -37,12 +36,7 @@ pub struct Made {
 pub fn next_segment(c: Connection, store: &[u8], time: u32, buf: &mut [u8]) -> Made
     ensures { λ r. ⌜ told r (now (buf .exit)) ≡ nextOf c (now (store .entry)) time (now (buf .entry)) ⌝ }
 {
-    if !in_range(c) {
-        return unmade(c, 23);
-    }
-    let settings = c.settings;
-    let caps = settings.send;
-    if store.len() != together(caps) {
+    if !sends(c, store.len()) {
         return unmade(c, 23);
     }
     let gate = c.gate;
