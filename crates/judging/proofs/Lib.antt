@@ -1,1 +1,2 @@
 pub mod JudgingLaws
+pub mod Moving

@@ -3,7 +3,7 @@ use Prim.Native.Nat.{ℕ}
 use mathlib.Core.Bool.{Bool, false, cond, not, _&&_, _||_}
 use mathlib.Core.List.{List}
 use lib.Dec.{eqb}
-use lib.ListN.{length, set}
+use lib.ListN.{length, getD, set}
 use Rattle.wire.specs.declared.instances.Side.{Side}
 use Rattle.wire.specs.Instances.{at, initiates}
 use Rattle.rows.specs.declared.Protocol.{Protocol}
@@ -18,6 +18,7 @@ use Rattle.messages.specs.declared.Answer.{Answer}
 use Rattle.messages.specs.Matching.{begun}
 use Rattle.messages.specs.Reading.{messageOf, numberOf, flagOf}
 use Rattle.connection.specs.declared.Talk.{Talk}
+use Rattle.connection.specs.declared.Connection.{Connection}
 use Rattle.judging.specs.declared.Judged.{Judged}
 
 -- C marks initiator agency, S responder agency: whether it is ours, who are initiator or not
@@ -25,6 +26,10 @@ abbrev pub holds : Bool → Agency → Bool
 holds initiator Initiator = initiator
 holds initiator Responder = not initiator
 holds initiator Nobody = false
+
+-- the present state of instance i
+abbrev pub stateOf : Connection → ℕ → ℕ
+stateOf c i = getD (c .talk .states) i 0
 
 -- whether we have agency in a state of instance i
 unfoldable pub ours : Side → ℕ → ℕ → Bool
@@ -37,6 +42,10 @@ barred t i = not (eqb i 0) && not (t .accepted)
 -- the state moves, and message 1 of Handshake, Accept, is marked
 abbrev pub movedBy : Talk → ℕ → ℕ → ℕ → Talk
 movedBy t i kind next = record { states = set (t .states) i next; accepted = t .accepted || (eqb i 0 && eqb kind 1) }
+
+-- where a message leads in the present state
+abbrev pub leadsTo : Connection → ℕ → Message → Next
+leadsTo c i m = nextOf (speaks i) (stateOf c i) (m .kind) (flagOf (speaks i) m)
 
 -- a refusal or a notice
 abbrev pub unjudged : ℕ → Judged

@@ -5,7 +5,7 @@ use Rattle.judging.proofs.barred.Statement.{statement}
 use Rattle.judging.proofs.barred.Tie as tie
 
 returns : tie.Need-returns
-returns c = cc
+returns c = rw (c .and .ensures, c .before .not2 .ensures, c .before .before .not .ensures)
 
 pub barred-spec : {M : Type 1} → statement M
 barred-spec = tie.close (tie.spec (λ c κs. search needs) (λ c κs. search needs) (λ c κs. search needs) returns)

@@ -5,7 +5,7 @@ use Rattle.judging.proofs.moved.Statement.{statement}
 use Rattle.judging.proofs.moved.Tie as tie
 
 returns : tie.Need-returns
-returns c = cc
+returns c = rw (c .before .changed .ensures, c .or .ensures, c .before .before .and .ensures)
 
 pub moved-spec : {M : Type 1} → statement M
 moved-spec = tie.close (tie.spec (λ c κs. search needs) (λ c κs. search needs) (λ c κs. search needs) returns)
