@@ -1,0 +1,215 @@
+-- Laws of take: an instance's area, the bytes held in it, and the ways out of the code.
+-- Assumes nothing.
+use mathlib.Core.Path.{_≡_, refl, sym, ap, _∙_}
+use mathlib.Core.Bool.{Bool, true, false, cond, _&&_}
+use mathlib.Core.List.{List}
+use mathlib.Core.Logic.{_≢_}
+use Prim.Native.Nat.{ℕ, _+_, _-_, _%_, _≤_, _<_}
+use native.Mathlib.Omega.{arith}
+use native.Mathlib.Decide.{decLt}
+use native.Mathlib.Nat.{mod-eq-of-lt}
+use lib.Dec.{eqb}
+use lib.ListN.{length, getD, take, drop, List·getD-eq-default}
+use lib.Seq.{sets, take-take, length-take-le}
+use borrow.Author.Tests.{eq-eqb, ne-eqb, eqb-true, lt-ltb, le-ltb}
+use Rattle.base.proofs.Conds.{so, is, and-left, and-right, by-test}
+use Rattle.ring.specs.Ring.{baseOf, together, stream, run, around}
+use Rattle.ring.proofs.Areas.{area-in-store}
+use Rattle.ring.proofs.Around.{around-length, around-take, stream-around}
+use Rattle.ring.proofs.Runs.{run-length}
+use Rattle.ring.proofs.Stores.{stream-length}
+use Rattle.wire.specs.Instances.{instances}
+use Rattle.item.specs.declared.Verdict.{Verdict}
+use Rattle.item.specs.declared.Verdict.the-variants.{Whole, Bad, Incomplete}
+use Rattle.item.specs.Grammar.{nesting}
+use Rattle.item.specs.Verdict.{verdict}
+use Rattle.item.proofs.Theorem.{exactly}
+use Rattle.rows.specs.declared.Next.{Next}
+use Rattle.rows.specs.declared.Next.the-variants.{To, None}
+use Rattle.rows.specs.declared.Protocol.{Protocol}
+use Rattle.rows.specs.Rows.{nextOf}
+use Rattle.rows.specs.Spoken.{speaks}
+use Rattle.messages.specs.declared.Message.{Message}
+use Rattle.messages.specs.Reading.{messageOf, numberOf, flagOf}
+use Rattle.connection.specs.declared.Connection.{Connection}
+use Rattle.connection.specs.Closings.{isOpen}
+use Rattle.connection.specs.Ranges.{inRange, receives, receiveStoreOk}
+use Rattle.connection.proofs.RangeLaws.{ranged}
+use Rattle.judging.specs.declared.Judged.{Judged}
+use Rattle.judging.specs.Judging.{stateOf, unjudged, byRow, judgedOf}
+use Rattle.taking.specs.declared.Taken.{Taken}
+use Rattle.taking.specs.Taking.{Told, told, bytesOf, heldOf, earlyOf, byVerdict, judgeOf, unchanged, undone, handed, hand, takeOf}
+use Rattle.taking.specs.Inside.{Holds, Hands, heardAs}
+
+-- ---- an instance's area
+
+-- The area is in the store, and what is held is in the area.
+pub record Area (c : Connection) (store : List ℕ) (i : ℕ) : Type 0 where
+  pub listed : i < length (c .settings .receive)
+  pub stored : baseOf (c .settings .receive) i + getD (c .settings .receive) i 0 ≤ length store
+  pub some : 0 < getD (c .settings .receive) i 0
+  pub small : getD (c .settings .receive) i 0 ≤ 131072
+  pub start : getD (c .receiving .starts) i 0 < getD (c .settings .receive) i 0
+  pub held : getD (c .receiving .held) i 0 ≤ getD (c .settings .receive) i 0
+
+pub area : (c : Connection) (store : List ℕ) (i : ℕ) → Holds c store i → Area c store i
+area c store i h =
+    let r = ranged c (h .ranged) in
+    let cap = r .set .receive i (h .instance) in
+    let q = r .receiving i (h .instance) in
+    let listed : i < length (c .settings .receive) = inside (c .settings .receive) i (omega arith) in
+    record {
+      listed = listed;
+      stored = area-in-store store (c .settings .receive) i (h .stored) listed;
+      some = omega arith;
+      small = cap .1;
+      start = q .0;
+      held = omega arith;
+    }
+  where
+    -- what is not 0 is an entry
+    inside : (l : List ℕ) (i : ℕ) → 0 < getD l i 0 → i < length l
+    inside l i h = elim (decLt i (length l)) [
+      | yes y ↦ y
+      | no x ↦ absurd (omega (arith, List·getD-eq-default l 0 {n = i} (omega arith)))
+    ]
+
+-- the first n bytes held lie around the area, from the start place on
+pub held-around : (c : Connection) (store : List ℕ) (i n : ℕ) → Area c store i → n ≤ getD (c .settings .receive) i 0
+    → around (run store (baseOf (c .settings .receive) i) (getD (c .settings .receive) i 0)) (getD (c .receiving .starts) i 0) n
+    ≡ bytesOf c store i n
+held-around c store i n a l =
+    let cap = getD (c .settings .receive) i 0 in
+    let start = getD (c .receiving .starts) i 0 in
+    sym (stream-around store (baseOf (c .settings .receive) i) cap start n (a .some) l (a .stored)
+    ∙ ap (λ (k : ℕ). around (run store (baseOf (c .settings .receive) i) cap) k n) (mod-eq-of-lt (a .start)))
+
+-- ---- the verdict
+
+-- an item is not longer than the bytes that it begins
+pub whole-within : (bs : List ℕ) (m : ℕ) → verdict bs ≡ Whole m → m ≤ length bs
+whole-within bs m e = exactly nesting bs (Whole m) .0 e .0
+
+-- the bytes of the item alone are that item
+pub whole-alone : (xs : List ℕ) (from n m : ℕ) → n ≤ length xs → verdict (around xs from n) ≡ Whole m
+    → (m ≤ n) × (verdict (around xs from m) ≡ Whole m)
+whole-alone xs from n m l e =
+    let bs : List ℕ = around xs from n in
+    let q = exactly nesting bs (Whole m) .0 e in
+    let long : length bs ≡ n = around-length xs from n l in
+    let in-n : m ≤ n = omega (arith, q .0) in
+    let alone : verdict (take m bs) ≡ Whole m =
+    exactly nesting (take m bs) (Whole m) .1 (rw (length-take-le m bs (q .0)) (omega arith), rw (take-take m m bs (omega arith)) (q .1)) in
+    (in-n, ap verdict (sym (around-take xs from m n in-n)) ∙ alone)
+
+-- what the verdict comes to, of bytes where they lie and of bytes held
+pub heard-held : (c : Connection) (store : List ℕ) (i : ℕ) → Area c store i → (v : Verdict)
+    → ((m : ℕ) → v ≡ Whole m → m ≤ getD (c .settings .receive) i 0)
+    → heardAs (run store (baseOf (c .settings .receive) i) (getD (c .settings .receive) i 0)) (getD (c .receiving .starts) i 0)
+    (speaks i) (stateOf c i) (isOpen (c .gate)) v
+    ≡ byVerdict c store i v
+heard-held c store i a Incomplete h = refl
+heard-held c store i a (Bad at) h = refl
+heard-held c store i a (Whole m) h = ap (judgedOf (speaks i) (stateOf c i)) (held-around c store i m a (h m refl))
+
+-- a part of the store that begins where the area does and has its length is the area
+pub part-area : (store : List ℕ) (b k base cap : ℕ) → b ≡ base → k ≡ cap → take (b + k - b) (drop b store) ≡ run store base cap
+part-area store b k base cap e f =
+    let q : b + k - b ≡ k = omega arith in
+    ap (λ (m : ℕ). take m (drop b store)) q ∙ rw (e, f)
+
+-- judging where the bytes lie is judging the bytes held
+pub judged-there : (c : Connection) (store : List ℕ) (i : ℕ) → Area c store i → (part : List ℕ) (start n : ℕ) (p : Protocol) (state : ℕ) (still : Bool)
+    → part ≡ run store (baseOf (c .settings .receive) i) (getD (c .settings .receive) i 0) → start ≡ getD (c .receiving .starts) i 0
+    → n ≡ getD (c .receiving .held) i 0 → p ≡ speaks i → state ≡ stateOf c i → still ≡ isOpen (c .gate)
+    → heardAs part start p state still (verdict (around part start n)) ≡ byVerdict c store i (verdict (heldOf c store i))
+judged-there c store i a part start n p state still e f g h s o =
+    let caps = c .settings .receive in
+    let cap = getD caps i 0 in
+    let there : List ℕ = run store (baseOf caps i) cap in
+    let from = getD (c .receiving .starts) i 0 in
+    let held = getD (c .receiving .held) i 0 in
+    let long : length there ≡ cap = run-length store (baseOf caps i) cap (a .stored) in
+    rw (e, f, g, h, s, o)
+    (heard-held c store i a (verdict (around there from held))
+    (λ m w. omega (arith, whole-alone there from held m (omega (arith, a .held)) w .0, a .held))
+    ∙ ap (λ (bs : List ℕ). byVerdict c store i (verdict bs)) (held-around c store i held a (a .held)))
+
+-- ---- judging
+
+module _ (c : Connection) (store : List ℕ) (i : ℕ) where
+  pub judge-early : (n : ℕ) → n ≡ earlyOf c i → n ≢ 0 → unjudged n ≡ judgeOf c store i
+  unfolding judgeOf
+  judge-early n e ne = rw (← e, ne-eqb n 0 ne)
+
+  pub judge-bytes : (n : ℕ) → n ≡ earlyOf c i → n ≡ 0 → byVerdict c store i (verdict (heldOf c store i)) ≡ judgeOf c store i
+  unfolding judgeOf
+  judge-bytes n e z = rw (eq-eqb (earlyOf c i) 0 (sym e ∙ z))
+
+  -- a message that was judged is held
+  pub judged-held : judgeOf c store i .number ≡ 0 → judgeOf c store i .len ≤ getD (c .receiving .held) i 0
+  unfolding judgeOf judgedOf
+  judged-held z =
+      by-test (eqb (earlyOf c i) 0)
+      (λ t. rw t (of (verdict (heldOf c store i)) refl))
+      (λ t. rw t (omega arith))
+    where
+      by-row : (n : ℕ) (m : Message) (x : Next) → byRow n m x .len ≤ n
+      by-row n m (To s) = omega arith
+      by-row n m None = omega arith
+
+      judged : (p : Protocol) (s : ℕ) (bs : List ℕ) → judgedOf p s bs .len ≤ length bs
+      judged p s bs =
+          let a = messageOf p bs in
+          by-test (eqb (numberOf (a .reading)) 0)
+          (λ t. rw t (by-row (length bs) (a .message) (nextOf p s (a .message .kind) (flagOf p (a .message)))))
+          (λ t. rw t (omega arith))
+
+      of : (v : Verdict) → verdict (heldOf c store i) ≡ v → byVerdict c store i v .len ≤ getD (c .receiving .held) i 0
+      of Incomplete e = omega arith
+      of (Bad at) e = omega arith
+      of (Whole m) e =
+          omega (arith, judged (speaks i) (stateOf c i) (bytesOf c store i m), whole-within (heldOf c store i) m e, stream-length store (baseOf (c .settings .receive) i) (getD (c .settings .receive) i 0) (getD (c .receiving .starts) i 0) m, stream-length store (baseOf (c .settings .receive) i) (getD (c .settings .receive) i 0) (getD (c .receiving .starts) i 0) (getD (c .receiving .held) i 0))
+
+-- ---- handing out
+
+module _ (c : Connection) (store : List ℕ) (i : ℕ) (buf : List ℕ) (j : Judged) where
+  pub hand-short : length buf < j .len → told (unchanged c 18) buf ≡ hand c store i buf j
+  unfolding hand
+  hand-short h = rw (lt-ltb (length buf) (j .len) h)
+
+  pub hand-made : (k : Connection) (full : List ℕ) → j .len ≤ length buf → k ≡ handed c i j → full ≡ sets buf 0 (bytesOf c store i (j .len))
+      → told (record { number = 0; len = j .len; message = j .message; connection = k }) full ≡ hand c store i buf j
+  unfolding hand
+  hand-made k full l e f = rw (le-ltb (length buf) (j .len) l, e, f)
+
+-- ---- a call
+
+-- a record in range with its store is one whose instances hold
+pub holds : (c : Connection) (store : List ℕ) (i : ℕ) → receives c (length store) ≡ true → i < instances → Holds c store i
+holds c store i r h =
+    let t = so (inRange c && receiveStoreOk (c .settings) (length store)) r in
+    record {
+      ranged = is (inRange c) (and-left (inRange c) (receiveStoreOk (c .settings) (length store)) t);
+      stored = eqb-true (length store) (together (c .settings .receive)) (is (receiveStoreOk (c .settings) (length store)) (and-right (inRange c) (receiveStoreOk (c .settings) (length store)) t));
+      instance = h;
+    }
+
+module _ (c : Connection) (store : List ℕ) (i : ℕ) (buf : List ℕ) where
+  pub take-range : receives c (length store) ≡ false → told (unchanged c 23) buf ≡ takeOf c store i buf
+  unfolding takeOf
+  take-range r = rw r
+
+  pub take-instance : receives c (length store) ≡ true → instances ≤ i → told (unchanged c 10) buf ≡ takeOf c store i buf
+  unfolding takeOf
+  take-instance r h = rw (r, le-ltb i instances h)
+
+  pub take-refused : (j : Judged) → receives c (length store) ≡ true → i < instances → j ≡ judgeOf c store i → j .number ≢ 0
+      → told (undone c i (j .number)) buf ≡ takeOf c store i buf
+  unfolding takeOf
+  take-refused j r h e ne = rw (r, lt-ltb i instances h, ← e, ne-eqb (j .number) 0 ne)
+
+  pub take-handed : (j : Judged) → receives c (length store) ≡ true → i < instances → j ≡ judgeOf c store i → j .number ≡ 0
+      → hand c store i buf j ≡ takeOf c store i buf
+  unfolding takeOf
+  take-handed j r h e z = rw (r, lt-ltb i instances h, ← e, eq-eqb (j .number) 0 z)

@@ -1,0 +1,29 @@
+-- `taking::refuse` meets its contract: a fault closes, and another number does not.
+-- Assumes nothing.
+use mathlib.Core.Path.{sym, _∙_}
+use borrow.Author.Tests.{not-true, not-false}
+use borrow.Author.Needs.{needs}
+use Rattle.taking.proofs.refuse.Statement.{statement}
+use Rattle.taking.proofs.refuse.Tie as tie
+
+returns : tie.Need-returns
+returns c =
+    let e = sym (c .before .before .before .before .is-fault .ensures) ∙ c .before .before .before .if1 .taken in
+    rw (e, c .left .ensures, c .before .with-gate .ensures, c .before .before .close .ensures)
+
+returns-2 : tie.Need-returns-2
+returns-2 c =
+    let e = sym (c .before .before .is-fault .ensures) ∙ c .before .if1 .left in
+    rw (e, c .left2 .ensures)
+
+pub refuse-spec : {M : Type 1} → statement M
+refuse-spec =
+    tie.close
+    (tie.spec
+    (λ c κs. search needs)
+    (λ c κs. search needs)
+    (λ c κs. search needs)
+    (λ c κs. search needs)
+    returns
+    (λ c κs. search needs)
+    returns-2)

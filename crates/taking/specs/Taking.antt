@@ -1,0 +1,109 @@
+-- Take (document 01, "Numbers and their order": 10; 19; at Done, notice 3 with nothing held, else 17; our agency, notice 2; incomplete,
+-- notice 1, or 20 if closed; 14; 15; 16; 18; 23 before all others).
+use Prim.Native.Nat.{ℕ, _+_, _-_, _%_}
+use mathlib.Core.Bool.{Bool, cond, _&&_}
+use mathlib.Core.List.{List}
+use lib.Dec.{eqb, leb, ltb}
+use lib.ListN.{length, getD, set}
+use lib.Seq.{sets}
+use Rattle.ring.specs.Ring.{baseOf, stream}
+use Rattle.wire.specs.Instances.{instances}
+use Rattle.item.specs.declared.Verdict.{Verdict}
+use Rattle.item.specs.declared.Verdict.the-variants.{Whole, Bad, Incomplete}
+use Rattle.item.specs.Verdict.{verdict}
+use Rattle.rows.specs.Rows.{doneOf}
+use Rattle.rows.specs.Spoken.{speaks}
+use Rattle.messages.specs.Matching.{begun}
+use Rattle.connection.specs.declared.Receiving.{Receiving}
+use Rattle.connection.specs.declared.Connection.{Connection}
+use Rattle.connection.specs.declared.Closing.the-variants.{Of}
+use Rattle.connection.specs.Closings.{isOpen, closedBy}
+use Rattle.connection.specs.Ranges.{receives}
+use Rattle.connection.specs.Parts.{withReceiving, withTalk, withGate}
+use Rattle.judging.specs.declared.Judged.{Judged}
+use Rattle.judging.specs.Judging.{stateOf, ours, barred, movedBy, unjudged, judgedOf}
+use Rattle.taking.specs.declared.Taken.{Taken}
+
+-- an answer, and what the lent buffer then holds
+pub record Told : Type 0 where
+  pub taken : Taken
+  pub buffer : List ℕ
+
+abbrev pub told : Taken → List ℕ → Told
+told t buf = record { taken = t; buffer = buf }
+
+-- ---- judging
+
+-- the first n bytes held of instance i, and all of them
+abbrev pub bytesOf : Connection → List ℕ → ℕ → ℕ → List ℕ
+bytesOf c store i n =
+    stream store (baseOf (c .settings .receive) i) (getD (c .settings .receive) i 0) (getD (c .receiving .starts) i 0) n
+
+abbrev pub heldOf : Connection → List ℕ → ℕ → List ℕ
+heldOf c store i = bytesOf c store i (getD (c .receiving .held) i 0)
+
+-- 19; at Done, notice 3 with nothing held, else 17; our agency, notice 2; and else 0: the bytes decide
+abbrev pub earlyOf : Connection → ℕ → ℕ
+earlyOf c i =
+    cond (barred (c .talk) i) 19
+    (cond (eqb (stateOf c i) (doneOf (speaks i))) (cond (eqb (getD (c .receiving .held) i 0) 0) 3 17)
+    (cond (ours (c .settings .side) i (stateOf c i)) 2 0))
+
+-- incomplete, notice 1, or 20 if closed; 14; 15; 16
+abbrev pub byVerdict : Connection → List ℕ → ℕ → Verdict → Judged
+byVerdict c store i Incomplete = unjudged (cond (isOpen (c .gate)) 1 20)
+byVerdict c store i (Bad at) = unjudged 14
+byVerdict c store i (Whole n) = judgedOf (speaks i) (stateOf c i) (bytesOf c store i n)
+
+-- what take answers up to 16
+unfoldable pub judgeOf : Connection → List ℕ → ℕ → Judged
+judgeOf c store i = cond (eqb (earlyOf c i) 0) (byVerdict c store i (verdict (heldOf c store i))) (unjudged (earlyOf c i))
+
+-- ---- refusals
+
+-- 14 to 17 from take are faults: they close
+abbrev pub faulty : ℕ → Bool
+faulty n = leb 14 n && leb n 17
+
+-- a refusal otherwise changes nothing
+abbrev pub unchanged : Connection → ℕ → Taken
+unchanged c n = record { number = n; len = 0; message = begun 0; connection = c }
+
+abbrev pub undone : Connection → ℕ → ℕ → Taken
+undone c i n = cond (faulty n) (unchanged (withGate c (closedBy (c .gate) (Of n i))) n) (unchanged c n)
+
+-- ---- handing out
+
+-- n bytes of instance i are freed: their room is used again
+abbrev pub freedOf : Receiving → List ℕ → ℕ → ℕ → Receiving
+freedOf r caps i n =
+    record {
+      starts = set (r .starts) i ((getD (r .starts) i 0 + n) % getD caps i 0);
+      held = set (r .held) i (getD (r .held) i 0 - n);
+      header = r .header;
+      instance = r .instance;
+      rest = r .rest;
+    }
+
+-- the message's bytes are freed, and the state moves
+abbrev pub handed : Connection → ℕ → Judged → Connection
+handed c i j =
+    withTalk (withReceiving c (freedOf (c .receiving) (c .settings .receive) i (j .len)) (c .gate))
+    (movedBy (c .talk) i (j .message .kind) (j .next))
+
+-- 18; then the message's bytes are copied to the front of the lent buffer, freed, and the state moves
+unfoldable pub hand : Connection → List ℕ → ℕ → List ℕ → Judged → Told
+hand c store i buf j =
+    cond (ltb (length buf) (j .len)) (told (unchanged c 18) buf)
+    (told (record { number = 0; len = j .len; message = j .message; connection = handed c i j }) (sets buf 0 (bytesOf c store i (j .len))))
+
+-- ---- a call
+
+abbrev pub byJudged : Connection → List ℕ → ℕ → List ℕ → Judged → Told
+byJudged c store i buf j = cond (eqb (j .number) 0) (hand c store i buf j) (told (undone c i (j .number)) buf)
+
+unfoldable pub takeOf : Connection → List ℕ → ℕ → List ℕ → Told
+takeOf c store i buf =
+    cond (receives c (length store))
+    (cond (ltb i instances) (byJudged c store i buf (judgeOf c store i)) (told (unchanged c 10) buf))
+    (told (unchanged c 23) buf)
