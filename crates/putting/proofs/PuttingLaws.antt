@@ -1,0 +1,114 @@
+-- Laws of put: the ways out of the code.
+-- Assumes nothing.
+use mathlib.Core.Path.{_≡_, sym, _∙_}
+use mathlib.Core.Bool.{true, false, _&&_}
+use mathlib.Core.List.{List}
+use mathlib.Core.Logic.{_≢_}
+use Prim.Native.Nat.{ℕ, _+_, _<_, _≤_, _^_}
+use native.Mathlib.Omega.{arith}
+use lib.Dec.{eqb, ltb, leb}
+use lib.ListN.{length, getD}
+use borrow.Author.Tests.{eq-eqb, ne-eqb, eqb-true, lt-ltb, le-ltb, leb-true}
+use Rattle.base.proofs.Conds.{by-test, so, is, and-left, and-right}
+use Rattle.ring.specs.Ring.{baseOf, together}
+use Rattle.ring.proofs.Areas.{base-small, area-in-store}
+use Rattle.wire.specs.Instances.{instances}
+use Rattle.rows.specs.Spoken.{speaks}
+use Rattle.connection.specs.declared.Connection.{Connection}
+use Rattle.connection.specs.Ranges.{inRange, sendStoreOk, sends}
+use Rattle.connection.proofs.RangeLaws.{ranged}
+use Rattle.judging.specs.declared.Judged.{Judged}
+use Rattle.judging.specs.Judging.{stateOf, unjudged, judgedOf}
+use Rattle.putting.specs.Putting.{told, refusedOf, earlyOf, judgeOf, roomOf, queued, stored, room, putOf}
+use Rattle.putting.specs.Inside.{Lends, Fits}
+
+-- ---- the ways out of judging
+
+module _ (c : Connection) (i : ℕ) (xs : List ℕ) (n : ℕ) (e : n ≡ earlyOf c i) where
+  pub judge-early : n ≢ 0 → unjudged n ≡ judgeOf c i xs
+  unfolding judgeOf
+  judge-early ne = rw (← e, ne-eqb n 0 ne)
+
+  pub judge-bytes : n ≡ 0 → judgedOf (speaks i) (stateOf c i) xs ≡ judgeOf c i xs
+  unfolding judgeOf
+  judge-bytes z = rw (← e, eq-eqb n 0 z)
+
+-- ---- the area of an instance
+
+module _ (c : Connection) (store : List ℕ) (i : ℕ) (l : Lends c store i) where
+  -- it is in the store
+  pub area-lent : length (c .settings .send) ≡ instances → baseOf (c .settings .send) i + getD (c .settings .send) i 0 ≤ length store
+  area-lent long = area-in-store store (c .settings .send) i (l .stored) (omega (arith, l .instance))
+
+  pub base-fits : length (c .settings .send) ≡ instances → baseOf (c .settings .send) i < 2 ^ 64
+  base-fits long =
+      let r = ranged c (l .ranged) in
+      omega (arith, base-small (c .settings .send) 131072 (λ j h. r .set .send j (omega arith) .1) i (omega (arith, l .instance)), l .instance)
+
+  -- where its bytes begin, and how many wait, are small numbers
+  pub area-small : (getD (c .sending .starts) i 0 < 2 ^ 32) × (getD (c .sending .waiting) i 0 < 2 ^ 32)
+  area-small =
+      let r = ranged c (l .ranged) in
+      let q = r .sending i (l .instance) in
+      let s = r .set .send i (l .instance) in
+      (omega arith, omega arith)
+
+-- a message that fits leaves a small count
+pub count-small : (c : Connection) (store : List ℕ) (i : ℕ) (xs : List ℕ) → Lends c store i → Fits c i xs
+    → getD (c .sending .waiting) i 0 + length xs < 4294967296
+count-small c store i xs l f = let s = ranged c (l .ranged) .set .send i (l .instance) in omega arith
+
+-- ---- the ways out of queueing
+
+module _ (c : Connection) (store : List ℕ) (i : ℕ) (xs : List ℕ) (j : Judged) (n : ℕ) (e : n ≡ roomOf c i (length xs)) where
+  pub no-room : n ≢ 0 → told (refusedOf c n) store ≡ room c store i xs j
+  unfolding room
+  no-room ne = rw (← e, ne-eqb n 0 ne)
+
+  pub room-fits : n ≡ 0 → Fits c i xs
+  room-fits z =
+      let sum = getD (c .sending .waiting) i 0 + length xs in
+      let cap = getD (c .settings .send) i 0 in
+      let none : roomOf c i (length xs) ≡ 0 = sym e ∙ z in
+      by-test (eqb i 0 && ltb (c .settings .limit) (length xs))
+      (λ t. absurd (let q : _≡_ {A = ℕ} 24 0 = rw t at none in omega arith))
+      (λ t.
+      by-test (leb sum cap) (λ f. leb-true sum cap f)
+      (λ f. absurd (let q : _≡_ {A = ℕ} 22 0 = rw (t, f) at none in omega arith)))
+
+  pub has-room : (k : Connection) (full : List ℕ) → n ≡ 0 → k ≡ queued c i (length xs) j → full ≡ stored c store i xs
+      → told (record { number = 0; connection = k }) full ≡ room c store i xs j
+  unfolding room
+  has-room k full z ek ef = rw (← e, eq-eqb n 0 z, ek, ef)
+
+-- ---- the ways out of put
+
+module _ (c : Connection) (store : List ℕ) (i : ℕ) (xs : List ℕ) where
+  pub put-unranged : sends c (length store) ≡ false → told (refusedOf c 23) store ≡ putOf c store i xs
+  unfolding putOf
+  put-unranged r = rw r
+
+  module _ (r : sends c (length store) ≡ true) where
+    pub put-above : instances ≤ i → told (refusedOf c 10) store ≡ putOf c store i xs
+    unfolding putOf
+    put-above h = rw (r, le-ltb i instances h)
+
+    module _ (h : i < instances) where
+      pub put-lends : Lends c store i
+      put-lends =
+          let t = so (sends c (length store)) r in
+          let stored = sendStoreOk (c .settings) (length store) in
+          record {
+            ranged = is (inRange c) (and-left (inRange c) stored t);
+            stored = eqb-true (length store) (together (c .settings .send)) (is stored (and-right (inRange c) stored t));
+            instance = h;
+          }
+
+      module _ (j : Judged) (e : j ≡ judgeOf c i xs) where
+        pub put-refused : j .number ≢ 0 → told (refusedOf c (j .number)) store ≡ putOf c store i xs
+        unfolding putOf
+        put-refused ne = rw (r, lt-ltb i instances h, ← e, ne-eqb (j .number) 0 ne)
+
+        pub put-judged : j .number ≡ 0 → room c store i xs j ≡ putOf c store i xs
+        unfolding putOf
+        put-judged z = rw (r, lt-ltb i instances h, ← e, eq-eqb (j .number) 0 z)

@@ -1,0 +1,30 @@
+-- `putting::early` meets its contract: the tests are those of the definition.
+-- Assumes nothing.
+use borrow.Author.Needs.{needs}
+use Rattle.putting.proofs.early.Statement.{statement}
+use Rattle.putting.proofs.early.Tie as tie
+
+returns : tie.Need-returns
+returns c =
+    rw (
+      c .choose3 .ensures,
+      c .before .is-open .ensures,
+      c .before .before .choose2 .ensures,
+      c .before .before .before .barred .ensures,
+      c .before .before .before .before .choose .ensures,
+      c .before .before .before .before .before .ours .ensures,
+      c .before .before .before .before .before .before .at .ensures,
+    )
+
+pub early-spec : {M : Type 1} → statement M
+early-spec =
+    tie.close
+    (tie.spec
+    (λ c κs. search needs)
+    (λ c κs. search needs)
+    (λ c κs. search needs)
+    (λ c κs. search needs)
+    (λ c κs. search needs)
+    (λ c κs. search needs)
+    (λ c κs. search needs)
+    returns)
