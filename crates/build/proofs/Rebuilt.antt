@@ -21,7 +21,7 @@ use Rattle.messages.specs.declared.forms.Field.{Field}
 use Rattle.messages.specs.Forms.{Form, forms, formIn}
 use Rattle.messages.specs.Matching.{Value, number, place}
 use Rattle.build.specs.Theorem.{runsOf, numbersOf, Slices, Rebuilds}
-use Rattle.build.proofs.Parts.{message-made}
+use Rattle.build.proofs.Pieces.{message-made}
 use Rattle.build.proofs.Theorem.{read-back}
 
 -- no form has a kind above 7

@@ -1,2 +1,5 @@
 pub mod Made
 pub mod Theorem
+pub mod Building
+pub mod Numbers
+pub mod Inside

@@ -1,3 +1,98 @@
 // Building a message: its bytes from its kind, its numbers and a run of bytes for each item, list and map.
 //
-// The specs say what is made of the parts, and that it reads back as the message that says them.
+// One equation says the answer and every byte of the lent buffer, on every input. The specs also say that what is made
+// of parts reads back as the message that says them.
+mod layout;
+mod parts;
+
+use messages::forms::Listed;
+use wire::instances::INSTANCES;
+ghost use mathlib.Core.Path.{_≡_};
+ghost use mathlib.Core.Bool.{true};
+ghost use mathlib.Core.Option.{some};
+ghost use Prim.Native.Nat.{_<_};
+ghost use Rattle.messages.specs.Inside.{formCount, formAt};
+ghost use Rattle.build.specs.Building.{told, allGiven, handed, buildOf};
+ghost use Rattle.build.specs.Inside.{refusal, wholeOf, HeadsAndRuns, madeBy};
+
+// The number; where it is 0, how long the message is.
+pub struct Built {
+    pub number: u64,
+    pub len: usize,
+}
+
+// Makes a message at the front of the lent buffer, from its kind, its numbers and so many runs: none, the first, or both.
+// A run that is not given is empty.
+pub fn build(
+    instance: u64,
+    kind: u64,
+    numbers: &[u64],
+    runs: u64,
+    first: &[u8],
+    second: &[u8],
+    buf: &mut [u8],
+) -> Built
+    ensures { λ r. ⌜ told r (now (buf .exit)) ≡ buildOf instance kind (now (numbers .entry)) runs (now (first .entry)) (now (second .entry)) (now (buf .entry)) ⌝ }
+{
+    if INSTANCES as u64 <= instance {
+        return refuse(10);
+    }
+    if !parts::are_given(runs, first, second) {
+        return refuse(15);
+    }
+    let form = messages::forms::find(rows::spoken::protocol(instance as usize), kind);
+    match form {
+        Listed::Row(row) => build_form(row, kind, numbers, runs, first, second, buf),
+        Listed::Unknown => refuse(15),
+    }
+}
+
+fn refuse(number: u64) -> Built
+    ensures { λ r. ⌜ r ≡ refusal number ⌝ }
+{
+    Built { number, len: 0 }
+}
+
+// A message of the form in a row.
+fn build_form(
+    row: usize,
+    kind: u64,
+    numbers: &[u64],
+    runs: u64,
+    first: &[u8],
+    second: &[u8],
+    buf: &mut [u8],
+) -> Built
+    requires { ⌜ (row < formCount) × (allGiven runs (now first) (now second) ≡ true) ⌝ }
+    ensures { λ r. ⌜ told r (now (buf .exit)) ≡ handed (now (buf .entry)) (madeBy (now (numbers .entry)) runs (now (first .entry)) (now (second .entry)) (formAt row .fields) kind) ⌝ }
+{
+    let plan = parts::judge(row, numbers, runs, first, second);
+    if !plan.made {
+        return refuse(15);
+    }
+    let arguments = plan.arguments;
+    hand(row, kind, arguments, first, second, buf)
+}
+
+// The message of these arguments, if the buffer is long enough for its heads and runs.
+fn hand(
+    row: usize,
+    kind: u64,
+    arguments: [u64; 3],
+    first: &[u8],
+    second: &[u8],
+    buf: &mut [u8],
+) -> Built
+    requires { ⌜ (row < formCount) × HeadsAndRuns (now first) (now second) (formAt row .fields) kind arguments ⌝ }
+    ensures { λ r. ⌜ told r (now (buf .exit)) ≡ handed (now (buf .entry)) (some (wholeOf (now (first .entry)) (now (second .entry)) (formAt row .fields) kind arguments)) ⌝ }
+{
+    let heads = layout::heads(row, kind, arguments);
+    if !layout::fits(buf.len(), heads, first.len(), second.len()) {
+        return refuse(18);
+    }
+    layout::put(buf, row, kind, arguments, first, second);
+    Built {
+        number: 0,
+        len: heads + first.len() + second.len(),
+    }
+}

@@ -1,6 +1,9 @@
 // The forms of document 01, each read, and each broken in each way: a line with document 01's number, and then the
 // kind, the numbers and the places, start and length, or what is wrong: the bytes are not one item, no array that an
-// unsigned number opens, of no known kind, of another count, or in the field at this place of the array.
+// unsigned number opens, of no known kind, of another count, or in the field at this place of the array. Then every kind
+// of every protocol built and read back.
+mod built;
+
 use item::Verdict;
 use libc::STDOUT_FILENO;
 use messages::Message;
@@ -19,6 +22,7 @@ fn main() {
     pairs();
     keep_alive();
     in_a_ring();
+    built::all();
 }
 
 fn handshake() {

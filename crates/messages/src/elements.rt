@@ -35,25 +35,25 @@ pub enum Part {
 }
 
 // Major types.
-const UNSIGNED: u8 = 0;
+pub const UNSIGNED: u8 = 0;
 
-const ARRAY: u8 = 4;
+pub const ARRAY: u8 = 4;
 
-const MAP: u8 = 5;
+pub const MAP: u8 = 5;
 
 // The message's own array counts in the nesting, and so do a list, a pair and a map.
-const IN_MESSAGE: usize = 15;
+pub const IN_MESSAGE: usize = 15;
 
-const IN_LIST: usize = 14;
+pub const IN_LIST: usize = 14;
 
 const IN_PAIR: usize = 13;
 
 // Versions and sizes are below 2^32, w is below 2^16.
-const VERSIONS: u64 = 4294967296;
+pub const VERSIONS: u64 = 4294967296;
 
 const SIZES: u64 = 4294967296;
 
-const WORDS: u64 = 65536;
+pub const WORDS: u64 = 65536;
 
 // A bool is one byte.
 const FALSE: u8 = 0xf4;

@@ -102,8 +102,7 @@ module _ (bs : List ℕ) where
       let h′ : length ys ≤ r - q = y .no-longer in
       let apart : xs ++ ys ≡ run bs p (r - p) → S × T = λ e.
       let e′ : xs ++ ys ≡ a ++ b = e ∙ cut in
-      let n : length xs ≡ q - p = omega (arith, ap length e′, length-append xs ys, length-append a b) in
-      (
+      let n : length xs ≡ q - p = omega (arith, ap length e′, length-append xs ys, length-append a b) in (
         x .same .0 (sym (take-at xs ys (q - p) n) ∙ ap (take (q - p)) e′ ∙ take-at a b (q - p) long-a),
         y .same .0 (sym (drop-at xs ys (q - p) n) ∙ ap (drop (q - p)) e′ ∙ drop-at a b (q - p) long-a),
       ) in

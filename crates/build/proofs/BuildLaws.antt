@@ -1,0 +1,131 @@
+-- The ways out of build.
+-- Assumes nothing.
+use Prim.Native.Nat.{ℕ, _+_, _≤_, _<_}
+use mathlib.Core.Path.{_≡_, refl, sym, ap, subst, _∙_}
+use mathlib.Core.Bool.{Bool, true, false}
+use mathlib.Core.List.{List, _++_}
+use mathlib.Core.Option.{Option, none, some}
+use native.Mathlib.Omega.{arith}
+use lib.Dec.{leb}
+use lib.ListN.{length}
+use lib.Seq.{sets}
+use borrow.Author.Tests.{lt-ltb, le-ltb, leb-true, leb-false}
+use Rattle.base.proofs.Conds.{so, is, and-left}
+use Rattle.wire.specs.Instances.{instances}
+use Rattle.head.specs.Write.{shortest}
+use Rattle.rows.specs.declared.Protocol.{Protocol}
+use Rattle.rows.specs.Spoken.{speaks}
+use Rattle.messages.specs.declared.forms.Field.{Field}
+use Rattle.messages.specs.declared.forms.Listed.{Listed}
+use Rattle.messages.specs.declared.forms.Listed.the-variants.{Row, Unknown}
+use Rattle.messages.specs.Inside.{formAt, Finds}
+use Rattle.messages.specs.Matching.{array}
+use Rattle.messages.proofs.FormLaws.{at-most-three}
+use Rattle.build.specs.declared.parts.Plan.{Plan}
+use Rattle.build.specs.Made.{onSome, made, encoded}
+use Rattle.build.specs.Building.{Told, told, allGiven, given, bytesOf, handed, buildOf}
+use Rattle.build.specs.Inside.{refusal, nothing, planned, planOf, bodyOf, wholeOf, madeBy, allHeads, HeadsAndRuns}
+use Rattle.build.proofs.Counting.{Found}
+use Rattle.build.proofs.LayoutLaws.{whole-long}
+use Rattle.build.proofs.PlanLaws.{lent, plan-makes, plan-long, all-lent}
+
+-- ---- the message of a form
+
+at-most-two : (runs : ℕ) (first second : List ℕ) → allGiven runs first second ≡ true → runs ≤ 2
+at-most-two runs first second g = leb-true runs 2 (is (leb runs 2) (and-left (leb runs 2) _ (so (allGiven runs first second) g)))
+
+module _ (ns : List ℕ) (runs : ℕ) (first second : List ℕ) (kind : ℕ) (fs : List Field) where
+  -- arguments first, and bytes then
+  plan-whole : runs ≤ 2 → length fs ≤ 3
+      → onSome (made fs ns (lent first second runs)) (λ ys. some (shortest array (length fs + 1) ++ (shortest 0 kind ++ ys)))
+      ≡ madeBy ns runs first second fs kind
+  unfolding madeBy
+  plan-whole two few =
+      ap (λ (o : Option (List ℕ)). onSome o (λ ys. some (shortest array (length fs + 1) ++ (shortest 0 kind ++ ys))))
+      (plan-makes ns runs first second two fs 0 0 0 nothing (omega arith) (omega arith) (omega arith))
+      ∙ of (planned ns runs first second fs 0 0 0 nothing)
+    where
+      of : (o : Option (List ℕ))
+          → onSome (onSome o (λ args. some (bodyOf first second fs args 0 0)))
+          (λ ys. some (shortest array (length fs + 1) ++ (shortest 0 kind ++ ys)))
+          ≡ onSome o (λ args. some (wholeOf first second fs kind args))
+      of none = refl
+      of (some args) = refl
+
+  -- it is as long as its heads and all runs
+  pub heads-and-runs : (args : List ℕ) → allGiven runs first second ≡ true → planned ns runs first second fs 0 0 0 nothing ≡ some args
+      → HeadsAndRuns first second fs kind args
+  heads-and-runs args g e =
+      let body = subst (Found (λ _. length (bodyOf first second fs args 0 0) ≡ _)) e
+      (plan-long ns runs first second (at-most-two runs first second g) fs args) in
+      omega (arith, whole-long first second fs kind args, all-lent runs first second g)
+
+-- ---- handing it over
+
+module _ (first second : List ℕ) (fs : List Field) (kind : ℕ) (args buf : List ℕ) (e : HeadsAndRuns first second fs kind args) {heads : ℕ}
+    (h : heads ≡ allHeads fs kind args) where
+  abbrev whole : List ℕ
+  whole = wholeOf first second fs kind args
+
+  abbrev need : ℕ
+  need = heads + (length first + length second)
+
+  exact : length whole ≡ need
+  exact = omega arith
+
+  pub hand-fits : {t : Bool} → t ≡ leb need (length buf) → t ≡ true → length whole ≤ length buf
+  hand-fits f t = omega (arith, exact, leb-true need (length buf) (sym f ∙ t))
+
+  pub hand-short : {t : Bool} → t ≡ leb need (length buf) → t ≡ false → told (refusal 18) buf ≡ handed buf (some whole)
+  hand-short f t = rw (lt-ltb (length buf) (length whole) (omega (arith, exact, leb-false need (length buf) (sym f ∙ t))))
+
+  pub hand-over : {t : Bool} {n : ℕ} {after : List ℕ} → t ≡ leb need (length buf) → t ≡ true → n ≡ need → after ≡ sets buf 0 whole
+      → told (record { number = 0; len = n }) after ≡ handed buf (some whole)
+  hand-over {n = n} {after = after} f t en ea =
+      ap (λ (k : ℕ). told (record { number = 0; len = k }) after) (en ∙ sym exact)
+      ∙ ap (told (record { number = 0; len = length whole })) ea
+      ∙ rw (le-ltb (length buf) (length whole) (hand-fits f t))
+
+-- ---- the parts of a form
+
+module _ (ns : List ℕ) (runs : ℕ) (first second : List ℕ) (kind : ℕ) (fs : List Field) (buf : List ℕ) (p : Plan)
+    (e : planOf p ≡ planned ns runs first second fs 0 0 0 nothing) where
+  pub unplanned : p .made ≡ false → told (refusal 15) buf ≡ handed buf (madeBy ns runs first second fs kind)
+  unfolding madeBy
+  unplanned t = rw (← e, t)
+
+  pub plan-is : p .made ≡ true → planned ns runs first second fs 0 0 0 nothing ≡ some (p .arguments)
+  plan-is t = sym e ∙ rw t
+
+  pub planned-so : {x : Told} → p .made ≡ true → x ≡ handed buf (some (wholeOf first second fs kind (p .arguments)))
+      → x ≡ handed buf (madeBy ns runs first second fs kind)
+  unfolding madeBy
+  planned-so t g = rw (plan-is t) g
+
+-- ---- build
+
+module _ (instance kind : ℕ) (ns : List ℕ) (runs : ℕ) (first second buf : List ℕ) where
+  pub build-above : instances ≤ instance → told (refusal 10) buf ≡ buildOf instance kind ns runs first second buf
+  unfolding buildOf
+  build-above h = rw (le-ltb instance instances h)
+
+  module _ (low : instance < instances) where
+    pub build-not-given : allGiven runs first second ≡ false → told (refusal 15) buf ≡ buildOf instance kind ns runs first second buf
+    unfolding buildOf bytesOf given
+    build-not-given g = rw (lt-ltb instance instances low, g)
+
+    module _ (g : allGiven runs first second ≡ true) {p : Protocol} (speaks-p : p ≡ speaks instance) {w : Listed} (found : Finds p kind w) where
+      pub build-unknown : w ≡ Unknown → told (refusal 15) buf ≡ buildOf instance kind ns runs first second buf
+      unfolding buildOf bytesOf given encoded
+      build-unknown e = rw (lt-ltb instance instances low, g, ← speaks-p, subst (Finds p kind) e found)
+
+      pub build-known : (row : ℕ) {x : Told} → w ≡ Row row → x ≡ handed buf (madeBy ns runs first second (formAt row .fields) kind)
+          → x ≡ buildOf instance kind ns runs first second buf
+      unfolding buildOf bytesOf given encoded
+      build-known row e h =
+          let row-found : Finds p kind (Row row) = subst (Finds p kind) e found in
+          h
+          ∙ sym
+          (rw (lt-ltb instance instances low, g, ← speaks-p, row-found .1)
+          (ap (handed buf) (plan-whole ns runs first second kind (formAt row .fields) (at-most-two runs first second g)
+          (at-most-three row (row-found .0)))))

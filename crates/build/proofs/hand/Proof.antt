@@ -1,0 +1,72 @@
+-- `build::hand` meets its contract: there is room for heads and runs, or not.
+-- Assumes nothing.
+use mathlib.Core.Path.{sym, _∙_}
+use Prim.Native.Nat.{_+_, _≤_}
+use native.Mathlib.Omega.{arith}
+use lib.ListN.{length}
+use borrow.Author.Tests.{leb-true, not-true, not-false}
+use Rattle.messages.specs.Inside.{formAt}
+use Rattle.build.proofs.BuildLaws.{hand-fits, hand-short, hand-over}
+use borrow.Author.Needs.{needs}
+use Rattle.build.proofs.hand.Statement.{statement}
+use Rattle.build.proofs.hand.Tie as tie
+
+returns : tie.Need-returns
+returns c =
+    let s = c .before .before .before .before .before .before .before in
+    let a = s .args in
+    rw (c .refuse .ensures)
+    (hand-short (a .first .now) (a .second .now) (formAt (a .row) .fields) (a .kind) (a .arguments) (a .buf .now) (s .pre .1)
+    (c .before .before .before .heads .ensures .0)
+    (c .before .before .fits2 .ensures) (not-true _ (c .before .if1 .taken)))
+
+put-requires : tie.Need-put-requires
+put-requires c κs =
+    let s = c .before .before .before .before .before .before .before in
+    let a = s .args in (
+      s .pre .0,
+      hand-fits (a .first .now) (a .second .now) (formAt (a .row) .fields) (a .kind) (a .arguments) (a .buf .now) (s .pre .1)
+          (c .before .before .before .heads .ensures .0)
+          (c .before .before .fits2 .ensures) (not-false _ (c .before .if1 .left)),
+    )
+
+add-t10 : tie.Need-add-t10
+add-t10 c =
+    let a = c .before .before .before .before .before .before .before .before .before .before .args in
+    let h = c .before .before .before .before .before .before .heads .result in
+    let room : h + (length (a .first .now) + length (a .second .now)) ≤ length (a .buf .now) =
+    leb-true (h + (length (a .first .now) + length (a .second .now))) (length (a .buf .now))
+    (sym (c .before .before .before .before .before .fits2 .ensures) ∙ not-false _ (c .before .before .before .before .if1 .left)) in
+    record { fits = omega arith }
+
+add-t16 : tie.Need-add-t16
+add-t16 c =
+    let a = c .before .before .before .before .before .before .before .before .before .before .args in
+    let h = c .before .before .before .before .before .before .heads .result in
+    let room : h + (length (a .first .now) + length (a .second .now)) ≤ length (a .buf .now) =
+    leb-true (h + (length (a .first .now) + length (a .second .now))) (length (a .buf .now))
+    (sym (c .before .before .before .before .before .fits2 .ensures) ∙ not-false _ (c .before .before .before .before .if1 .left)) in
+    record { fits = omega arith }
+
+returns-2 : tie.Need-returns-2
+returns-2 c =
+    let s = c .before .before .before .before .before .before .before .before .before .before in
+    let a = s .args in
+    hand-over (a .first .now) (a .second .now) (formAt (a .row) .fields) (a .kind) (a .arguments) (a .buf .now) (s .pre .1)
+    (c .before .before .before .before .before .before .heads .ensures .0)
+    (c .before .before .before .before .before .fits2 .ensures) (not-false _ (c .before .before .before .before .if1 .left)) (omega arith)
+    (c .before .before .put .ensures)
+
+pub hand-spec : {M : Type 1} → statement M
+hand-spec =
+    tie.close
+    (tie.spec
+    (λ c κs. search needs)
+    (λ c κs. search needs)
+    (λ c κs. search needs)
+    returns
+    put-requires
+    add-t10
+    add-t16
+    (λ c. search needs)
+    returns-2)

@@ -1,0 +1,51 @@
+-- Build (document 01, "CBOR" and "Numbers and their order": 10; 15; 18).
+use Prim.Native.Nat.{ℕ}
+use mathlib.Core.Bool.{Bool, cond, _&&_, _||_}
+use mathlib.Core.List.{List, [], _∷_}
+use mathlib.Core.Option.{Option, none, some}
+use lib.Dec.{eqb, ltb, leb}
+use lib.ListN.{length, take}
+use lib.Seq.{sets}
+use Rattle.wire.specs.Instances.{instances}
+use Rattle.rows.specs.Spoken.{speaks}
+use Rattle.build.specs.declared.Built.{Built}
+use Rattle.build.specs.Made.{onSome, encoded}
+
+-- an answer, and what the lent buffer then holds
+pub record Told : Type 0 where
+  pub built : Built
+  pub buffer : List ℕ
+
+abbrev pub told : Built → List ℕ → Told
+told b buf = record { built = b; buffer = buf }
+
+-- a refusal writes nothing
+abbrev pub refused : List ℕ → ℕ → Told
+refused buf n = told (record { number = n; len = 0 }) buf
+
+-- a run of no bytes
+abbrev pub empty : List ℕ → Bool
+empty run = eqb (length run) 0
+
+-- at most two runs are given, since no form has more, and a run above their count is empty
+abbrev pub allGiven : ℕ → List ℕ → List ℕ → Bool
+allGiven runs first second = leb runs 2 && ((leb 1 runs || empty first) && (leb 2 runs || empty second))
+
+-- the runs given: none, the first, or both
+unfoldable pub given : ℕ → List ℕ → List ℕ → Option (List (List ℕ))
+given runs first second = cond (allGiven runs first second) (some (take runs (first ∷ second ∷ []))) none
+
+-- the message that the parts make, of the protocol that the instance speaks
+unfoldable pub bytesOf : ℕ → ℕ → List ℕ → ℕ → List ℕ → List ℕ → Option (List ℕ)
+bytesOf instance kind ns runs first second = onSome (given runs first second) (λ rs. encoded (speaks instance) kind ns rs)
+
+-- 15 where they make none; 18 where the lent buffer is shorter than the message; else it stands at the buffer's front
+abbrev pub handed : List ℕ → Option (List ℕ) → Told
+handed buf none = refused buf 15
+handed buf (some bs) =
+    cond (ltb (length buf) (length bs)) (refused buf 18) (told (record { number = 0; len = length bs }) (sets buf 0 bs))
+
+-- 10 above the last instance, before all else
+unfoldable pub buildOf : ℕ → ℕ → List ℕ → ℕ → List ℕ → List ℕ → List ℕ → Told
+buildOf instance kind ns runs first second buf =
+    cond (ltb instance instances) (handed buf (bytesOf instance kind ns runs first second)) (refused buf 10)

@@ -1,0 +1,55 @@
+-- Which number build answers, exactly when (document 01, "Numbers and their order"), what a refusal leaves, and what is built, as statements.
+use Prim.Native.Nat.{ℕ, _^_, _<_, _≤_}
+use mathlib.Core.Path.{_≡_}
+use mathlib.Core.List.{List, _++_}
+use mathlib.Core.Logic.{_↔_}
+use mathlib.Core.Option.{none, some}
+use lib.ListN.{length, take, drop}
+use Rattle.wire.specs.Instances.{instances}
+use Rattle.rows.specs.Spoken.{speaks}
+use Rattle.messages.specs.Matching.{Value, Matches}
+use Rattle.build.specs.declared.Built.{Built}
+use Rattle.build.specs.Building.{told, given, bytesOf, buildOf}
+use Rattle.build.specs.Theorem.{numbersOf, runsOf}
+
+-- T2: 10 if the instance is above the last; 15 if kind or parts make no message; 18 if the buffer is shorter than the message; else 0
+pub record Numbers (i kind : ℕ) (ns : List ℕ) (runs : ℕ) (first second buf : List ℕ) : Type 0 where
+  pub n10 : (buildOf i kind ns runs first second buf .built .number ≡ 10) ↔ (instances ≤ i)
+  pub n15 : (buildOf i kind ns runs first second buf .built .number ≡ 15) ↔ ((i < instances) × (bytesOf i kind ns runs first second ≡ none))
+  pub n18 : (buildOf i kind ns runs first second buf .built .number ≡ 18)
+      ↔ ((i < instances) × ((bs : List ℕ) × (bytesOf i kind ns runs first second ≡ some bs) × (length buf < length bs)))
+  pub n0 : (buildOf i kind ns runs first second buf .built .number ≡ 0)
+      ↔ ((i < instances) × ((bs : List ℕ) × (bytesOf i kind ns runs first second ≡ some bs) × (length bs ≤ length buf)))
+
+abbrev pub Exactly : Type 0
+Exactly = (i kind : ℕ) (ns : List ℕ) (runs : ℕ) (first second buf : List ℕ) → Numbers i kind ns runs first second buf
+
+-- T3: with any number but 0, the buffer is as it was
+abbrev pub Untouched : Type 0
+Untouched =
+    (i kind : ℕ) (ns : List ℕ) (runs : ℕ) (first second buf : List ℕ) (b : Built) (after : List ℕ)
+    → told b after ≡ buildOf i kind ns runs first second buf → (b .number ≡ 0 → ⊥) → (b .len ≡ 0) × (after ≡ buf)
+
+-- T1: the contract leaves one answer and one buffer
+abbrev pub Once : Type 0
+Once =
+    (i kind : ℕ) (ns : List ℕ) (runs : ℕ) (first second buf : List ℕ) (b b′ : Built) (after after′ : List ℕ)
+    → told b after ≡ buildOf i kind ns runs first second buf → told b′ after′ ≡ buildOf i kind ns runs first second buf
+    → (b ≡ b′) × (after ≡ after′)
+
+-- with 0, the message stands at the buffer's front, and the rest of the buffer is as it was
+abbrev pub Stands : Type 0
+Stands =
+    (i kind : ℕ) (ns : List ℕ) (runs : ℕ) (first second buf : List ℕ) (b : Built) (after : List ℕ)
+    → told b after ≡ buildOf i kind ns runs first second buf → b .number ≡ 0
+    → (bs : List ℕ) × (bytesOf i kind ns runs first second ≡ some bs) × (b .len ≡ length bs) × (after ≡ bs ++ drop (length bs) buf)
+
+-- T9 of the operation: what is then at the front is a message of this kind that says these numbers and has these runs at its places.
+-- Kind and lengths of slices are numbers of 64 bits.
+abbrev pub ReadsBack : Type 0
+ReadsBack =
+    (i kind : ℕ) (ns : List ℕ) (runs : ℕ) (first second buf : List ℕ) (b : Built) (after : List ℕ)
+    → kind < 2 ^ 64 → length first < 2 ^ 64 → length second < 2 ^ 64
+    → told b after ≡ buildOf i kind ns runs first second buf → b .number ≡ 0
+    → (xs : List Value) × Matches (speaks i) (take (b .len) after) kind xs × (numbersOf xs ≡ ns)
+    × (given runs first second ≡ some (runsOf (take (b .len) after) xs))
