@@ -1,3 +1,4 @@
-// What the front promises: P1 to P12 of document 01, one table of examples and one theorem.
+// What the front promises over several calls, from open on: `specs/Promises.antt` is the file to open first.
 //
-// What holds over several calls is to come.
+// The statements speak of every list of calls, over one step that is made of the definitions that the operations'
+// contracts equal. And P1 to P12 of document 01 are one table of examples and one theorem. There is no code here.

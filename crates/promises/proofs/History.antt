@@ -1,0 +1,125 @@
+-- T11 and T13, by what every reached world is (T10): each call keeps the ties between history and world, and so every list of calls does.
+-- Assumes nothing.
+use mathlib.Core.Path.{_≡_, refl, sym, ap, _∙_, subst}
+use mathlib.Core.List.{List, [], _∷_, _++_}
+use Prim.Native.Nat.{ℕ, zero, suc, _+_, _-_, _<_}
+use native.Mathlib.Omega.{arith}
+use native.Mathlib.Nat.{add-zero, add-suc, suc-add}
+use borrow.Author.Tests.{eq-eqb, ne-eqb}
+use lib.ListN.{length, getD}
+use Rattle.wire.specs.Instances.{instances}
+use Rattle.wire.proofs.SegmentLaws.{divided-once}
+use Rattle.ready.specs.Ready.{lowestFrom}
+use Rattle.ready.proofs.ReadyLaws.{bit-by-bit, no-more, ones-ready}
+use Rattle.connection.specs.declared.Settings.{Settings}
+use Rattle.connection.specs.Statuses.{statusOf}
+use Rattle.promises.specs.Trace.{Out, event, run, trace}
+use Rattle.promises.specs.Calls.{Call, Answer, told, World, step, Real, AllReal, Opened, first}
+use Rattle.promises.specs.Reached.{Reached}
+use Rattle.promises.specs.History.{Past, bytesIn, Talks, Closes, Tells, Gives, History, Reports, StatusTells}
+use Rattle.promises.proofs.HistoryCalls.{tells}
+use Rattle.promises.proofs.Reached.{in-range-for-ever}
+use Rattle.promises.proofs.HistoryRuns.{good, along}
+use Rattle.promises.proofs.HistoryTalks.{talks-first, talks-next}
+use Rattle.promises.proofs.HistoryReceives.{Held, held-first, held-after, receives}
+use Rattle.promises.proofs.HistoryCloses.{closes-first, closes-after}
+use Rattle.promises.proofs.HistorySends.{Waits, waits-first, waits-after, sends, segmented}
+use Rattle.promises.proofs.HistoryItems.{hands-out}
+
+-- all that each call keeps
+record Ties (s : Settings) (past : Past) (w : World) : Type 0 where
+  held : Held s past w
+  waits : Waits s past w
+  talks : Talks s past w
+  closes : Closes s past w
+
+ties-next : (s : Settings) (past : Past) (w : World) (c : Call) → Real c → Reached s w → Reached s (step w c .world) → Ties s past w
+    → Ties s (past ++ (event step w c ∷ [])) (step w c .world)
+ties-next s past w c real k k′ t =
+    record {
+      held = held-after s past w c real k k′ (t .held);
+      waits = waits-after s past w c real k (t .waits);
+      talks = talks-next s past w c real k k′ (t .talks);
+      closes = closes-after s past w c k k′ (t .held) (t .closes);
+    }
+
+-- ---- status
+
+-- which is lowest, counted from k
+lowest-at : (k : ℕ) (ws : List ℕ) (i : ℕ) → i < length ws → 0 < getD ws i 0 → ((j : ℕ) → j < i → getD ws j 0 ≡ 0) → lowestFrom k ws ≡ k + i
+unfolding lowestFrom
+lowest-at k [] i l some h = absurd (omega arith)
+lowest-at k (x ∷ ws) zero l some h = rw (ne-eqb x 0 (λ e. omega arith), add-zero)
+lowest-at k (x ∷ ws) (suc i) l some h =
+    rw (eq-eqb x 0 (h 0 (omega arith))) (lowest-at (suc k) ws i (omega arith) some (λ j p. h (suc j) (omega arith)) ∙ rw (suc-add, ← add-suc))
+
+lowest-none : (k : ℕ) (ws : List ℕ) → ((j : ℕ) → j < length ws → getD ws j 0 ≡ 0) → lowestFrom k ws ≡ 255
+unfolding lowestFrom
+lowest-none k [] h = refl
+lowest-none k (x ∷ ws) h = rw (eq-eqb x 0 (h 0 (omega arith))) (lowest-none (suc k) ws (λ j p. h (suc j) (omega arith)))
+
+-- what status tells of a record in range
+reports : (s : Settings) (past : Past) (w : World) → Reached s w → Tells s past w → Reports s past (statusOf (w .connection))
+unfolding statusOf
+reports s past w k t =
+    let ws = w .connection .sending .waiting in
+    let many : length ws ≡ instances = k .shaped .waiting in
+    rw (k .ranged)
+    (record {
+      number = refl;
+      held = λ cs left d i l.
+          let q = divided-once (bytesIn past) left (t .receives .left) cs (t .receives .carried) d (t .receives .divided) in
+          rw (q .0, q .1) (t .receives .held i l);
+      waiting = t .sends .waiting;
+      many = (k .shaped .held, many);
+      bits = λ i l. bit-by-bit ws i (omega arith);
+      small = rw many at (no-more ws);
+      count = sym (ones-ready ws);
+      lowest = λ i l some h. lowest-at 0 ws i (omega arith) some h ∙ omega arith;
+      none = λ h. lowest-none 0 ws (λ j l. h j (omega arith));
+      closing = t .closes;
+    })
+
+module _ (s : Settings) (receive send : List ℕ) (opened : Opened s receive send) (cs : List Call) (real : AllReal cs) where
+  abbrev w : World
+  w = run step (first s receive send) cs
+
+  abbrev past : Past
+  past = trace step (first s receive send) cs
+
+  reached : Reached s w
+  reached = in-range-for-ever s receive send opened cs real
+
+  ties : Ties s past w
+  ties =
+      along opened (Ties s) (ties-next s) cs real
+      (record { held = held-first opened; waits = waits-first opened; talks = talks-first opened; closes = closes-first opened })
+
+  told-so : Tells s past w
+  told-so =
+      record {
+        receives = receives s past w reached (ties .held);
+        sends = sends s past w reached (ties .waits);
+        talks = ties .talks;
+        closes = ties .closes;
+      }
+
+  given : Gives s w
+  given =
+      record {
+        hands = hands-out w (good reached);
+        makes = λ time buf bs r. segmented s w time buf reached r bs;
+      }
+
+-- T11
+pub history : History
+history s receive send opened cs real = (told-so s receive send opened cs real, given s receive send opened cs real)
+
+-- T13
+pub status-tells : StatusTells
+status-tells s receive send opened cs real r e =
+    let w : World = run step (first s receive send) cs in
+    let q : told (statusOf (w .connection)) ≡ told r = sym (ap (λ (o : Out World Answer). o .answer) (tells w)) ∙ e in
+    let same : statusOf (w .connection) ≡ r = cc in
+    subst (Reports s (trace step (first s receive send) cs)) same
+    (reports s (trace step (first s receive send) cs) w (in-range-for-ever s receive send opened cs real) (told-so s receive send opened cs real))

@@ -1,0 +1,282 @@
+-- What was received (T11 a), byte by byte: the division of the bytes so far stands as the record does, and what it has for an instance is what
+-- was handed out and what is held.
+-- Assumes nothing.
+use mathlib.Core.Path.{_≡_, refl, sym, ap, _∙_}
+use mathlib.Core.Bool.{true, false, true≢false, cond}
+use mathlib.Core.List.{List, [], _∷_, _++_, append-nil, append-assoc, flatMap}
+use mathlib.Core.Logic.{_≢_}
+use Prim.Native.Nat.{ℕ, suc, _+_, _-_, _≤_, _<_}
+use native.Mathlib.Omega.{arith}
+use borrow.Author.Tests.{eq-eqb, ne-eqb, eqb-true, eqb-false, leb-true, leb-false}
+use lib.Dec.{eqb, leb}
+use lib.ListN.{length, getD, take, length-set, length-append}
+use lib.Seq.{getD-set-same, getD-set-other}
+use Rattle.base.proofs.Conds.{by-test, cond-cases}
+use Rattle.ring.specs.Ring.{baseOf, together, stream}
+use Rattle.ring.proofs.Stores.{stream-behind}
+use Rattle.ring.proofs.Areas.{area-in-store, stream-stays}
+use Rattle.wire.specs.declared.segment.Header.{Header}
+use Rattle.wire.specs.declared.instances.Side.{Side}
+use Rattle.wire.specs.declared.instances.Route.{Route}
+use Rattle.wire.specs.declared.instances.Route.the-variants.{Unknown, Wrong, To}
+use Rattle.wire.specs.Segments.{headerLength, empty, added, decoded, Carried, Divided, in-header, in-payload}
+use Rattle.wire.specs.Instances.{instances, routeOf}
+use Rattle.connection.specs.declared.Receiving.{Receiving}
+use Rattle.connection.specs.Closings.{isOpen}
+use Rattle.feeding.specs.declared.Admission.{Admission}
+use Rattle.feeding.specs.Feeding.{State, admitted, admission, settled, headed, kept, step, fed, used}
+use Rattle.feeding.proofs.Bytes.{step-headed, step-kept, fed-closed}
+use Rattle.feeding.proofs.Keeping.{Kept, kept-fed}
+use Rattle.promises.specs.History.{payloadFor, receivedIn}
+use Rattle.promises.proofs.HistoryLayout.{part, add-part, part-whole, divided-on, divided-whole, none-for, for-append, received-head}
+use Rattle.promises.proofs.HistoryLayout.{received-in, received-whole}
+
+-- the bytes held for instance i
+abbrev pub heldIn : List ℕ → State → ℕ → List ℕ
+heldIn caps s i =
+    stream (s .store) (baseOf caps i) (getD caps i 0) (getD (s .receiving .starts) i 0) (getD (s .receiving .held) i 0)
+
+-- what the record has of the bytes that are left: they are those of its header, or it waits for the rest of their payload
+pub data Reading (side : Side) (r : Receiving) (left : List ℕ) : Type 0 where
+  in-head : r .rest ≡ 0 → length left < headerLength → r .header ≡ part left → Reading side r left
+  in-pay : (h p : List ℕ) → left ≡ h ++ p → length h ≡ headerLength → 0 < r .rest → length p + r .rest ≡ decoded h .len → r .header ≡ empty
+      → routeOf side (decoded h .protocol) (decoded h .mode) ≡ To (r .instance) → Reading side r left
+
+pub record Tied (side : Side) (caps : List ℕ) (handed : ℕ → List ℕ) (bs : List ℕ) (s : State) : Type 0 where
+  pub carried : List Carried
+  pub left : List ℕ
+  pub divided : Divided bs carried left
+  pub received : (i : ℕ) → i < instances → receivedIn side i carried left ≡ handed i ++ heldIn caps s i
+  pub reading : isOpen (s .gate) ≡ true → Reading side (s .receiving) left
+  pub many : length (s .receiving .held) ≡ instances
+
+-- ---- the division with one byte more
+
+module _ (side : Side) (bs : List ℕ) (b : ℕ) (cs : List Carried) (left : List ℕ) (d : Divided bs cs left) where
+  abbrev H : List ℕ
+  H = left ++ (b ∷ [])
+
+  abbrev flat : ℕ → List ℕ
+  flat i = flatMap (λ (c : Carried). payloadFor side i (c .header) (c .payload)) cs
+
+  -- a header that is not whole with it
+  head-part : length H < headerLength → Divided (bs ++ (b ∷ [])) cs H
+  head-part h = rw append-nil at (divided-on (b ∷ []) d (in-header h))
+
+  head-part-for : (i : ℕ) → length H ≤ headerLength → receivedIn side i cs H ≡ receivedIn side i cs left
+  head-part-for i h =
+      received-head side i cs H h ∙ sym (received-head side i cs left (omega (arith, length-append left (b ∷ []))))
+
+  module _ (whole : length H ≡ headerLength) where
+    short : length left ≤ headerLength
+    short = omega (arith, length-append left (b ∷ []))
+
+    -- a header that is whole with it, of an empty payload
+    head-none : decoded H .len ≡ 0 → Divided (bs ++ (b ∷ [])) (cs ++ (record { header = decoded H; payload = [] } ∷ [])) []
+    head-none z = divided-on (b ∷ []) d (rw append-nil at (divided-whole H [] whole (sym z)))
+
+    head-none-for : (i : ℕ) → receivedIn side i (cs ++ (record { header = decoded H; payload = [] } ∷ [])) [] ≡ receivedIn side i cs left
+    head-none-for i = received-whole side i cs H [] ∙ rw (none-for side i (decoded H), append-nil) (sym (received-head side i cs left short))
+
+    -- and of another
+    head-some : 0 < decoded H .len → Divided (bs ++ (b ∷ [])) cs H
+    head-some p = rw append-nil at (divided-on (b ∷ []) d (rw append-nil at (in-payload H [] whole p)))
+
+-- in a payload
+module _ (side : Side) (bs : List ℕ) (b : ℕ) (cs : List Carried) (h p : List ℕ) (d : Divided bs cs (h ++ p)) (eight : length h ≡ headerLength) where
+  pay-long : length (p ++ (b ∷ [])) ≡ suc (length p)
+  pay-long = length-append p (b ∷ []) ∙ omega arith
+
+  -- its last byte
+  pay-last : suc (length p) ≡ decoded h .len → Divided (bs ++ (b ∷ [])) (cs ++ (record { header = decoded h; payload = p ++ (b ∷ []) } ∷ [])) []
+  pay-last n = divided-on (b ∷ []) d (rw append-assoc (divided-whole h (p ++ (b ∷ [])) eight (pay-long ∙ n)))
+
+  pay-last-for : (i : ℕ)
+      → receivedIn side i (cs ++ (record { header = decoded h; payload = p ++ (b ∷ []) } ∷ [])) []
+      ≡ receivedIn side i cs (h ++ p) ++ payloadFor side i (decoded h) (b ∷ [])
+  pay-last-for i =
+      received-whole side i cs h (p ++ (b ∷ []))
+      ∙ rw (for-append side i (decoded h) p (b ∷ []), received-in side i cs h p eight, append-assoc)
+
+  -- another byte
+  pay-more : suc (length p) < decoded h .len → Divided (bs ++ (b ∷ [])) cs (h ++ (p ++ (b ∷ [])))
+  pay-more n =
+      let whole-left : List ℕ = h ++ (p ++ (b ∷ [])) in
+      let q : Divided ((h ++ p) ++ (b ∷ [])) [] whole-left = rw append-assoc (in-payload h (p ++ (b ∷ [])) eight (rw pay-long n)) in
+      rw append-nil at (divided-on (b ∷ []) d q)
+
+  pay-more-for : (i : ℕ) → receivedIn side i cs (h ++ (p ++ (b ∷ []))) ≡ receivedIn side i cs (h ++ p) ++ payloadFor side i (decoded h) (b ∷ [])
+  pay-more-for i =
+      received-in side i cs h (p ++ (b ∷ [])) eight
+      ∙ rw (for-append side i (decoded h) p (b ∷ []), received-in side i cs h p eight, append-assoc)
+
+-- ---- one byte
+
+module _ (side : Side) (caps : List ℕ) (handed : ℕ → List ℕ) (wide : length caps ≡ instances)
+    (some : (i : ℕ) → i < instances → 0 < getD caps i 0) where
+  -- a whole header
+  module _ (bs : List ℕ) (b : ℕ) (s : State) (t : Tied side caps handed bs s) (short : length (t .left) < headerLength)
+      (eight : length (t .left ++ (b ∷ [])) ≡ headerLength) where
+    abbrev new : List ℕ
+    new = t .left ++ (b ∷ [])
+
+    -- the division, however long the payload, with what stands behind it
+    tied-with : (s′ : State) → s′ .store ≡ s .store → s′ .receiving .starts ≡ s .receiving .starts → s′ .receiving .held ≡ s .receiving .held
+        → (decoded new .len ≡ 0 → isOpen (s′ .gate) ≡ true → Reading side (s′ .receiving) [])
+        → (0 < decoded new .len → isOpen (s′ .gate) ≡ true → Reading side (s′ .receiving) new)
+        → Tied side caps handed (bs ++ (b ∷ [])) s′
+    tied-with s′ e f g none more =
+        by-test (eqb (decoded new .len) 0)
+        (λ q.
+        let z : decoded new .len ≡ 0 = eqb-true (decoded new .len) 0 q in
+        record {
+          carried = t .carried ++ (record { header = decoded new; payload = [] } ∷ []);
+          left = [];
+          divided = head-none side bs b (t .carried) (t .left) (t .divided) eight z;
+          received = λ i l. head-none-for side bs b (t .carried) (t .left) (t .divided) eight i ∙ t .received i l ∙ rw (e, f, g);
+          reading = none z;
+          many = rw g (t .many);
+        })
+        (λ q.
+        let z : 0 < decoded new .len = let n = eqb-false (decoded new .len) 0 q in omega arith in
+        record {
+          carried = t .carried;
+          left = new;
+          divided = head-some side bs b (t .carried) (t .left) (t .divided) eight z;
+          received = λ i l. head-part-for side bs b (t .carried) (t .left) (t .divided) i (omega arith) ∙ t .received i l ∙ rw (e, f, g);
+          reading = more z;
+          many = rw g (t .many);
+        })
+
+    never : {P : Type 0} → false ≡ true → P
+    never e = absurd (true≢false (sym e))
+
+    tied-settled : isOpen (s .gate) ≡ true → (r : Route) → routeOf side (decoded new .protocol) (decoded new .mode) ≡ r
+        → Tied side caps handed (bs ++ (b ∷ [])) (settled s (admitted caps (s .receiving .held) (decoded new .len) r))
+    tied-settled o Unknown e = tied-with _ refl refl refl (λ z q. never q) (λ z q. never q)
+    tied-settled o (Wrong i) e = tied-with _ refl refl refl (λ z q. never q) (λ z q. never q)
+    tied-settled o (To i) e =
+        let n = decoded new .len in
+        cond-cases (λ (a : Admission). Tied side caps handed (bs ++ (b ∷ [])) (settled s a)) (leb (getD (s .receiving .held) i 0 + n) (getD caps i 0))
+        (λ q.
+        tied-with _ refl refl refl (λ z y. in-head z (omega arith) refl)
+        (λ z y. in-pay new [] (sym (append-nil new)) eight z (omega arith) refl (rw (ne-eqb n 0 (λ x. omega arith)) e)))
+        (λ q. tied-with _ refl refl refl (λ z y. never y) (λ z y. never y))
+
+  -- a byte of a header
+  tied-headed : (bs : List ℕ) (b : ℕ) (s : State) (t : Tied side caps handed bs s) → isOpen (s .gate) ≡ true → s .receiving .rest ≡ 0
+      → length (t .left) < headerLength → s .receiving .header ≡ part (t .left) → Tied side caps handed (bs ++ (b ∷ [])) (headed side caps s b)
+  unfolding headed admission
+  tied-headed bs b s t o z short e =
+      let new : List ℕ = t .left ++ (b ∷ []) in
+      let long : length new ≡ suc (length (t .left)) = length-append (t .left) (b ∷ []) ∙ omega arith in
+      let f : added (s .receiving .header) b ≡ part new = ap (λ (h : Header). added h b) e ∙ add-part (t .left) b short in
+      rw f
+      (cond-cases (Tied side caps handed (bs ++ (b ∷ []))) (leb headerLength (length new))
+      (λ q.
+      let eight : length new ≡ headerLength = omega (arith, leb-true headerLength (length new) q) in
+      rw (part-whole new eight) (tied-settled bs b s t short eight o (routeOf side (decoded new .protocol) (decoded new .mode)) refl))
+      (λ q.
+      let less : length new < headerLength = leb-false headerLength (length new) q in
+      record {
+        carried = t .carried;
+        left = new;
+        divided = head-part side bs b (t .carried) (t .left) (t .divided) less;
+        received = λ i l. head-part-for side bs b (t .carried) (t .left) (t .divided) i (omega arith) ∙ t .received i l;
+        reading = λ y. in-head z less refl;
+        many = t .many;
+      }))
+
+  -- what is held with a byte more of the payload under way
+  held-more : (b : ℕ) (s : State) → length (s .receiving .held) ≡ instances → length (s .store) ≡ together caps → s .receiving .instance < instances
+      → getD (s .receiving .held) (s .receiving .instance) 0 < getD caps (s .receiving .instance) 0
+      → (i : ℕ) → i < instances → heldIn caps (kept caps s (b ∷ [])) i ≡ heldIn caps s i ++ cond (eqb (s .receiving .instance) i) (b ∷ []) []
+  unfolding kept
+  held-more b s many areas inside room i l =
+      let j = s .receiving .instance in
+      let held = s .receiving .held in
+      by-test (eqb j i)
+      (λ q.
+      let e : j ≡ i = eqb-true j i q in
+      rw (q, ← e, getD-set-same held j (getD held j 0 + 1) 0 (omega arith))
+      (stream-behind (s .store) (baseOf caps j) (getD caps j 0) (getD (s .receiving .starts) j 0) (getD held j 0) (b ∷ []) (omega arith)
+      (area-in-store (s .store) caps j areas (omega arith))))
+      (λ q.
+      let n : i ≢ j = λ e. eqb-false j i q (sym e) in
+      rw (q, append-nil, getD-set-other held j i (getD held j 0 + 1) 0 n)
+      (stream-stays (s .store) caps i j (getD (s .receiving .starts) i 0) (getD held i 0) (getD (s .receiving .starts) j 0 + getD held j 0) (b ∷ []) n
+      (some i l) (some j inside)))
+
+  -- a byte of a payload
+  module _ (bs : List ℕ) (b : ℕ) (s : State) (t : Tied side caps handed bs s) (areas : length (s .store) ≡ together caps)
+      (inside : s .receiving .instance < instances)
+      (room : getD (s .receiving .held) (s .receiving .instance) 0 < getD caps (s .receiving .instance) 0)
+      (h p : List ℕ) (e : t .left ≡ h ++ p) (eight : length h ≡ headerLength) (more : 0 < s .receiving .rest)
+      (n : length p + s .receiving .rest ≡ decoded h .len) (z : s .receiving .header ≡ empty)
+      (to : routeOf side (decoded h .protocol) (decoded h .mode) ≡ To (s .receiving .instance)) where
+    abbrev after : State
+    after = kept caps s (b ∷ [])
+
+    was : Divided bs (t .carried) (h ++ p)
+    was = rw e at (t .divided)
+
+    -- what was received is what was handed out and what is then held
+    grown : (i : ℕ) → i < instances → (xs : List ℕ) → xs ≡ receivedIn side i (t .carried) (h ++ p) ++ payloadFor side i (decoded h) (b ∷ [])
+        → xs ≡ handed i ++ heldIn caps after i
+    grown i l xs q =
+        let r : receivedIn side i (t .carried) (h ++ p) ≡ handed i ++ heldIn caps s i = rw e at (t .received i l) in
+        rw (q, r, to, held-more b s (t .many) areas inside room i l, append-assoc)
+
+    many-after : length (after .receiving .held) ≡ instances
+    unfolding kept
+    many-after = rw length-set (t .many)
+
+    tied-kept : Tied side caps handed (bs ++ (b ∷ [])) after
+    unfolding kept
+    tied-kept =
+        by-test (eqb (s .receiving .rest - 1) 0)
+        (λ q.
+        let y : s .receiving .rest - 1 ≡ 0 = eqb-true (s .receiving .rest - 1) 0 q in
+        record {
+          carried = t .carried ++ (record { header = decoded h; payload = p ++ (b ∷ []) } ∷ []);
+          left = [];
+          divided = pay-last side bs b (t .carried) h p was eight (omega arith);
+          received = λ i l. grown i l _ (pay-last-for side bs b (t .carried) h p was eight i);
+          reading = λ o. in-head y (omega arith) z;
+          many = many-after;
+        })
+        (λ q.
+        let y = eqb-false (s .receiving .rest - 1) 0 q in
+        record {
+          carried = t .carried;
+          left = h ++ (p ++ (b ∷ []));
+          divided = pay-more side bs b (t .carried) h p was eight (omega arith);
+          received = λ i l. grown i l _ (pay-more-for side bs b (t .carried) h p was eight i);
+          reading = λ o.
+              in-pay h (p ++ (b ∷ [])) refl eight (omega arith) (omega (arith, pay-long side bs b (t .carried) h p was eight)) z (rw q to);
+          many = many-after;
+        })
+
+  pub tied-read : (bs : List ℕ) (b : ℕ) (s : State) (starts : List ℕ) (n : ℕ) (t : Tied side caps handed bs s) → isOpen (s .gate) ≡ true
+      → Kept caps starts n s → n ≡ together caps → Reading side (s .receiving) (t .left) → Tied side caps handed (bs ++ (b ∷ [])) (step side caps s b)
+  tied-read bs b s starts n t o k long (in-head z short e) =
+      rw (step-headed side caps s b o z) (tied-headed bs b s t o z short e)
+  tied-read bs b s starts n t o k long (in-pay h p e eight more m z to) =
+      let i = s .receiving .instance in
+      let inside : i < instances = k .under-way more .1 in
+      let held : getD (s .receiving .held) i 0 + s .receiving .rest ≤ getD caps i 0 = rw (eq-eqb i i refl) at (k .held i inside) in
+      rw (step-kept side caps s b o more) (tied-kept bs b s t (k .long ∙ long) inside (omega arith) h p e eight more m z to)
+
+  -- ---- a run: the bytes that are used
+  pub tied-fed : (xs bs : List ℕ) (s : State) (starts : List ℕ) (n : ℕ) → Tied side caps handed bs s → Kept caps starts n s → n ≡ together caps
+      → Tied side caps handed (bs ++ take (used side caps s xs) xs) (fed side caps s xs)
+  unfolding fed used
+  tied-fed [] bs s starts n t k long = rw append-nil t
+  tied-fed (x ∷ xs) bs s starts n t k long =
+      by-test (isOpen (s .gate))
+      (λ o.
+      let t′ : Tied side caps handed (bs ++ (x ∷ [])) (step side caps s x) = tied-read bs x s starts n t o k long (t .reading o) in
+      let k′ : Kept caps starts n (step side caps s x) = kept-fed side caps starts n s (x ∷ []) k in
+      rw (o, ← append-assoc bs (x ∷ []) (take (used side caps (step side caps s x) xs) xs))
+      (tied-fed xs (bs ++ (x ∷ [])) (step side caps s x) starts n t′ k′ long))
+      (λ o. rw (o, append-nil, fed-closed side caps s (x ∷ xs) o) t)

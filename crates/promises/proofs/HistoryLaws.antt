@@ -1,0 +1,94 @@
+-- Laws of histories: what one event more adds.
+-- Assumes nothing.
+use mathlib.Core.Path.{_≡_, refl, ap}
+use mathlib.Core.List.{List, [], _∷_, _++_, append-nil, append-assoc, flatMap}
+use mathlib.Core.Bool.{Bool, true, false, cond, _&&_}
+use mathlib.Core.Logic.{_≢_}
+use Prim.Native.Nat.{ℕ, _+_, _≤_}
+use native.Mathlib.Omega.{arith}
+use borrow.Author.Tests.{ne-eqb}
+use lib.Dec.{eqb}
+use lib.ListN.{length, take, drop}
+use lib.Seq.{sets, sets-eq, take-at}
+use Rattle.wire.specs.declared.instances.Side.{Side}
+use Rattle.promises.specs.Trace.{Event}
+use Rattle.promises.specs.Calls.{Call, Answer}
+use Rattle.promises.specs.Fairness.{segmentOf, segments, sentBy}
+use Rattle.promises.specs.History.{Past, usedBy, bytesIn, Act, actsBy, acts, putBy, putFor, handedBy, handedFor, sentFor}
+
+pub flat-append : {A B : Type 0} (f : A → List B) (xs ys : List A) → flatMap f (xs ++ ys) ≡ flatMap f xs ++ flatMap f ys
+unfolding flatMap
+flat-append f [] ys = refl
+flat-append f (x ∷ xs) ys = rw (flat-append f xs ys, append-assoc)
+
+flat-one : {A B : Type 0} (f : A → List B) (x : A) → flatMap f (x ∷ []) ≡ f x
+unfolding flatMap
+flat-one f x = append-nil (f x)
+
+pub flat-next : {A B : Type 0} (f : A → List B) (xs : List A) (x : A) → flatMap f (xs ++ (x ∷ [])) ≡ flatMap f xs ++ f x
+flat-next f xs x = rw (flat-append f xs (x ∷ []), flat-one f x)
+
+-- ---- one event
+
+-- a call that did not answer 0 is no act; one that did is one of its instance
+pub no-act : (mine : Bool) (n : ℕ) (a : Act) → n ≢ 0 → cond (mine && eqb n 0) (a ∷ []) [] ≡ []
+no-act true n a z = rw (ne-eqb n 0 z)
+no-act false n a z = refl
+
+pub an-act : (mine : Bool) (a : Act) → cond (mine && true) (a ∷ []) [] ≡ cond mine (a ∷ []) []
+an-act true a = refl
+an-act false a = refl
+
+-- what such an act adds to what is gathered by f: nothing; what it has; nothing, if f sees nothing in it
+module _ (f : Act → List ℕ) where
+  pub no-act-adds : (mine : Bool) (n : ℕ) (a : Act) → n ≢ 0 → flatMap f (cond (mine && eqb n 0) (a ∷ []) []) ≡ []
+  unfolding flatMap
+  no-act-adds mine n a z = ap (flatMap f) (no-act mine n a z)
+
+  pub act-adds : (mine : Bool) (a : Act) → flatMap f (cond (mine && true) (a ∷ []) []) ≡ cond mine (f a) []
+  unfolding flatMap
+  act-adds true a = append-nil (f a)
+  act-adds false a = refl
+
+  pub act-unseen : (mine : Bool) (a : Act) → f a ≡ [] → flatMap f (cond mine (a ∷ []) []) ≡ []
+  unfolding flatMap
+  act-unseen true a e = rw e
+  act-unseen false a e = refl
+
+-- the message at the front of a buffer
+pub front : (buf xs : List ℕ) (n : ℕ) → length xs ≡ n → n ≤ length buf → take n (sets buf 0 xs) ≡ xs
+front buf xs n e h = rw (sets-eq xs buf 0 (omega arith)) (take-at xs (drop (0 + length xs) buf) n e)
+
+-- ---- one event more
+
+pub segments-next : (past : Past) (e : Event Call Answer) → segments (past ++ (e ∷ [])) ≡ segments past ++ segmentOf (e .answer)
+unfolding segments
+segments-next [] e = append-nil (segmentOf (e .answer))
+segments-next (d ∷ past) e = rw (segments-next past e, append-assoc)
+
+pub sent-append : (side : Side) (i : ℕ) (ss ts : List (List ℕ)) → sentBy side i (ss ++ ts) ≡ sentBy side i ss ++ sentBy side i ts
+unfolding sentBy
+sent-append side i [] ts = refl
+sent-append side i (bs ∷ ss) ts = rw (sent-append side i ss ts, append-assoc)
+
+pub sent-next : (side : Side) (i : ℕ) (past : Past) (e : Event Call Answer)
+    → sentFor side i (past ++ (e ∷ [])) ≡ sentFor side i past ++ sentBy side i (segmentOf (e .answer))
+sent-next side i past e = rw (segments-next past e, sent-append side i (segments past) (segmentOf (e .answer)))
+
+module _ (past : Past) (e : Event Call Answer) where
+  pub bytes-next : bytesIn (past ++ (e ∷ [])) ≡ bytesIn past ++ usedBy (e .call) (e .answer)
+  unfolding bytesIn
+  bytes-next = flat-next (λ (d : Event Call Answer). usedBy (d .call) (d .answer)) past e
+
+  module _ (i : ℕ) where
+    pub acts-next : acts i (past ++ (e ∷ [])) ≡ acts i past ++ actsBy i (e .call) (e .answer)
+    unfolding acts
+    acts-next = flat-next (λ (d : Event Call Answer). actsBy i (d .call) (d .answer)) past e
+
+    pub put-next : putFor i (past ++ (e ∷ [])) ≡ putFor i past ++ flatMap putBy (actsBy i (e .call) (e .answer))
+    unfolding putFor
+    put-next = rw (acts-next, flat-append putBy (acts i past) (actsBy i (e .call) (e .answer)))
+
+    pub handed-next : handedFor i (past ++ (e ∷ [])) ≡ handedFor i past ++ flatMap handedBy (actsBy i (e .call) (e .answer))
+    unfolding handedFor
+    handed-next = rw (acts-next, flat-append handedBy (acts i past) (actsBy i (e .call) (e .answer)))

@@ -1,0 +1,91 @@
+-- Bytes by the layout, one more at a time: what the header record has of them, and what of their payload is for an instance.
+-- Assumes nothing.
+use mathlib.Core.Path.{_≡_, refl, ap, _∙_}
+use mathlib.Core.Bool.{Bool, true, false, cond}
+use mathlib.Core.List.{List, [], _∷_, _++_, append-nil, append-assoc, flatMap}
+use Prim.Native.Nat.{ℕ, suc, _+_, _-_, _≤_, _<_}
+use native.Mathlib.Omega.{arith}
+use borrow.Author.Tests.{lt-ltb}
+use lib.ListN.{length, set, replicate, length-append, drop-of-length-le}
+use lib.Seq.{set-at, take-at, drop-at}
+use Rattle.wire.specs.declared.segment.Header.{Header}
+use Rattle.wire.specs.declared.segment.Segment.{Segment}
+use Rattle.wire.specs.declared.instances.Side.{Side}
+use Rattle.wire.specs.Segments.{headerLength, added, decoded, Carried, Divided, in-header, in-payload, whole}
+use Rattle.wire.specs.Instances.{routeOf}
+use Rattle.promises.specs.History.{isFor, payloadFor, receivedIn}
+use Rattle.promises.proofs.HistoryLaws.{flat-next}
+
+-- ---- the header record
+
+-- the header record with the bytes hs, of which there are eight at the most
+abbrev pub part : List ℕ → Header
+part hs = record { bytes = hs ++ replicate (headerLength - length hs) 0; count = length hs }
+
+pub add-part : (hs : List ℕ) (b : ℕ) → length hs < headerLength → added (part hs) b ≡ part (hs ++ (b ∷ []))
+unfolding added
+add-part hs b h =
+    let n = length hs in
+    let e : headerLength - n ≡ suc (headerLength - suc n) = omega arith in
+    let l : length (hs ++ (b ∷ [])) ≡ suc n = length-append hs (b ∷ []) ∙ omega arith in
+    let s : set (hs ++ replicate (headerLength - n) 0) n b ≡ hs ++ (b ∷ replicate (headerLength - suc n) 0) =
+    ap (λ (k : ℕ). set (hs ++ replicate k 0) n b) e ∙ set-at hs 0 (replicate (headerLength - suc n) 0) b n refl in
+    rw (lt-ltb n headerLength h, s, l, append-assoc)
+    (ap (λ (k : ℕ). record { bytes = hs ++ (b ∷ replicate (headerLength - suc n) 0); count = k }) (omega arith))
+
+-- a whole header has its bytes and no others
+pub part-whole : (hs : List ℕ) → length hs ≡ headerLength → part hs .bytes ≡ hs
+part-whole hs e =
+    let z : headerLength - length hs ≡ 0 = omega arith in
+    ap (λ (k : ℕ). hs ++ replicate k 0) z ∙ append-nil hs
+
+-- ---- the division
+
+-- bytes more are divided with those that were left
+pub divided-on : {bs left left′ : List ℕ} {cs cs′ : List Carried} (zs : List ℕ) → Divided bs cs left → Divided (left ++ zs) cs′ left′
+    → Divided (bs ++ zs) (cs ++ cs′) left′
+divided-on zs (in-header h) d = d
+divided-on zs (in-payload h p e n) d = d
+divided-on zs (whole h p {bs = bs} e n k) d = rw (append-assoc h (p ++ bs) zs, append-assoc p bs zs) (whole h p e n (divided-on zs k d))
+
+-- a header with its payload, and nothing behind it
+pub divided-whole : (h p : List ℕ) → length h ≡ headerLength → length p ≡ decoded h .len
+    → Divided (h ++ p) (record { header = decoded h; payload = p } ∷ []) []
+divided-whole h p e n = rw append-nil at (whole h p {bs = []} e n (in-header {bs = []} (omega arith)))
+
+-- ---- what of it is for an instance
+
+module _ (side : Side) (i : ℕ) where
+  pub none-for : (h : Segment) → payloadFor side i h [] ≡ []
+  none-for h = of (isFor i (routeOf side (h .protocol) (h .mode)))
+    where
+      of : (b : Bool) → _≡_ {A = List ℕ} (cond b [] []) []
+      of true = refl
+      of false = refl
+
+  pub for-append : (h : Segment) (xs ys : List ℕ) → payloadFor side i h (xs ++ ys) ≡ payloadFor side i h xs ++ payloadFor side i h ys
+  for-append h xs ys = of (isFor i (routeOf side (h .protocol) (h .mode)))
+    where
+      of : (b : Bool) → cond b (xs ++ ys) [] ≡ cond b xs [] ++ cond b ys []
+      of true = refl
+      of false = refl
+
+  -- in front of a payload nothing has come of it
+  pub received-head : (cs : List Carried) (left : List ℕ) → length left ≤ headerLength
+      → receivedIn side i cs left ≡ flatMap (λ (c : Carried). payloadFor side i (c .header) (c .payload)) cs
+  unfolding receivedIn
+  received-head cs left h = rw (drop-of-length-le left {i = headerLength} h, none-for, append-nil)
+
+  -- in a payload
+  pub received-in : (cs : List Carried) (h p : List ℕ) → length h ≡ headerLength
+      → receivedIn side i cs (h ++ p) ≡ flatMap (λ (c : Carried). payloadFor side i (c .header) (c .payload)) cs ++ payloadFor side i (decoded h) p
+  unfolding receivedIn
+  received-in cs h p e = rw (take-at h p headerLength e, drop-at h p headerLength e)
+
+  -- behind a whole segment
+  pub received-whole : (cs : List Carried) (h p : List ℕ)
+      → receivedIn side i (cs ++ (record { header = decoded h; payload = p } ∷ [])) []
+      ≡ flatMap (λ (c : Carried). payloadFor side i (c .header) (c .payload)) cs ++ payloadFor side i (decoded h) p
+  received-whole cs h p =
+      received-head (cs ++ (record { header = decoded h; payload = p } ∷ [])) [] (omega arith)
+      ∙ flat-next (λ (c : Carried). payloadFor side i (c .header) (c .payload)) cs (record { header = decoded h; payload = p })

@@ -1,0 +1,245 @@
+-- What was received (T11 a and d): each call keeps that what came for an instance is what was handed out and what is held.
+-- Assumes nothing.
+use mathlib.Core.Path.{_≡_, refl, sym, ap, _∙_, subst}
+use mathlib.Core.Bool.{true, true≢false, cond, _&&_}
+use mathlib.Core.List.{List, [], _∷_, _++_, append-nil, append-assoc, flatMap}
+use mathlib.Core.Logic.{_≢_}
+use Prim.Native.Nat.{ℕ, _+_, _-_, _%_, _<_}
+use native.Mathlib.Omega.{arith}
+use native.Mathlib.Nat.{mod-add-mod, zero-mod}
+use borrow.Author.Tests.{eqb-true, eqb-false}
+use lib.Dec.{eqb}
+use lib.ListN as lists
+use lib.ListN.{length, getD, set, length-set, length-append, getD-replicate}
+use lib.Seq.{sets, getD-set-same, getD-set-other}
+use Rattle.base.proofs.Conds.{by-test}
+use Rattle.ring.specs.Ring.{baseOf, stream}
+use Rattle.ring.proofs.Stores.{stream-length}
+use Rattle.wire.specs.declared.instances.Side.{Side}
+use Rattle.wire.specs.Segments.{decoded, in-header}
+use Rattle.wire.specs.Instances.{instances}
+use Rattle.connection.specs.declared.Settings.{Settings}
+use Rattle.connection.specs.declared.Receiving.{Receiving}
+use Rattle.connection.specs.declared.Closing.{Closing}
+use Rattle.connection.specs.declared.Closing.the-variants.{Of}
+use Rattle.connection.specs.declared.Gate.{Gate}
+use Rattle.connection.specs.declared.Gate.the-variants.{Open, Closed}
+use Rattle.connection.specs.declared.Connection.{Connection}
+use Rattle.connection.specs.Closings.{isOpen, closedBy}
+use Rattle.connection.specs.Statuses.{statusOf}
+use Rattle.connection.proofs.RangeLaws.{ranged}
+use Rattle.feeding.specs.Feeding.{State, given, fed, used}
+use Rattle.feeding.proofs.Keeping.{kept-given, kept-fed}
+use Rattle.taking.specs.Taking as taking
+use Rattle.putting.specs.Putting as putting
+use Rattle.sending.specs.NextSegment as sending
+use Rattle.promises.specs.Trace.{Out, Event, event}
+use Rattle.promises.specs.Calls.{Call, feed, take, put, next, status, Answer, told, World, step, Real, Opened, first}
+use Rattle.promises.specs.Reached.{Reached}
+use Rattle.promises.specs.History.{Past, usedBy, bytesIn, gave, got, actsBy, acts, handedBy, handedFor, receivedIn, Receives}
+use Rattle.promises.proofs.Ways.{Takes, refuses, faults, hands, Puts, queues, Nexts, serves}
+use Rattle.promises.proofs.HistoryCalls.{Good, Feeds, shut, bytes, feeds, takes, puts, makes, afterTake, afterPut, afterNext}
+use Rattle.promises.proofs.HistoryLaws.{no-act-adds, act-adds, act-unseen, front, bytes-next, handed-next}
+use Rattle.promises.proofs.HistoryStreams.{stream-freed, stream-count, stream-place}
+use Rattle.promises.proofs.HistoryLayout.{none-for}
+use Rattle.promises.proofs.HistoryBytes.{heldIn, Reading, in-head, in-pay, Tied, tied-fed}
+use Rattle.promises.proofs.HistoryRuns.{good, opens-fresh}
+
+-- the tie of the bytes, and where each instance's first held byte is
+pub record Held (s : Settings) (past : Past) (w : World) : Type 0 where
+  pub tied : Tied (s .side) (s .receive) (λ i. handedFor i past) (bytesIn past) (given (w .connection) (w .receive))
+  pub starts : (i : ℕ) → i < instances → getD (w .connection .receiving .starts) i 0 ≡ length (handedFor i past) % getD (s .receive) i 0
+
+-- ---- ties that stay
+
+-- with what is then handed out and held, and a record that stands as it stood
+tied-to : {side : Side} {caps : List ℕ} {handed handed′ : ℕ → List ℕ} {bs bs′ : List ℕ} {s : State} (s′ : State)
+    → (t : Tied side caps handed bs s) → bs′ ≡ bs → ((i : ℕ) → i < instances → handed i ++ heldIn caps s i ≡ handed′ i ++ heldIn caps s′ i)
+    → (isOpen (s′ .gate) ≡ true → Reading side (s′ .receiving) (t .left)) → length (s′ .receiving .held) ≡ instances → Tied side caps handed′ bs′ s′
+tied-to s′ t e f g n =
+    record {
+      carried = t .carried;
+      left = t .left;
+      divided = rw e (t .divided);
+      received = λ i l. t .received i l ∙ f i l;
+      reading = g;
+      many = n;
+    }
+
+-- a closed gate is not open
+not-open : (g : Gate) (x : Closing) → isOpen (closedBy g x) ≡ true → ⊥
+not-open Open x e = true≢false (sym e)
+not-open (Closed y) x e = true≢false (sym e)
+
+-- freeing bytes leaves the header and the payload under way
+reading-freed : {side : Side} {r : Receiving} {left : List ℕ} (caps : List ℕ) (i n : ℕ) → Reading side r left
+    → Reading side (taking.freedOf r caps i n) left
+reading-freed caps i n (in-head z h e) = in-head z h e
+reading-freed caps i n (in-pay h p e eight more m z to) = in-pay h p e eight more m z to
+
+module _ (w : World) (g : Good w) (past : Past) (t : Held (w .connection .settings) past w) where
+  abbrev c : Connection
+  c = w .connection
+
+  abbrev s : Settings
+  s = w .connection .settings
+
+  abbrev with : Call → Answer → Past
+  with a b = past ++ (record { call = a; answer = b } ∷ [])
+
+  -- the tie after a call
+  abbrev After : Call → Out World Answer → Type 0
+  After a o = Held s (with a (o .answer)) (o .world)
+
+  -- a call that changes nothing of receiving, and hands nothing out
+  held-same : (a : Call) (o : Out World Answer) → usedBy a (o .answer) ≡ [] → ((i : ℕ) → flatMap handedBy (actsBy i a (o .answer)) ≡ [])
+      → o .world .connection .receiving ≡ c .receiving → o .world .receive ≡ w .receive
+      → (isOpen (o .world .connection .gate) ≡ true → isOpen (c .gate) ≡ true) → After a o
+  held-same a o none nothing e f open′ =
+      let ev : Event Call Answer = record { call = a; answer = o .answer } in
+      let same : (i : ℕ) → handedFor i (with a (o .answer)) ≡ handedFor i past =
+      λ i. handed-next past ev i ∙ rw (nothing i, append-nil) in
+      record {
+        tied =
+            tied-to (given (o .world .connection) (o .world .receive)) (t .tied) (bytes-next past ev ∙ rw (none, append-nil))
+            (λ i l. rw (same i, e, f)) (λ y. rw e (t .tied .reading (open′ y))) (rw e (g .shaped .held));
+        starts = λ i l. rw (same i, e) (t .starts i l);
+      }
+
+  wide : length (s .receive) ≡ instances
+  wide = g .shaped .receive
+
+  some : (i : ℕ) → i < instances → 0 < getD (s .receive) i 0
+  some i l = let q = ranged c (g .in-range) .set .receive i l in omega arith
+
+  held-feed : (xs : List ℕ) {o : Out World Answer} → Feeds w xs o → After (feed xs) o
+  unfolding flatMap
+  held-feed xs {o} (shut y) = held-same (feed xs) o refl (λ i. refl) refl refl (λ q. q)
+  held-feed xs {o} (bytes y) =
+      let ev : Event Call Answer = record { call = feed xs; answer = o .answer } in
+      let same : (i : ℕ) → handedFor i past ≡ handedFor i (with (feed xs) (o .answer)) =
+      λ i. sym (handed-next past ev i ∙ append-nil (handedFor i past)) in
+      let st : State = given c (w .receive) in
+      let n : ℕ = used (s .side) (s .receive) st xs in
+      let q : Tied (s .side) (s .receive) (λ i. handedFor i past) (bytesIn past ++ lists.take n xs) (fed (s .side) (s .receive) st xs) =
+      tied-fed (s .side) (s .receive) (λ i. handedFor i past) wide some xs (bytesIn past) st (c .receiving .starts) (length (w .receive)) (t .tied)
+      (kept-given c (w .receive) (g .in-range)) (g .receive-long) in
+      let k = kept-fed (s .side) (s .receive) (c .receiving .starts) (length (w .receive)) st xs (kept-given c (w .receive) (g .in-range)) in
+      record {
+        tied = tied-to (fed (s .side) (s .receive) st xs) q (bytes-next past ev) (λ i l. rw (← same i)) (q .reading) (q .many);
+        starts = λ i l. rw (k .places, ← same i) (t .starts i l);
+      }
+
+  held-take : (j : ℕ) (buf : List ℕ) {x : taking.Told} → Takes (w .connection) (w .receive) j buf x → After (take j buf) (afterTake w x)
+  held-take j buf {x} (refuses n z y f) = held-same (take j buf) (afterTake w x) refl (λ i. no-act-adds handedBy (eqb j i) n _ z) refl refl (λ q. q)
+  held-take j buf {x} (faults n low high h) =
+      held-same (take j buf) (afterTake w x) refl (λ i. no-act-adds handedBy (eqb j i) n _ (λ z. omega arith)) refl refl
+      (λ q. absurd (not-open (c .gate) (Of n j) q))
+  held-take j buf {x} (hands n m to h e l b r q) =
+      let ev : Event Call Answer = record { call = take j buf; answer = (afterTake w x) .answer } in
+      let xs : List ℕ = taking.bytesOf c (w .receive) j n in
+      let long : length xs ≡ n = stream-length _ _ _ _ n in
+      let at-front : lists.take n (sets buf 0 xs) ≡ xs = front buf xs n long b in
+      let now : (i : ℕ) → handedFor i (with (take j buf) ((afterTake w x) .answer)) ≡ handedFor i past ++ cond (eqb j i) xs [] =
+      λ i. handed-next past ev i ∙ ap (λ (r : List ℕ). handedFor i past ++ r) (rw at-front (act-adds handedBy (eqb j i) (got xs))) in
+      let held = c .receiving .held in
+      let start = c .receiving .starts in
+      let free : ℕ = (getD start j 0 + n) % getD (s .receive) j 0 in
+      let less : ℕ = getD held j 0 - n in
+      let held-long : j < length held = omega (arith, g .shaped .held) in
+      let starts-long : j < length start = omega (arith, g .shaped .receive-starts) in
+      record {
+        tied =
+            tied-to (given ((afterTake w x) .world .connection) (w .receive)) (t .tied) (bytes-next past ev ∙ append-nil (bytesIn past))
+            (λ i l′.
+            rw (now i)
+            (by-test (eqb j i)
+            (λ y.
+            let p : j ≡ i = eqb-true j i y in
+            rw (y, ← p, getD-set-same held j less 0 held-long, getD-set-same start j free 0 starts-long, append-assoc)
+            (ap (λ (r : List ℕ). handedFor j past ++ r)
+            (stream-freed (w .receive) (baseOf (s .receive) j) (getD (s .receive) j 0) (getD start j 0) (getD held j 0) n l)))
+            (λ y.
+            let p : i ≢ j = λ x. eqb-false j i y (sym x) in
+            rw (y, append-nil, getD-set-other held j i less 0 p, getD-set-other start j i free 0 p))))
+            (λ y. reading-freed (s .receive) j n (t .tied .reading y)) (rw length-set (g .shaped .held));
+        starts = λ i l′.
+            rw (now i)
+            (by-test (eqb j i)
+            (λ y.
+            let p : j ≡ i = eqb-true j i y in
+            rw (y, ← p, getD-set-same start j free 0 starts-long, length-append, long, t .starts j h, mod-add-mod))
+            (λ y.
+            let p : i ≢ j = λ x. eqb-false j i y (sym x) in
+            rw (y, append-nil, getD-set-other start j i free 0 p) (t .starts i l′)));
+      }
+
+  held-put : (j : ℕ) (xs : List ℕ) {x : putting.Told} → Puts (w .connection) (w .send) j xs x → After (put j xs) (afterPut w x)
+  held-put j xs {x} (refuses n z y) =
+      held-same (put j xs) (afterPut w x) refl (λ i. act-unseen handedBy (eqb j i && eqb n 0) (gave xs) refl) refl refl (λ q. q)
+  held-put j xs {x} (queues m to h y free u r q short fit) =
+      held-same (put j xs) (afterPut w x) refl (λ i. act-unseen handedBy (eqb j i && true) (gave xs) refl) refl refl (λ p. p)
+
+  held-next : (time : ℕ) (buf : List ℕ) {x : sending.Told} → Nexts (w .connection) (w .send) time buf x → After (next time buf) (afterNext w x)
+  unfolding flatMap
+  held-next time buf {x} (refuses n z y) = held-same (next time buf) (afterNext w x) refl (λ i. refl) refl refl (λ q. q)
+  held-next time buf {x} (serves i who l) = held-same (next time buf) (afterNext w x) refl (λ i. refl) refl refl (λ q. q)
+
+  held-call : (a : Call) → Held s (past ++ (event step w a ∷ [])) (step w a .world)
+  unfolding flatMap step
+  held-call (feed xs) = held-feed xs (feeds w g xs)
+  held-call (take j buf) = held-take j buf (takes w g j buf)
+  held-call (put j xs) = held-put j xs (puts w g j xs)
+  held-call (next time buf) = held-next time buf (makes w g time buf)
+  held-call status = held-same status (record { world = w; answer = told (statusOf c) }) refl (λ i. refl) refl refl (λ q. q)
+
+pub held-after : (s : Settings) (past : Past) (w : World) (a : Call) → Real a → Reached s w → Reached s (step w a .world) → Held s past w
+    → Held s (past ++ (event step w a ∷ [])) (step w a .world)
+held-after s past w a real k k′ t =
+    subst (λ (u : Settings). Held u (past ++ (event step w a ∷ [])) (step w a .world)) (k .settings)
+    (held-call w (good k) past (subst (λ (u : Settings). Held u past w) (sym (k .settings)) t) a)
+
+pub held-first : {s : Settings} {receive send : List ℕ} → Opened s receive send → Held s [] (first s receive send)
+unfolding bytesIn handedFor acts flatMap receivedIn stream
+held-first {s} {receive} {send} o =
+    rw (opens-fresh o)
+    (record {
+      tied =
+          record {
+            carried = [];
+            left = [];
+            divided = in-header {bs = []} (omega arith);
+            received = λ i l. rw (getD-replicate {A = ℕ} instances i 0 0 l) (none-for (s .side) i (decoded []));
+            reading = λ q. in-head refl (omega arith) refl;
+            many = refl;
+          };
+      starts = λ i l. rw (getD-replicate {A = ℕ} instances i 0 0 l) (sym (zero-mod _));
+    })
+
+-- ---- T11 (a) and (d)
+
+module _ (past : Past) (w : World) (t : Held (w .connection .settings) past w) where
+  abbrev caps : List ℕ
+  caps = w .connection .settings .receive
+
+  receives-of : Receives (w .connection .settings) past w
+  receives-of =
+      let r = w .connection .receiving in
+      let came : ℕ → List ℕ = λ i. receivedIn (w .connection .settings .side) i (t .tied .carried) (t .tied .left) in
+      record {
+        carried = t .tied .carried;
+        left = t .tied .left;
+        divided = t .tied .divided;
+        received = t .tied .received;
+        held = λ i l.
+            stream-count (w .receive) (baseOf caps i) (getD caps i 0) (getD (r .starts) i 0) (getD (r .held) i 0) (came i) (handedFor i past)
+            (t .tied .received i l);
+        starts = t .starts;
+        places = λ i n l.
+            stream-place (w .receive) (baseOf caps i) (getD caps i 0) (getD (r .starts) i 0) (getD (r .held) i 0) (came i) (handedFor i past)
+            (t .tied .received i l) (t .starts i l) n;
+      }
+
+pub receives : (s : Settings) (past : Past) (w : World) → Reached s w → Held s past w → Receives s past w
+receives s past w k t =
+    subst (λ (u : Settings). Receives u past w) (k .settings) (receives-of past w (subst (λ (u : Settings). Held u past w) (sym (k .settings)) t))

@@ -1,0 +1,384 @@
+-- T10: every call keeps the range, what waits of Handshake within one segment, and what waits of the others behind Accept.
+-- Assumes nothing.
+use mathlib.Core.Path.{_≡_, refl, sym, ap, subst, _∙_}
+use mathlib.Core.Bool.{Bool, true, false, true≢false, false≢true, not, _&&_, _||_}
+use mathlib.Core.List.{List}
+use Prim.Native.Nat.{ℕ, zero, suc, _+_, _-_, _≤_, _<_}
+use native.Mathlib.Omega.{arith}
+use lib.Dec.{eqb}
+use lib.ListN.{length, getD, set}
+use lib.Seq.{getD-set-same, getD-set-other}
+use borrow.Author.Tests.{eq-eqb, ne-eqb, eqb-true, eqb-false}
+use Rattle.base.specs.Numbers.{Bytes}
+use Rattle.base.proofs.Conds.{by-test, cond-cases}
+use Rattle.ring.specs.Ring.{together}
+use Rattle.wire.specs.Instances.{instances}
+use Rattle.rows.specs.Spoken.{speaks}
+use Rattle.messages.specs.Reading.{flagOf}
+use Rattle.ready.specs.Ready.{chosen}
+use Rattle.ready.specs.declared.Choice.the-variants.{Instance}
+use Rattle.ready.proofs.ReadyLaws.{chosen-waits}
+use Rattle.connection.specs.declared.Settings.{Settings}
+use Rattle.connection.specs.declared.Connection.{Connection}
+use Rattle.connection.specs.declared.opening as opening
+use Rattle.connection.specs.Parts.{withReceiving}
+use Rattle.connection.specs.Shapes.{Shaped}
+use Rattle.connection.specs.Ranges.{inRange, receiveStoreOk, sendStoreOk, receives, sends, settingsOk}
+use Rattle.connection.specs.Openings.{zeros, fresh, openOf}
+use Rattle.connection.proofs.RangeLaws.{ranged}
+use Rattle.connection.proofs.NumberLaws as connection
+use Rattle.judging.specs.Judging.{ours, barred}
+use Rattle.feeding.specs.Feeding as feeding
+use Rattle.feeding.specs.Feeds.{Spelt}
+use Rattle.feeding.proofs.Bytes.{both-true}
+use Rattle.feeding.proofs.Keeping.{spelt-empty}
+use Rattle.feeding.proofs.Theorems as feeding-laws
+use Rattle.taking.specs.Taking as taking
+use Rattle.taking.proofs.NumberLaws as taking-laws
+use Rattle.putting.specs.Putting as putting
+use Rattle.putting.proofs.NumberLaws as putting-laws
+use Rattle.sending.specs.NextSegment as sending
+use Rattle.sending.proofs.NumberLaws as sending-laws
+use Rattle.promises.specs.Trace.{run}
+use Rattle.promises.specs.Calls.{Call, feed, take, put, next, status, World, step, Real, AllReal, Opened, first}
+use Rattle.promises.specs.Reached.{waits, Reached, InRangeForEver, numberOf, Never23}
+use Rattle.promises.proofs.TraceLaws.{keeps-real}
+use Rattle.promises.proofs.ReachedHandshake.{shakes, spare, spare-put, spare-moved, spare-first}
+use Rattle.promises.proofs.Ways.{Row, Takes, Puts, Nexts, refuses, faults, hands, queues, serves, take-way, put-way, next-way}
+use Rattle.promises.proofs.ReachedFeed as tidy
+use Rattle.promises.proofs.ReachedFeed.{Tidy, Feeds, stays, feeds, feed-way, blank-empty}
+
+-- ---- what every call keeps
+
+-- the bytes of Handshake that we may still put, and with them those that wait
+abbrev pub toPut : Settings → World → ℕ
+toPut s w = spare (s .side) (getD (w .connection .talk .states) 0 0) (s .limit)
+
+abbrev pub handshake : Settings → World → ℕ
+handshake s w = waits w 0 + toPut s w
+
+-- reached, and what waits of Handshake leaves room for what we may still put
+pub record Sound (s : Settings) (w : World) : Type 0 where
+  pub reached : Reached s w
+  pub bound : handshake s w ≤ s .limit
+
+pub reached-receives : {s : Settings} {w : World} → Reached s w → receives (w .connection) (length (w .receive)) ≡ true
+reached-receives {w = w} r =
+    let caps = w .connection .settings .receive in
+    rw (r .ranged, eq-eqb (length (w .receive)) (together caps) (r .receive ∙ ap (λ (x : Settings). together (x .receive)) (sym (r .settings))))
+
+pub reached-sends : {s : Settings} {w : World} → Reached s w → sends (w .connection) (length (w .send)) ≡ true
+reached-sends {w = w} r =
+    let caps = w .connection .settings .send in
+    rw (r .ranged, eq-eqb (length (w .send)) (together caps) (r .send ∙ ap (λ (x : Settings). together (x .send)) (sym (r .settings))))
+
+module _ (s : Settings) (w : World) (k : Sound s w) where
+  abbrev c : Connection
+  c = w .connection
+
+  abbrev r : Reached s w
+  r = k .reached
+
+  -- ---- feed
+
+  pub feeds-tidy : Tidy (c .receiving .starts) (feeding.given c (w .receive))
+  feeds-tidy = record { places = refl; many = r .shaped .held; blank = r .blank; idle = r .idle }
+
+  sound-fed : {xs : List ℕ} {t : feeding.Told} → Feeds c (w .receive) xs t → receives (t .answer .connection) (length (t .store)) ≡ true
+      → Spelt (t .answer .connection .receiving .header)
+      → Sound s (record { connection = t .answer .connection; receive = t .store; send = w .send })
+  sound-fed (stays n) ok spelt = k
+  sound-fed (feeds n st t) ok spelt =
+      let p = both-true (inRange (withReceiving c (st .receiving) (st .gate))) (receiveStoreOk (c .settings) (length (st .store))) ok in
+      record {
+        reached =
+            record {
+              settings = r .settings;
+              ranged = p .0;
+              shaped =
+                  record {
+                    receive = r .shaped .receive;
+                    send = r .shaped .send;
+                    receive-starts = rw (t .places) (r .shaped .receive-starts);
+                    held = t .many;
+                    header = spelt .0;
+                    send-starts = r .shaped .send-starts;
+                    waiting = r .shaped .waiting;
+                    states = r .shaped .states;
+                  };
+              receive =
+                  eqb-true (length (st .store)) (together (c .settings .receive)) (p .1) ∙ ap (λ (x : Settings). together (x .receive)) (r .settings);
+              send = r .send;
+              spelt = spelt;
+              blank = t .blank;
+              idle = t .idle;
+              single = r .single;
+              accepted = r .accepted;
+            };
+        bound = k .bound;
+      }
+
+  sound-feed : (xs : List ℕ) → Bytes xs → Sound s (step w (feed xs) .world)
+  unfolding step
+  sound-feed xs b =
+      let q = feeding-laws.keeps c (w .receive) xs (r .spelt) b (reached-receives r) in
+      sound-fed (feed-way c (w .receive) xs (reached-receives r) feeds-tidy) (q .0) (q .1)
+
+  -- ---- take
+
+  -- where instance i moves, the state of Handshake moves with it or stays
+  pub moved : (i after : ℕ) → Row (speaks i) (getD (c .talk .states) i 0) after
+      → spare (s .side) (getD (set (c .talk .states) i after) 0 0) (s .limit) ≤ toPut s w
+  moved zero after row =
+      rw (getD-set-same (c .talk .states) 0 after 0 (omega (arith, r .shaped .states)))
+      (spare-moved (s .side) (s .limit) (shakes (getD (c .talk .states) 0 0) after row))
+  moved (suc i) after row = rw (getD-set-other (c .talk .states) (suc i) 0 after 0 (λ e. omega arith)) (omega arith)
+
+  or-true : (a b : Bool) → a ≡ true → (a || b) ≡ true
+  or-true true b e = refl
+  or-true false b e = absurd (false≢true e)
+
+  sound-took : {i : ℕ} {buf : List ℕ} {t : taking.Told} → Takes c (w .receive) i buf t → inRange (t .taken .connection) ≡ true
+      → Shaped (t .taken .connection) → Sound s (record { connection = t .taken .connection; receive = w .receive; send = w .send })
+  sound-took (refuses n z ne f) ok shaped = k
+  sound-took (faults n low high l) ok shaped =
+      record {
+        reached =
+            record {
+              settings = r .settings;
+              ranged = ok;
+              shaped = shaped;
+              receive = r .receive;
+              send = r .send;
+              spelt = r .spelt;
+              blank = r .blank;
+              idle = r .idle;
+              single = r .single;
+              accepted = r .accepted;
+            };
+        bound = k .bound;
+      }
+  sound-took {i} (hands n m to l early held long reads row) ok shaped =
+      record {
+        reached =
+            record {
+              settings = r .settings;
+              ranged = ok;
+              shaped = shaped;
+              receive = r .receive;
+              send = r .send;
+              spelt = r .spelt;
+              blank = r .blank;
+              idle = r .idle;
+              single = r .single;
+              accepted = λ i some more. or-true _ _ (r .accepted i some more);
+            };
+        bound = omega (arith, k .bound, moved i to (m .kind, flagOf (speaks i) m, row));
+      }
+
+  sound-take : (i : ℕ) (buf : List ℕ) → Sound s (step w (take i buf) .world)
+  unfolding step
+  sound-take i buf =
+      let q = taking-laws.keeps c (w .receive) i buf (r .shaped) (reached-receives r) in
+      sound-took (take-way c (w .receive) i buf (reached-receives r)) (q .0) (q .1)
+
+  -- ---- put
+
+  abbrev more : ℕ → ℕ → List ℕ
+  more i n = set (c .sending .waiting) i (getD (c .sending .waiting) i 0 + n)
+
+  -- our message of Handshake, of at most S bytes, is the only one
+  pub put-bound : (i after n : ℕ) → ours (c .settings .side) i (getD (c .talk .states) i 0) ≡ true → Row (speaks i) (getD (c .talk .states) i 0) after
+      → (i ≡ 0 → n ≤ c .settings .limit)
+      → getD (more i n) 0 0 + spare (s .side) (getD (set (c .talk .states) i after) 0 0) (s .limit) ≤ handshake s w
+  put-bound zero after n mine row short =
+      let state = getD (c .talk .states) 0 0 in
+      let q = spare-put (s .side) (s .limit) (shakes state after row) (ap (λ (x : Settings). ours (x .side) 0 state) (sym (r .settings)) ∙ mine) in
+      rw (
+        getD-set-same (c .sending .waiting) 0 (waits w 0 + n) 0 (omega (arith, r .shaped .waiting)),
+        getD-set-same (c .talk .states) 0 after 0 (omega (arith, r .shaped .states)),
+      )
+      (omega (arith, q .0, q .1, short refl, ap (λ (x : Settings). x .limit) (r .settings)))
+  put-bound (suc i) after n mine row short =
+      rw (
+        getD-set-other (c .sending .waiting) (suc i) 0 (waits w (suc i) + n) 0 (λ e. omega arith),
+        getD-set-other (c .talk .states) (suc i) 0 after 0 (λ e. omega arith),
+      )
+      (omega arith)
+
+  -- whoever puts is not barred
+  put-accepted : (i n : ℕ) → barred (c .talk) i ≡ false → (j : ℕ) → 0 < j → 0 < getD (more i n) j 0 → c .talk .accepted ≡ true
+  put-accepted i n free j some waiting =
+      by-test (eqb j i)
+      (λ t.
+      let e : j ≡ i = eqb-true j i t in
+      let ne : eqb i 0 ≡ false = ne-eqb i 0 (λ z. omega arith) in
+      let no : not (c .talk .accepted) ≡ false = rw ne at free in
+      by-test (c .talk .accepted) (λ a. a) (λ a. absurd (true≢false (ap not (sym a) ∙ no))))
+      (λ t. r .accepted j some (rw (getD-set-other (c .sending .waiting) i j (waits w i + n) 0 (eqb-false j i t)) at waiting))
+
+  sound-put-way : {i : ℕ} {xs : List ℕ} {t : putting.Told} → Puts c (w .send) i xs t → inRange (t .answer .connection) ≡ true
+      → Shaped (t .answer .connection) → length (t .store) ≡ length (w .send)
+      → Sound s (record { connection = t .answer .connection; receive = w .receive; send = t .store })
+  sound-put-way (refuses n z ne) ok shaped long = k
+  sound-put-way {i} {xs} (queues m to l listens free mine reads row short fits) ok shaped long =
+      let b = put-bound i to (length xs) mine (m .kind, flagOf (speaks i) m, row) short in
+      record {
+        reached =
+            record {
+              settings = r .settings;
+              ranged = ok;
+              shaped = shaped;
+              receive = r .receive;
+              send = long ∙ r .send;
+              spelt = r .spelt;
+              blank = r .blank;
+              idle = r .idle;
+              single = omega (arith, b, k .bound);
+              accepted = λ i′ some waiting. or-true _ _ (put-accepted i (length xs) free i′ some waiting);
+            };
+        bound = omega (arith, b, k .bound);
+      }
+
+  sound-put : (i : ℕ) (xs : List ℕ) → Sound s (step w (put i xs) .world)
+  unfolding step
+  sound-put i xs =
+      let q = putting-laws.keeps c (w .send) i xs (r .shaped) (reached-sends r) in
+      let after = putting.putOf c (w .send) i xs in
+      let ok = both-true (inRange (after .answer .connection)) (sendStoreOk (after .answer .connection .settings) (length (after .store))) (q .ranged) in
+      sound-put-way (put-way c (w .send) i xs (reached-sends r)) (ok .0) (q .shaped) (q .long)
+
+  -- ---- next segment
+
+  -- whoever is chosen is an instance
+  pub chosen-inside : (i : ℕ) → chosen (c .sending .waiting) (c .sending .turn) ≡ Instance i → i < instances
+  chosen-inside i e =
+      let t = ranged c (r .ranged) .turn in
+      omega (arith, r .shaped .waiting, chosen-waits (c .sending .waiting) (c .sending .turn) i (t .0) (omega (arith, t .1, r .shaped .waiting)) e .0)
+
+  -- what is sent waits no more
+  fewer : (i n : ℕ) → i < instances → (j : ℕ) → getD (set (c .sending .waiting) i (waits w i - n)) j 0 ≤ waits w j
+  fewer i n l j =
+      by-test (eqb j i)
+      (λ t.
+      rw (eqb-true j i t, getD-set-same (c .sending .waiting) i (waits w i - n) 0 (omega (arith, r .shaped .waiting))) (omega arith))
+      (λ t. rw (getD-set-other (c .sending .waiting) i j (waits w i - n) 0 (eqb-false j i t)) (omega arith))
+
+  sound-next-way : {time : ℕ} {buf : List ℕ} {t : sending.Told} → Nexts c (w .send) time buf t → inRange (t .made .connection) ≡ true
+      → Shaped (t .made .connection) → Sound s (record { connection = t .made .connection; receive = w .receive; send = w .send })
+  sound-next-way (refuses n z ne) ok shaped = k
+  sound-next-way (serves i who room) ok shaped =
+      let less = fewer i (sending.much c i) (chosen-inside i who) in
+      record {
+        reached =
+            record {
+              settings = r .settings;
+              ranged = ok;
+              shaped = shaped;
+              receive = r .receive;
+              send = r .send;
+              spelt = r .spelt;
+              blank = r .blank;
+              idle = r .idle;
+              single = omega (arith, less 0, r .single);
+              accepted = λ j some waiting. r .accepted j some (omega (arith, less j));
+            };
+        bound = omega (arith, less 0, k .bound);
+      }
+
+  sound-next : (time : ℕ) (buf : List ℕ) → Sound s (step w (next time buf) .world)
+  unfolding step
+  sound-next time buf =
+      let q = sending-laws.keeps c (w .send) time buf (r .shaped) (r .ranged) in
+      sound-next-way (next-way c (w .send) time buf (reached-sends r)) (q .0) (q .1)
+
+-- ---- open
+
+opened : (s : Settings) (n m : ℕ) → openOf s n m .number ≡ 0 → openOf s n m .connection ≡ fresh s 1
+unfolding openOf
+opened s n m =
+    cond-cases (λ (o : opening.Opened.Opened). o .number ≡ 0 → o .connection ≡ fresh s 1) (settingsOk s && (receiveStoreOk s n && sendStoreOk s m))
+    (λ t z. refl) (λ t z. absurd (omega arith))
+
+sound-fresh : (s : Settings) (receive send : List ℕ) → Opened s receive send
+    → Sound s (record { connection = fresh s 1; receive = receive; send = send })
+sound-fresh s receive send o =
+    let n = length receive in
+    let m = length send in
+    let (set, long, wide) = connection.open-exactly s n m .n0 .0 (o .done) in
+    let zero-at = tidy.zeros instances in
+    record {
+      reached =
+          record {
+            settings = refl;
+            ranged = subst (λ (c : Connection). inRange c ≡ true) (opened s n m (o .done)) (connection.opening .opened s n m (o .done));
+            shaped =
+                record {
+                  receive = o .receives;
+                  send = o .sends;
+                  receive-starts = refl;
+                  held = refl;
+                  header = refl;
+                  send-starts = refl;
+                  waiting = refl;
+                  states = refl;
+                };
+            receive = long;
+            send = wide;
+            spelt = spelt-empty;
+            blank = tidy.blank-empty;
+            idle = λ z. refl;
+            single = omega (arith, zero-at 0);
+            accepted = λ i some waiting. absurd (omega (arith, zero-at i));
+          };
+      bound = omega (arith, spare-first (s .side) (s .limit));
+    }
+
+pub sound-first : (s : Settings) (receive send : List ℕ) → Opened s receive send → Sound s (first s receive send)
+sound-first s receive send o =
+    subst (λ (c : Connection). Sound s (record { connection = c; receive = receive; send = send }))
+    (sym (opened s (length receive) (length send) (o .done))) (sound-fresh s receive send o)
+
+-- ---- no call answers 23
+
+takes-known : {c : Connection} {store : List ℕ} {i : ℕ} {buf : List ℕ} {t : taking.Told} → Takes c store i buf t → t .taken .number ≡ 23 → ⊥
+takes-known (refuses n z ne f) e = ne e
+takes-known (faults n low high l) e = omega arith
+takes-known (hands n m to l early held long reads row) e = omega arith
+
+puts-known : {c : Connection} {store : List ℕ} {i : ℕ} {xs : List ℕ} {t : putting.Told} → Puts c store i xs t → t .answer .number ≡ 23 → ⊥
+puts-known (refuses n z ne) e = ne e
+puts-known (queues m to l listens free mine reads row short fits) e = omega arith
+
+nexts-known : {c : Connection} {store : List ℕ} {time : ℕ} {buf : List ℕ} {t : sending.Told} → Nexts c store time buf t → t .made .number ≡ 23 → ⊥
+nexts-known (refuses n z ne) e = ne e
+nexts-known (serves i who room) e = omega arith
+
+known : {s : Settings} {w : World} → Reached s w → (c : Call) → numberOf (step w c .answer) ≡ 23 → ⊥
+unfolding step
+known {w = w} r (feed xs) e =
+    true≢false (sym (reached-receives r) ∙ feeding-laws.answers (w .connection) (w .receive) xs .0 .out-of-range .0 e)
+known {w = w} r (take i buf) e = takes-known (take-way (w .connection) (w .receive) i buf (reached-receives r)) e
+known {w = w} r (put i xs) e = puts-known (put-way (w .connection) (w .send) i xs (reached-sends r)) e
+known {w = w} r (next time buf) e = nexts-known (next-way (w .connection) (w .send) time buf (reached-sends r)) e
+known {w = w} r status e = true≢false (sym (r .ranged) ∙ connection.status-exactly (w .connection) .1 .0 e)
+
+-- ---- the theorem
+
+pub sound-step : (s : Settings) (w : World) (c : Call) → Real c → Sound s w → Sound s (step w c .world)
+unfolding step
+sound-step s w (feed xs) b k = sound-feed s w k xs b
+sound-step s w (take i buf) b k = sound-take s w k i buf
+sound-step s w (put i xs) b k = sound-put s w k i xs
+sound-step s w (next time buf) b k = sound-next s w k time buf
+sound-step s w status b k = k
+
+pub sound-run : (s : Settings) (w : World) (cs : List Call) → AllReal cs → Sound s w → Sound s (run step w cs)
+sound-run s w cs a k = keeps-real step (Sound s) (sound-step s) cs w a k
+
+-- T10
+pub in-range-for-ever : InRangeForEver
+in-range-for-ever s receive send o cs a = sound-run s (first s receive send) cs a (sound-first s receive send o) .reached
+
+pub never-23 : Never23
+never-23 s receive send o cs a c e = known (in-range-for-ever s receive send o cs a) c e

@@ -1,0 +1,95 @@
+-- What feeding leaves of a record besides its range, byte by byte: its shape, and that what has not come is 0.
+-- Assumes nothing.
+use mathlib.Core.Path.{_≡_, refl, _∙_}
+use mathlib.Core.Bool.{true, cond}
+use mathlib.Core.List.{List, [], _∷_}
+use Prim.Native.Nat.{ℕ, zero, suc, _+_, _-_, _≤_}
+use native.Mathlib.Omega.{arith}
+use lib.Dec.{eqb, leb, ltb}
+use lib.ListN.{length, getD, replicate, length-set}
+use lib.Seq.{getD-set-other}
+use borrow.Author.Tests.{eq-eqb}
+use Rattle.base.proofs.Conds.{cond-cases}
+use Rattle.wire.specs.declared.segment.Header.{Header}
+use Rattle.wire.specs.declared.instances.Side.{Side}
+use Rattle.wire.specs.Segments.{headerLength, empty, added}
+use Rattle.wire.specs.Instances.{instances}
+use Rattle.connection.specs.declared.Connection.{Connection}
+use Rattle.connection.specs.Closings.{isOpen}
+use Rattle.connection.specs.Ranges.{receives}
+use Rattle.feeding.specs.declared.Admission.{Admission}
+use Rattle.feeding.specs.declared.Admission.the-variants.{Fault, Payload}
+use Rattle.feeding.specs.Feeding.{State, admission, settled, headed, kept, step, fed, Told, given, accepted, refused, taken, feedOf}
+
+abbrev pub Blank : Header → Type 0
+Blank h = (k : ℕ) → h .count ≤ k → getD (h .bytes) k 0 ≡ 0
+
+-- what feeding keeps
+pub record Tidy (starts : List ℕ) (s : State) : Type 0 where
+  pub places : s .receiving .starts ≡ starts
+  pub many : length (s .receiving .held) ≡ instances
+  pub blank : Blank (s .receiving .header)
+  pub idle : s .receiving .rest ≡ 0 → s .receiving .instance ≡ 0
+
+-- an array of zeros has zeros
+pub zeros : (n k : ℕ) → _≡_ {A = ℕ} (getD (replicate n 0) k 0) 0
+zeros zero k = refl
+zeros (suc n) zero = refl
+zeros (suc n) (suc k) = zeros n k
+
+pub blank-empty : Blank empty
+blank-empty k h = zeros headerLength k
+
+blank-added : (h : Header) (b : ℕ) → Blank h → Blank (added h b)
+unfolding added
+blank-added h b q =
+    cond-cases Blank (ltb (h .count) headerLength)
+    (λ t k l. getD-set-other (h .bytes) (h .count) k b 0 (λ e. omega arith) ∙ q k (omega arith)) (λ t. q)
+
+-- nothing to come: no instance
+idle-for : (n i : ℕ) → n ≡ 0 → cond (eqb n 0) 0 i ≡ 0
+idle-for n i z = rw (eq-eqb n 0 z)
+
+module _ (side : Side) (caps starts : List ℕ) where
+  tidy-settled : (s : State) (a : Admission) → Tidy starts s → Tidy starts (settled s a)
+  tidy-settled s (Fault x) t = record { places = t .places; many = t .many; blank = blank-empty; idle = t .idle }
+  tidy-settled s (Payload i n) t = record { places = t .places; many = t .many; blank = blank-empty; idle = idle-for n i }
+
+  tidy-step : (s : State) (b : ℕ) → Tidy starts s → Tidy starts (step side caps s b)
+  unfolding step headed kept
+  tidy-step s b t =
+      let r = s .receiving in
+      let h = added (r .header) b in
+      cond-cases (Tidy starts) (isOpen (s .gate))
+      (λ o.
+      cond-cases (Tidy starts) (eqb (r .rest) 0)
+      (λ z.
+      cond-cases (Tidy starts) (leb headerLength (h .count)) (λ w. tidy-settled s (admission side caps (r .held) h) t)
+      (λ w. record { places = t .places; many = t .many; blank = blank-added (r .header) b (t .blank); idle = t .idle }))
+      (λ z.
+      record {
+        places = t .places;
+        many = length-set (r .held) (r .instance) (getD (r .held) (r .instance) 0 + 1) ∙ t .many;
+        blank = t .blank;
+        idle = idle-for (r .rest - 1) (r .instance);
+      }))
+      (λ o. t)
+
+  tidy-fed : (s : State) (xs : List ℕ) → Tidy starts s → Tidy starts (fed side caps s xs)
+  unfolding fed
+  tidy-fed s [] t = t
+  tidy-fed s (x ∷ xs) t = tidy-fed (step side caps s x) xs (tidy-step s x t)
+
+-- Nothing changes, or bytes are fed: only what was received, the gate and the receive store change.
+pub data Feeds (c : Connection) (st xs : List ℕ) : Told → Type 0 where
+  stays : (n : ℕ) → Feeds c st xs (refused n c st)
+  feeds : (n : ℕ) (s : State) → Tidy (c .receiving .starts) s → Feeds c st xs (accepted c n s)
+
+pub feed-way : (c : Connection) (st xs : List ℕ) → receives c (length st) ≡ true → Tidy (c .receiving .starts) (given c st)
+    → Feeds c st xs (feedOf c st xs)
+unfolding feedOf taken
+feed-way c st xs r t =
+    rw r
+    (cond-cases (Feeds c st xs) (isOpen (c .gate))
+    (λ o. feeds _ _ (tidy-fed (c .settings .side) (c .settings .receive) (c .receiving .starts) (given c st) xs t))
+    (λ o. stays 20))

@@ -1,0 +1,71 @@
+-- Handshake: its three rows give us one message at most, and then our agency does not come back.
+-- Assumes nothing.
+use mathlib.Core.Path.{_≡_, refl}
+use mathlib.Core.Bool.{true, false≢true, _&&_}
+use Prim.Native.Nat.{ℕ, zero, suc, _≤_, _<_}
+use native.Mathlib.Omega.{arith}
+use lib.Dec.{eqb, eqb→eq}
+use lib.ListN.{length}
+use Rattle.base.proofs.Conds.{so, and-left}
+use Rattle.wire.specs.declared.instances.Side.{Side}
+use Rattle.wire.specs.declared.instances.Side.the-variants.{Dialler, Accepter}
+use Rattle.rows.specs.declared.Protocol.the-variants.{Handshake}
+use Rattle.rows.specs.Rows.{placeIn, agencyIn, fits, rowIn, rowsOf}
+use Rattle.rows.specs.Spoken.{speaks}
+use Rattle.rows.proofs.RowLaws.{thirty}
+use Rattle.judging.specs.Judging.{ours}
+use Rattle.promises.proofs.Ways.{Row}
+
+-- a message of Handshake leads from Propose to Confirm, and from there to Done
+pub data Shakes : ℕ → ℕ → Type 0 where
+  proposes : Shakes 0 1
+  confirms : Shakes 1 2
+
+pub shakes : (state next : ℕ) → Row (speaks 0) state next → Shakes state next
+unfolding speaks placeIn
+shakes state next (k, f, e) = let (i, l, t, q) = thirty .only Handshake state k f next e in by-row i l t q
+  where
+    from : (s k′ f′ : ℕ) → (eqb s state && (eqb k′ k && eqb f′ f)) ≡ true → s ≡ state
+    from s k′ f′ t = eqb→eq s state (and-left (eqb s state) _ (so _ t))
+
+    by-row : (i : ℕ) → i < length (rowsOf Handshake) → fits state k f (rowIn Handshake i) ≡ true → rowIn Handshake i .next ≡ next → Shakes state next
+    by-row zero l t q = rw (← from 0 0 0 t, ← q) proposes
+    by-row (suc zero) l t q = rw (← from 1 1 0 t, ← q) confirms
+    by-row (suc (suc zero)) l t q = rw (← from 1 2 0 t, ← q) confirms
+    by-row (suc (suc (suc i))) l t q = absurd (omega arith)
+
+-- the bytes that we may still put: S, while our message is to come
+unfoldable pub spare : Side → ℕ → ℕ → ℕ
+spare Dialler zero limit = limit
+spare Dialler (suc state) limit = 0
+spare Accepter zero limit = limit
+spare Accepter (suc zero) limit = limit
+spare Accepter (suc (suc state)) limit = 0
+
+pub spare-put : (side : Side) (limit : ℕ) {state next : ℕ} → Shakes state next → ours side 0 state ≡ true
+    → (spare side state limit ≡ limit) × (spare side next limit ≡ 0)
+unfolding spare ours speaks placeIn agencyIn
+spare-put Dialler limit proposes o = (refl, refl)
+spare-put Dialler limit confirms o = absurd (false≢true o)
+spare-put Accepter limit proposes o = absurd (false≢true o)
+spare-put Accepter limit confirms o = (refl, refl)
+
+pub spare-moved : (side : Side) (limit : ℕ) {state next : ℕ} → Shakes state next → spare side next limit ≤ spare side state limit
+unfolding spare
+spare-moved Dialler limit proposes = omega arith
+spare-moved Dialler limit confirms = omega arith
+spare-moved Accepter limit proposes = omega arith
+spare-moved Accepter limit confirms = omega arith
+
+pub spare-first : (side : Side) (limit : ℕ) → spare side 0 limit ≤ limit
+unfolding spare
+spare-first Dialler limit = omega arith
+spare-first Accepter limit = omega arith
+
+pub spare-none : (side : Side) (state limit : ℕ) → spare side state limit < limit → spare side state limit ≡ 0
+unfolding spare
+spare-none Dialler zero limit h = absurd (omega arith)
+spare-none Dialler (suc state) limit h = refl
+spare-none Accepter zero limit h = absurd (omega arith)
+spare-none Accepter (suc zero) limit h = absurd (omega arith)
+spare-none Accepter (suc (suc state)) limit h = refl

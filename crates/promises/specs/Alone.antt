@@ -1,0 +1,72 @@
+-- T14, document 01's "A take on instance i depends on ..": what a take answers and writes rests on nothing else, from open on.
+use Prim.Native.Nat.{ℕ}
+use mathlib.Core.Path.{_≡_}
+use mathlib.Core.Bool.{Bool, true, false, cond, not}
+use mathlib.Core.List.{List, []}
+use lib.Dec.{eqb}
+use Rattle.wire.specs.declared.instances.Side.{Side}
+use Rattle.wire.specs.Segments.{Carried, Divided}
+use Rattle.connection.specs.declared.Settings.{Settings}
+use Rattle.connection.specs.Closings.{isOpen}
+use Rattle.promises.specs.Trace.{run, trace}
+use Rattle.promises.specs.Calls.{Call, take, Answer, fed, taken, queued, made, told, step, AllReal, Opened, first}
+use Rattle.promises.specs.History.{Past, bytesIn, Act, acts, receivedIn, endsInAccept, firstFault}
+
+-- What a take on instance i may rest on: the side, i's own bytes, those that feed accepted; i's own accepted puts and takes; whether Handshake
+-- ended in Accept; and whether the connection is closed.
+pub record Seen : Type 0 where
+  pub side : Side
+  pub bytes : List ℕ
+  pub acts : List Act
+  pub accepted : Bool
+  pub closed : Bool
+
+-- what a history shows of these, its bytes being divided into segments and what is left
+abbrev pub seenBy : Side → Past → List Carried → List ℕ → ℕ → Seen
+seenBy side past segments left i =
+    record {
+      side = side;
+      bytes = receivedIn side i segments left;
+      acts = acts i past;
+      accepted = endsInAccept (acts 0 past);
+      closed = not (isOpen (firstFault side [] past));
+    }
+
+-- the same, but closed or not
+abbrev pub but : Seen → Bool → Seen
+but v b = record { side = v .side; bytes = v .bytes; acts = v .acts; accepted = v .accepted; closed = b }
+
+-- 20 for 1
+abbrev pub twentyForOne : Answer → Answer
+twentyForOne (taken n len m buf) = taken (cond (eqb n 1) 20 n) len m buf
+twentyForOne (fed n used) = fed n used
+twentyForOne (queued n) = queued n
+twentyForOne (made n len buf) = made n len buf
+twentyForOne (told r) = told r
+
+-- One function gives the answer and the buffer of every take after every list of calls from open on, whatever the settings, from what the take may
+-- rest on and the lent buffer; and that the connection is closed only turns 1 into 20.
+pub record Alone : Type 0 where
+  pub answer : ℕ → Seen → List ℕ → Answer
+  pub takes : (s : Settings) (receive send : List ℕ) → Opened s receive send → (cs : List Call) → AllReal cs
+      → let w = first s receive send in
+      (segments : List Carried) (left : List ℕ) → Divided (bytesIn (trace step w cs)) segments left
+      → (i : ℕ) (buf : List ℕ) → step (run step w cs) (take i buf) .answer ≡ answer i (seenBy (s .side) (trace step w cs) segments left i) buf
+  pub closes : (i : ℕ) (v : Seen) (buf : List ℕ) → answer i (but v true) buf ≡ twentyForOne (answer i (but v false) buf)
+
+-- So two connections, whatever their settings and whatever else was called: where a take may see the same, it answers and writes the same; and where
+-- only the second is closed, the same but 20 for 1.
+abbrev pub Alike : Type 0
+Alike =
+    (s s′ : Settings) (receive send receive′ send′ : List ℕ) → Opened s receive send → Opened s′ receive′ send′
+    → (cs cs′ : List Call) → AllReal cs → AllReal cs′
+    → let w = first s receive send in
+    let w′ = first s′ receive′ send′ in
+    (segments segments′ : List Carried) (left left′ : List ℕ)
+    → Divided (bytesIn (trace step w cs)) segments left → Divided (bytesIn (trace step w′ cs′)) segments′ left′
+    → (i : ℕ) (buf : List ℕ)
+    → let v = seenBy (s .side) (trace step w cs) segments left i in
+    let v′ = seenBy (s′ .side) (trace step w′ cs′) segments′ left′ i in
+    let a = step (run step w cs) (take i buf) .answer in
+    let a′ = step (run step w′ cs′) (take i buf) .answer in
+    (v ≡ v′ → a ≡ a′) × (v .closed ≡ false → v′ ≡ but v true → a′ ≡ twentyForOne a)

@@ -1,0 +1,93 @@
+-- Calls on one connection, from open on: the caller hands record and stores back untouched.
+use Prim.Native.Nat.{ℕ, _<_, _^_}
+use mathlib.Core.Path.{_≡_}
+use mathlib.Core.List.{List, [], _∷_}
+use lib.ListN.{length}
+use Rattle.base.specs.Numbers.{Bytes}
+use Rattle.wire.specs.Instances.{instances}
+use Rattle.messages.specs.declared.Message.{Message}
+use Rattle.connection.specs.declared.Settings.{Settings}
+use Rattle.connection.specs.declared.Connection.{Connection}
+use Rattle.connection.specs.declared.telling.Report.{Report}
+use Rattle.connection.specs.Openings.{openOf}
+use Rattle.connection.specs.Statuses.{statusOf}
+use Rattle.feeding.specs.Feeding.{feedOf}
+use Rattle.taking.specs.Taking.{takeOf}
+use Rattle.putting.specs.Putting.{putOf}
+use Rattle.sending.specs.NextSegment.{nextOf}
+use Rattle.promises.specs.Trace.{Out}
+
+-- A call, with what the caller lends or gives: bytes; an instance and a buffer; an instance and a message; a time and a buffer. Build has neither
+-- record nor store, and so no part in what follows.
+pub data Call : Type 0 where
+  feed : List ℕ → Call
+  take : ℕ → List ℕ → Call
+  put : ℕ → List ℕ → Call
+  next : ℕ → List ℕ → Call
+  status : Call
+
+-- What the caller sees: the number and what comes with it, and the lent buffer after the call.
+pub data Answer : Type 0 where
+  fed : (number used : ℕ) → Answer
+  taken : (number len : ℕ) (message : Message) (buffer : List ℕ) → Answer
+  queued : (number : ℕ) → Answer
+  made : (number len : ℕ) (buffer : List ℕ) → Answer
+  told : Report → Answer
+
+-- Record and stores, which are handed on from call to call.
+pub record World : Type 0 where
+  pub connection : Connection
+  pub receive : List ℕ
+  pub send : List ℕ
+
+-- One call: by the same definitions that the operations' contracts equal.
+unfoldable pub step : World → Call → Out World Answer
+step w (feed xs) =
+    let r = feedOf (w .connection) (w .receive) xs in
+    record {
+      world = record { connection = r .answer .connection; receive = r .store; send = w .send };
+      answer = fed (r .answer .number) (r .answer .used);
+    }
+step w (take i buf) =
+    let r = takeOf (w .connection) (w .receive) i buf in
+    record {
+      world = record { connection = r .taken .connection; receive = w .receive; send = w .send };
+      answer = taken (r .taken .number) (r .taken .len) (r .taken .message) (r .buffer);
+    }
+step w (put i xs) =
+    let r = putOf (w .connection) (w .send) i xs in
+    record {
+      world = record { connection = r .answer .connection; receive = w .receive; send = r .store };
+      answer = queued (r .answer .number);
+    }
+step w (next time buf) =
+    let r = nextOf (w .connection) (w .send) time buf in
+    record {
+      world = record { connection = r .made .connection; receive = w .receive; send = w .send };
+      answer = made (r .made .number) (r .made .len) (r .buffer);
+    }
+step w status = record { world = w; answer = told (statusOf (w .connection)) }
+
+-- What every call is that can be made: its bytes are bytes, and the time has 32 bits.
+abbrev pub Real : Call → Type 0
+Real (feed xs) = Bytes xs
+Real (take i buf) = Bytes buf
+Real (put i xs) = Bytes xs
+Real (next time buf) = (time < 2 ^ 32) × Bytes buf
+Real status = Unit {0}
+
+unfoldable pub AllReal : List Call → Type 0
+AllReal [] = Unit {0}
+AllReal (c ∷ cs) = Real c × AllReal cs
+
+-- An open answered 0, with what every call of open has: arrays of as many entries as there are instances, and stores of bytes.
+pub record Opened (s : Settings) (receive send : List ℕ) : Type 0 where
+  pub receives : length (s .receive) ≡ instances
+  pub sends : length (s .send) ≡ instances
+  pub receive-bytes : Bytes receive
+  pub send-bytes : Bytes send
+  pub done : openOf s (length receive) (length send) .number ≡ 0
+
+-- the world that open leaves
+abbrev pub first : Settings → List ℕ → List ℕ → World
+first s receive send = record { connection = openOf s (length receive) (length send) .connection; receive = receive; send = send }

@@ -1,0 +1,97 @@
+-- T12, demand 3: every byte that waits is sent, and how soon. Segments are read back from the lent buffers by their layout.
+use Prim.Native.Nat.{ℕ, _+_, _-_, _*_, _/_, _≤_, _<_}
+use mathlib.Core.Path.{_≡_}
+use mathlib.Core.Bool.{Bool, true, cond, _&&_}
+use mathlib.Core.List.{List, [], _∷_, _++_}
+use mathlib.Core.Logic.{_↔_}
+use lib.Dec.{eqb}
+use lib.ListN.{length, getD, drop}
+use lib.ListN as list
+use Rattle.ring.specs.Ring.{baseOf, stream}
+use Rattle.wire.specs.declared.segment.Segment.{Segment}
+use Rattle.wire.specs.declared.instances.Side.{Side}
+use Rattle.wire.specs.Segments.{headerLength, decoded}
+use Rattle.wire.specs.Instances.{instances, protocolOf, modeOf}
+use Rattle.connection.specs.declared.Settings.{Settings}
+use Rattle.connection.specs.Closings.{isOpen}
+use Rattle.promises.specs.Trace.{Event, run, trace}
+use Rattle.promises.specs.Calls.{Call, next, Answer, fed, taken, queued, made, told, World, step, AllReal, Opened, first}
+use Rattle.promises.specs.Reached.{waits, numberOf}
+
+-- the bytes of instance i that wait: those of its stream from its start place on
+abbrev pub queue : World → ℕ → List ℕ
+queue w i =
+    let caps = w .connection .settings .send in
+    stream (w .send) (baseOf caps i) (getD caps i 0) (getD (w .connection .sending .starts) i 0) (waits w i)
+
+-- ---- segments
+
+-- the segment that an answer of next segment, with number 0, says is at the front of the lent buffer
+abbrev pub segmentOf : Answer → List (List ℕ)
+segmentOf (made number len buffer) = cond (eqb number 0) (list.take len buffer ∷ []) []
+segmentOf (fed number used) = []
+segmentOf (taken number len message buffer) = []
+segmentOf (queued number) = []
+segmentOf (told report) = []
+
+-- the segments made, in order
+unfoldable pub segments : List (Event Call Answer) → List (List ℕ)
+segments [] = []
+segments (e ∷ es) = segmentOf (e .answer) ++ segments es
+
+-- what a segment's header says, and what follows it
+abbrev pub header : List ℕ → Segment
+header bs = decoded (list.take headerLength bs)
+
+abbrev pub payload : List ℕ → List ℕ
+payload bs = drop headerLength bs
+
+-- by its mode and protocol number, a segment that a side sends as instance i
+abbrev pub isOf : Side → ℕ → List ℕ → Bool
+isOf side i bs = eqb (header bs .mode) (modeOf side i) && eqb (header bs .protocol) (protocolOf i)
+
+-- the bytes of instance i in segments, end to end
+unfoldable pub sentBy : Side → ℕ → List (List ℕ) → List ℕ
+sentBy side i [] = []
+sentBy side i (bs ∷ ss) = cond (isOf side i bs) (payload bs) [] ++ sentBy side i ss
+
+-- One of the segments, for instance i and as long as its header says, carries byte b, in front of which there are p bytes of i:
+-- those in the segments in front of it, and those in front of b in its own payload.
+pub record Sent (side : Side) (i p b : ℕ) (ss : List (List ℕ)) : Type 0 where
+  pub front : List (List ℕ)
+  pub segment : List ℕ
+  pub back : List (List ℕ)
+  pub split : ss ≡ front ++ (segment ∷ back)
+  pub of : isOf side i segment ≡ true
+  pub whole : header segment .len ≡ length (payload segment)
+  pub behind : length (sentBy side i front) ≤ p
+  pub within : p < length (sentBy side i front) + length (payload segment)
+  pub byte : getD (payload segment) (p - length (sentBy side i front)) 0 ≡ b
+
+-- ---- the promises
+
+-- of the segments to come, how many are enough for a byte with p bytes of its instance in front of it
+abbrev pub enough : Settings → ℕ → ℕ
+enough s p = instances * (p / s .limit + 1)
+
+-- A byte of instance i that waits with p bytes of i in front of it is in one of so many next segments, whatever is called.
+-- Nothing need be said of the gate: where it is closed no segment is made.
+abbrev pub FairFrom : Settings → World → Type 0
+FairFrom s w =
+    (i p : ℕ) → i < instances → p < waits w i → (cs : List Call) → AllReal cs
+    → let ss = segments (trace step w cs) in
+    enough s p ≤ length ss → Sent (s .side) i p (getD (queue w i) p 0) (list.take (enough s p) ss)
+
+-- While the gate is open and a byte waits, a segment is made by every call of next segment that lends room for header and S bytes;
+-- and notice 4 is given exactly if the gate is open and nothing waits.
+pub record Serves (s : Settings) (w : World) : Type 0 where
+  pub made : (i : ℕ) → i < instances → 0 < waits w i → isOpen (w .connection .gate) ≡ true
+      → (time : ℕ) (buf : List ℕ) → headerLength + s .limit ≤ length buf → numberOf (step w (next time buf) .answer) ≡ 0
+  pub nothing : (time : ℕ) (buf : List ℕ)
+      → (numberOf (step w (next time buf) .answer) ≡ 4) ↔ ((isOpen (w .connection .gate) ≡ true) × ((i : ℕ) → i < instances → waits w i ≡ 0))
+
+-- both, after every list of calls from open on
+abbrev pub Fair : Type 0
+Fair =
+    (s : Settings) (receive send : List ℕ) → Opened s receive send → (cs : List Call) → AllReal cs
+    → let w = run step (first s receive send) cs in FairFrom s w × Serves s w

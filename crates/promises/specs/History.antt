@@ -1,0 +1,319 @@
+-- What a history says, and that record and stores say the same (document 01, "What the front holds" and "Segments"): after any calls from open on.
+use Prim.Native.Nat.{ℕ, _-_, _/_, _%_, _^_, _≤_, _<_, min}
+use mathlib.Core.Path.{_≡_}
+use mathlib.Core.Bool.{Bool, true, false, cond, not, _&&_}
+use mathlib.Core.List.{List, [], _∷_, _++_, flatMap, flatten}
+use lib.Dec.{eqb, leb, ltb}
+use lib.ListN.{length, getD, take, drop}
+use lib.Count.{ones}
+use Rattle.ring.specs.Ring.{baseOf, place}
+use Rattle.wire.specs.declared.segment.Segment.{Segment}
+use Rattle.wire.specs.declared.instances.Side.{Side}
+use Rattle.wire.specs.declared.instances.Route.{Route}
+use Rattle.wire.specs.declared.instances.Route.the-variants as route
+use Rattle.wire.specs.Segments.{headerLength, decoded, Carried, Divided}
+use Rattle.wire.specs.Instances.{instances, at, initiates, protocolOf, modeOf, routeOf}
+use Rattle.item.specs.Grammar.{Item, nesting}
+use Rattle.rows.specs.declared.Next.the-variants.{To}
+use Rattle.rows.specs.Rows.{nextOf, agencyOf}
+use Rattle.rows.specs.Spoken.{speaks}
+use Rattle.messages.specs.declared.Message.{Message}
+use Rattle.messages.specs.Reading.{messageOf, read, flagOf}
+use Rattle.connection.specs.declared.Settings.{Settings}
+use Rattle.connection.specs.declared.Closing.the-variants.{Bare, Of}
+use Rattle.connection.specs.declared.Gate.{Gate}
+use Rattle.connection.specs.declared.Gate.the-variants.{Open, Closed}
+use Rattle.connection.specs.declared.telling.Report.{Report}
+use Rattle.connection.specs.Closings.{isOpen}
+use Rattle.judging.specs.Judging.{holds, ours}
+use Rattle.taking.specs.Taking.{heldOf}
+use Rattle.promises.specs.Trace.{Event, run, trace}
+use Rattle.promises.specs.Calls as calls
+use Rattle.promises.specs.Calls.{Call, Answer, World, step, Real, AllReal, Opened, first}
+use Rattle.promises.specs.Reached.{waits, numberOf}
+use Rattle.promises.specs.Fairness.{queue, segmentOf, segments, header, payload, sentBy}
+
+-- what was asked and answered, in order
+abbrev pub Past : Type 0
+Past = List (Event Call Answer)
+
+-- ---- what the calls did
+
+-- how many bytes a feed used, and the message that a take put to the front of the lent buffer
+abbrev pub usedIn : Answer → ℕ
+usedIn (calls.fed n used) = used
+usedIn (calls.taken n len m buf) = 0
+usedIn (calls.queued n) = 0
+usedIn (calls.made n len buf) = 0
+usedIn (calls.told r) = 0
+
+abbrev pub handedIn : Answer → List ℕ
+handedIn (calls.fed n used) = []
+handedIn (calls.taken n len m buf) = take len buf
+handedIn (calls.queued n) = []
+handedIn (calls.made n len buf) = []
+handedIn (calls.told r) = []
+
+-- the bytes that feeds used, end to end
+abbrev pub usedBy : Call → Answer → List ℕ
+usedBy (calls.feed xs) a = take (usedIn a) xs
+usedBy (calls.take j buf) a = []
+usedBy (calls.put j xs) a = []
+usedBy (calls.next time buf) a = []
+usedBy calls.status a = []
+
+unfoldable pub bytesIn : Past → List ℕ
+bytesIn past = flatMap (λ e. usedBy (e .call) (e .answer)) past
+
+-- an accepted put, with its message, and a take answered 0, with the message handed out
+pub data Act : Type 0 where
+  gave : List ℕ → Act
+  got : List ℕ → Act
+
+abbrev pub messageIn : Act → List ℕ
+messageIn (gave xs) = xs
+messageIn (got xs) = xs
+
+-- the accepted puts and takes of instance i, in order
+abbrev pub actsBy : ℕ → Call → Answer → List Act
+actsBy i (calls.feed xs) a = []
+actsBy i (calls.take j buf) a = cond (eqb j i && eqb (numberOf a) 0) (got (handedIn a) ∷ []) []
+actsBy i (calls.put j xs) a = cond (eqb j i && eqb (numberOf a) 0) (gave xs ∷ []) []
+actsBy i (calls.next time buf) a = []
+actsBy i calls.status a = []
+
+unfoldable pub acts : ℕ → Past → List Act
+acts i past = flatMap (λ e. actsBy i (e .call) (e .answer)) past
+
+-- the messages of instance i end to end: those that were put, and those that were handed out
+abbrev pub putBy : Act → List ℕ
+putBy (gave xs) = xs
+putBy (got xs) = []
+
+unfoldable pub putFor : ℕ → Past → List ℕ
+putFor i past = flatMap putBy (acts i past)
+
+abbrev pub handedBy : Act → List ℕ
+handedBy (gave xs) = []
+handedBy (got xs) = xs
+
+unfoldable pub handedFor : ℕ → Past → List ℕ
+handedFor i past = flatMap handedBy (acts i past)
+
+-- ---- T11 (a) and (d): what was received
+
+abbrev pub isFor : ℕ → Route → Bool
+isFor i route.Unknown = false
+isFor i (route.Wrong j) = false
+isFor i (route.To j) = eqb j i
+
+-- what of a payload is for instance i: protocol number and mode together choose the instance
+abbrev pub payloadFor : Side → ℕ → Segment → List ℕ → List ℕ
+payloadFor side i h xs = cond (isFor i (routeOf side (h .protocol) (h .mode))) xs []
+
+-- the payload for instance i of whole segments, and of the bytes that are left behind them, in which a payload may have begun
+unfoldable pub receivedIn : Side → ℕ → List Carried → List ℕ → List ℕ
+receivedIn side i cs left =
+    flatMap (λ c. payloadFor side i (c .header) (c .payload)) cs
+    ++ payloadFor side i (decoded (take headerLength left)) (drop headerLength left)
+
+-- The bytes that feeds used, divided by the layout: a refused segment has no payload among them, since its header's last byte is the last that
+-- is used. What came for an instance is what was handed out and then what is held; and byte n of it, counted from 0 at open, is kept at place n
+-- mod capacity.
+pub record Receives (s : Settings) (past : Past) (w : World) : Type 0 where
+  pub carried : List Carried
+  pub left : List ℕ
+  pub divided : Divided (bytesIn past) carried left
+  pub received : (i : ℕ) → i < instances → receivedIn (s .side) i carried left ≡ handedFor i past ++ heldOf (w .connection) (w .receive) i
+  pub held : (i : ℕ) → i < instances
+      → getD (w .connection .receiving .held) i 0 ≡ length (receivedIn (s .side) i carried left) - length (handedFor i past)
+  pub starts : (i : ℕ) → i < instances → getD (w .connection .receiving .starts) i 0 ≡ length (handedFor i past) % getD (s .receive) i 0
+  pub places : (i n : ℕ) → i < instances → length (handedFor i past) ≤ n → n < length (receivedIn (s .side) i carried left)
+      → getD (w .receive) (place (baseOf (s .receive) i) (getD (s .receive) i 0) n) 0 ≡ getD (receivedIn (s .side) i carried left) n 0
+
+-- What a take answered 0 hands out: the first bytes that were held, which are one item, and what the answer says of them is read from them.
+pub record HandsOut (w : World) (i len : ℕ) (m : Message) (buf : List ℕ) : Type 0 where
+  pub long : len ≤ length buf
+  pub held : take len buf ≡ take len (heldOf (w .connection) (w .receive) i)
+  pub item : Item nesting (take len buf)
+  pub reads : messageOf (speaks i) (take len buf) ≡ read m
+
+-- bytes begin with so many items in one way
+abbrev pub AllItems : List (List ℕ) → Type 0
+AllItems [] = Unit {0}
+AllItems (x ∷ xs) = Item nesting x × AllItems xs
+
+abbrev pub SplitOnce : Type 0
+SplitOnce =
+    (ms ns : List (List ℕ)) (xs ys : List ℕ) → AllItems ms → AllItems ns → length ms ≡ length ns → flatten ms ++ xs ≡ flatten ns ++ ys
+    → (ms ≡ ns) × (xs ≡ ys)
+
+-- ---- T11 (b) and (d): what was put and sent
+
+-- the payloads of instance i end to end, in the segments that were made, read back by their layout
+abbrev pub sentFor : Side → ℕ → Past → List ℕ
+sentFor side i past = sentBy side i (segments past)
+
+-- What was put of an instance is what was sent and then what waits; and byte n of it, counted from 0 at open, is kept at place n mod capacity.
+pub record Sends (s : Settings) (past : Past) (w : World) : Type 0 where
+  pub put : (i : ℕ) → i < instances → putFor i past ≡ sentFor (s .side) i past ++ queue w i
+  pub waiting : (i : ℕ) → i < instances → waits w i ≡ length (putFor i past) - length (sentFor (s .side) i past)
+  pub starts : (i : ℕ) → i < instances → getD (w .connection .sending .starts) i 0 ≡ length (sentFor (s .side) i past) % getD (s .send) i 0
+  pub places : (i n : ℕ) → i < instances → length (sentFor (s .side) i past) ≤ n → n < length (putFor i past)
+      → getD (w .send) (place (baseOf (s .send) i) (getD (s .send) i 0) n) 0 ≡ getD (putFor i past) n 0
+
+-- A segment that is made reads back as it was written: the given time, mode and protocol number of what we send as an instance, the smaller of S
+-- and the bytes waiting, at least one; and the first of these bytes.
+pub record Segmented (s : Settings) (w : World) (time : ℕ) (bs : List ℕ) : Type 0 where
+  pub instance : ℕ
+  pub within : instance < instances
+  pub reads : header bs
+      ≡ record { time = time; mode = modeOf (s .side) instance; protocol = protocolOf instance; len = min (s .limit) (waits w instance) }
+  pub some : 1 ≤ min (s .limit) (waits w instance)
+  pub carries : payload bs ≡ take (min (s .limit) (waits w instance)) (queue w instance)
+
+-- ---- T11 (c): the states
+
+-- whether the peer has agency in a state of instance i
+abbrev pub theirs : Side → ℕ → ℕ → Bool
+theirs side i state = holds (not (initiates side (at i .role))) (agencyOf (speaks i) state)
+
+-- a put wants our agency, a take the peer's
+abbrev pub allowed : Side → ℕ → ℕ → Act → Bool
+allowed side i state (gave xs) = ours side i state
+allowed side i state (got xs) = theirs side i state
+
+-- An act is one of the thirty rows: a message of the protocol, at the agency that it wants, leads from the one state to the other.
+pub record Moves (side : Side) (i state : ℕ) (a : Act) (to : ℕ) : Type 0 where
+  pub message : Message
+  pub reads : messageOf (speaks i) (messageIn a) ≡ read message
+  pub agency : allowed side i state a ≡ true
+  pub row : nextOf (speaks i) state (message .kind) (flagOf (speaks i) message) ≡ To to
+
+-- acts one after the other lead from a state to a state
+pub data Walks (side : Side) (i : ℕ) : ℕ → List Act → ℕ → Type 0 where
+  rests : {state : ℕ} → Walks side i state [] state
+  moves : {state via to : ℕ} {a : Act} {more : List Act} → Moves side i state a via → Walks side i via more to → Walks side i state (a ∷ more) to
+
+-- the last act is message 1
+unfoldable pub endsInAccept : List Act → Bool
+endsInAccept [] = false
+endsInAccept (a ∷ []) = eqb (messageOf (speaks 0) (messageIn a) .message .kind) 1
+endsInAccept (a ∷ b ∷ more) = endsInAccept (b ∷ more)
+
+-- The state of each instance is where its own accepted puts and takes lead from the first state, and Accept is marked if Handshake ended in it.
+pub record Talks (s : Settings) (past : Past) (w : World) : Type 0 where
+  pub states : (i : ℕ) → i < instances → Walks (s .side) i 0 (acts i past) (getD (w .connection .talk .states) i 0)
+  pub accepted : w .connection .talk .accepted ≡ endsInAccept (acts 0 past)
+
+-- ---- T11 (e): the closing
+
+-- where the last header among the bytes leads
+abbrev pub lastRoute : Side → List ℕ → Route
+lastRoute side bs =
+    let d = decoded (drop (length bs - headerLength) bs) in
+    routeOf side (d .protocol) (d .mode)
+
+abbrev pub instanceOf : Route → ℕ
+instanceOf route.Unknown = 0
+instanceOf (route.Wrong j) = j
+instanceOf (route.To j) = j
+
+-- The closing of a fault that a call answered, if it answered one, where bs are the bytes so far: of 11 to 13 from feed, whose last used bytes are
+-- the refused header, and of 14 to 17 from take.
+abbrev pub faultBy : Side → List ℕ → Call → Answer → Gate
+faultBy side bs (calls.feed xs) a =
+    cond (eqb (numberOf a) 11) (Closed (Bare 11))
+    (cond (eqb (numberOf a) 12) (Closed (Of 12 0)) (cond (eqb (numberOf a) 13) (Closed (Of 13 (instanceOf (lastRoute side bs)))) Open))
+faultBy side bs (calls.take j buf) a = cond (leb 14 (numberOf a) && leb (numberOf a) 17) (Closed (Of (numberOf a) j)) Open
+faultBy side bs (calls.put j xs) a = Open
+faultBy side bs (calls.next time buf) a = Open
+faultBy side bs calls.status a = Open
+
+abbrev pub orElse : Gate → Gate → Gate
+orElse Open g = g
+orElse (Closed x) g = Closed x
+
+-- the closing of the first fault answered, with bs the bytes before
+unfoldable pub firstFault : Side → List ℕ → Past → Gate
+firstFault side bs [] = Open
+firstFault side bs (e ∷ past) =
+    let now = bs ++ usedBy (e .call) (e .answer) in
+    orElse (faultBy side now (e .call) (e .answer)) (firstFault side now past)
+
+-- The connection is closed by the first fault answered, and open if none was.
+abbrev pub Closes : Settings → Past → World → Type 0
+Closes s past w = w .connection .gate ≡ firstFault (s .side) [] past
+
+-- ---- T11
+
+-- what the history tells, record and stores tell
+pub record Tells (s : Settings) (past : Past) (w : World) : Type 0 where
+  pub receives : Receives s past w
+  pub sends : Sends s past w
+  pub talks : Talks s past w
+  pub closes : Closes s past w
+
+-- and what is handed out and made there, is what was held and what waited
+pub record Gives (s : Settings) (w : World) : Type 0 where
+  pub hands : (i len : ℕ) (m : Message) (buf after : List ℕ) → step w (calls.take i buf) .answer ≡ calls.taken 0 len m after
+      → HandsOut w i len m after
+  pub makes : (time : ℕ) (buf bs : List ℕ) → Real (calls.next time buf) → segmentOf (step w (calls.next time buf) .answer) ≡ bs ∷ []
+      → Segmented s w time bs
+
+-- after every list of calls from open on
+abbrev pub History : Type 0
+History =
+    (s : Settings) (receive send : List ℕ) → Opened s receive send → (cs : List Call) → AllReal cs
+    → let w = run step (first s receive send) cs in Tells s (trace step (first s receive send) cs) w × Gives s w
+
+-- ---- T13: status
+
+-- Status tells the counts of the history, and its closing. The word's bit i is set if bytes of i wait, and no other; how many are ready is how many
+-- bits it has; and the lowest is the first that is ready, or 255 if none is.
+pub record Reports (s : Settings) (past : Past) (r : Report) : Type 0 where
+  pub number : r .number ≡ 0
+  pub held : (cs : List Carried) (left : List ℕ) → Divided (bytesIn past) cs left → (i : ℕ) → i < instances
+      → getD (r .held) i 0 ≡ length (receivedIn (s .side) i cs left) - length (handedFor i past)
+  pub waiting : (i : ℕ) → i < instances → getD (r .waiting) i 0 ≡ length (putFor i past) - length (sentFor (s .side) i past)
+  pub many : (length (r .held) ≡ instances) × (length (r .waiting) ≡ instances)
+  pub bits : (i : ℕ) → i < instances → r .ready .word / 2 ^ i % 2 ≡ cond (eqb (getD (r .waiting) i 0) 0) 0 1
+  pub small : r .ready .word < 2 ^ instances
+  pub count : r .ready .count ≡ ones (r .ready .word)
+  pub lowest : (i : ℕ) → i < instances → 0 < getD (r .waiting) i 0 → ((j : ℕ) → j < i → getD (r .waiting) j 0 ≡ 0) → r .ready .lowest ≡ i
+  pub none : ((i : ℕ) → i < instances → getD (r .waiting) i 0 ≡ 0) → r .ready .lowest ≡ 255
+  pub closing : r .gate ≡ firstFault (s .side) [] past
+
+abbrev pub StatusTells : Type 0
+StatusTells =
+    (s : Settings) (receive send : List ℕ) → Opened s receive send → (cs : List Call) → AllReal cs
+    → let w = run step (first s receive send) cs in
+    (r : Report) → step w calls.status .answer ≡ calls.told r → Reports s (trace step (first s receive send) cs) r
+
+-- ---- T15: after a fault
+
+-- A closed connection: feed, put and next segment answer 20, but put to an instance that there is not 10, and change nothing. A take writes to
+-- no store and leaves what is to be sent and the closing; and it changes nothing if it hands nothing out.
+pub record Shut (w : World) : Type 0 where
+  pub feeds : (xs : List ℕ) → step w (calls.feed xs) ≡ record { world = w; answer = calls.fed 20 0 }
+  pub puts : (i : ℕ) (xs : List ℕ) → step w (calls.put i xs) ≡ record { world = w; answer = calls.queued (cond (ltb i instances) 20 10) }
+  pub makes : (time : ℕ) (buf : List ℕ) → step w (calls.next time buf) ≡ record { world = w; answer = calls.made 20 0 buf }
+  pub takes : (i : ℕ) (buf : List ℕ)
+      → let v = step w (calls.take i buf) .world in
+      (v .receive ≡ w .receive) × (v .send ≡ w .send) × (v .connection .sending ≡ w .connection .sending)
+      × (v .connection .gate ≡ w .connection .gate)
+  pub refuses : (i : ℕ) (buf : List ℕ) → (numberOf (step w (calls.take i buf) .answer) ≡ 0 → ⊥) → step w (calls.take i buf) .world ≡ w
+
+-- nothing comes in, nothing is put and nothing is sent
+pub record Nothing (past : Past) : Type 0 where
+  pub comes : bytesIn past ≡ []
+  pub put : (i : ℕ) → putFor i past ≡ []
+  pub sent : segments past ≡ []
+
+-- From the first closing on the connection is closed, by that closing, and nothing more comes in, is put or is sent.
+abbrev pub AfterFault : Type 0
+AfterFault =
+    (s : Settings) (receive send : List ℕ) → Opened s receive send → (cs ds : List Call) → AllReal cs → AllReal ds
+    → let w = run step (first s receive send) cs in
+    isOpen (w .connection .gate) ≡ false
+    → Shut w × Nothing (trace step w ds) × (run step w ds .connection .gate ≡ w .connection .gate)

@@ -1,0 +1,27 @@
+-- What the front promises over several calls. Each holds after every list of calls from an open answered 0 on (`Calls`), where the caller hands
+-- record and stores back untouched. This is the file to open first; the words of each promise stand at its statement.
+use Rattle.promises.specs.Examples.{Examples}
+use Rattle.promises.specs.Reached.{InRangeForEver, Never23}
+use Rattle.promises.specs.Fairness.{Fair}
+use Rattle.promises.specs.History.{History, SplitOnce, StatusTells, AfterFault}
+use Rattle.promises.specs.Alone.{Alone, Alike}
+
+pub record Promises : Type 0 where
+  -- T10: the record is in range, with its stores, so that no call answers 23
+  pub in-range : InRangeForEver
+  pub never-23 : Never23
+  -- T11, demand 2: what was received of an instance is what was handed out, in order, and what is held; what was put is what was sent, read back
+  -- by the layout, and what waits; each state is where the instance's own messages lead through the rows; the closing is the first fault's
+  pub history : History
+  pub split-once : SplitOnce
+  -- T12, demand 3: every byte that waits is inside one of so many next segments; nothing to send only when every queue is empty
+  pub fair : Fair
+  -- T13: status tells the history's counts and closing
+  pub status-tells : StatusTells
+  -- T14: what a take answers and writes rests on its own instance, on Accept and on the lent buffer, and only 1 or 20 on the closing
+  pub alone : Alone
+  pub alike : Alike
+  -- T15: after a fault nothing comes in and nothing is sent
+  pub after-fault : AfterFault
+  -- T16: P1 to P12
+  pub examples : Examples
