@@ -1,9 +1,10 @@
 // Text in a lent buffer, for the programs: each function writes at a place and answers the place behind
 // what it wrote. The rest of the buffer stays as it was.
 ghost use mathlib.Core.Path.{_≡_};
-ghost use Prim.Native.Nat.{_+_, _<_, _≤_};
+ghost use Prim.Native.Nat.{_+_, _/_, _%_, _<_, _≤_};
 ghost use lib.ListN.{length, set, take};
 ghost use lib.Seq.{sets};
+ghost use Rattle.io.specs.Digits.{glyph};
 ghost use Rattle.text.specs.Text.{Decimal};
 
 // One byte.
@@ -32,4 +33,25 @@ fn front(out: &mut [u8], at: usize, digits: &[u8; 20], k: usize)
     ensures { λ _. ⌜ now (out .exit) ≡ sets (now (out .entry)) at (take k (now (digits .entry))) ⌝ }
 {
     ring::copy(out, at, digits, 0, k);
+}
+
+// A byte in hex, two digits in lower case.
+pub fn hex(out: &mut [u8], at: usize, b: u8) -> usize
+    requires { ⌜ at + 2 ≤ length (now out) ⌝ }
+    ensures { λ r. ⌜ (r ≡ at + 2) × (now (out .exit) ≡ set (set (now (out .entry)) at (glyph (b / 16))) (at + 1) (glyph (b % 16))) ⌝ }
+{
+    out[at] = digit(b / 16);
+    out[at + 1] = digit(b % 16);
+    at + 2
+}
+
+// A digit below 10 is so far behind `0`, and one from 10 on so far behind what is ten before `a`.
+fn digit(d: u8) -> u8
+    requires { ⌜ d < 16 ⌝ }
+    ensures { λ r. ⌜ r ≡ glyph d ⌝ }
+{
+    if d < 10 {
+        return b'0' + d;
+    }
+    87 + d
 }
