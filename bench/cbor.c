@@ -2,234 +2,19 @@
    indefinite lengths, nesting, heads counted), and one that knows definite lengths only and counts nothing.
    Built and run by bench/cbor. Each time is the least of 31 runs, the walks in turn, so that what else the machine does
    counts little. With a size as its argument it times nothing, and walks one item of that size once: for a tool that
-   counts instructions. */
+   counts instructions. With `rows` or `growth` it prints rows of bench/run's tables: ratios to the plain walk that does
+   the same work, to memcpy, and, where it is installed, to libcbor's stream decoder with callbacks that do nothing. That
+   one checks no nesting and is found when the program runs. */
+#define _GNU_SOURCE
+#include <dlfcn.h>
 #include <stdint.h>
 #include <stdio.h>
 #include <stdlib.h>
 #include <string.h>
-#include <time.h>
+#include "item.h"
 
 extern size_t cbor_end(const uint8_t *, size_t, size_t);
 extern size_t cbor_heads(const uint8_t *, size_t, size_t);
-
-/* A block-like item: a header, and transactions of inputs, outputs, values, a fee and witnesses. */
-static uint8_t *out;
-static size_t len;
-static int endless, alike;
-static uint32_t seed, first = 1;
-
-static void byte(unsigned b) { out[len++] = b; }
-
-static void head(unsigned m, uint64_t v)
-{
-    int w = v < 24 ? 0 : v < 256 ? 1 : v < 65536 ? 2 : v >> 32 ? 8 : 4;
-    byte(m << 5 | (w == 0 ? v : w == 1 ? 24 : w == 2 ? 25 : w == 4 ? 26 : 27));
-    while (w--)
-        byte(v >> 8 * w & 255);
-}
-
-static void string(unsigned m, size_t n)
-{
-    head(m, n);
-    for (size_t i = 0; i < n; i++)
-        byte((i * 7 + n) & 255);
-}
-
-static void opened(unsigned m, uint64_t n)
-{
-    if (endless)
-        byte(m << 5 | 31);
-    else
-        head(m, n);
-}
-
-static void closed(void)
-{
-    if (endless)
-        byte(255);
-}
-
-static unsigned any(unsigned n)
-{
-    seed = seed * 1664525u + 1013904223u;
-    return (seed >> 8) % n;
-}
-
-static void input(void)
-{
-    opened(4, 2);
-    string(2, 32);
-    head(0, any(4));
-    closed();
-}
-
-static void output(void)
-{
-    opened(4, 2);
-    string(2, 57);
-    if (any(3)) {
-        head(0, 1000000 + any(16000000));
-    } else {
-        opened(4, 2);
-        head(0, 1500000 + any(16000000));
-        opened(5, 1);
-        string(2, 28);
-        opened(5, 2);
-        string(2, 5);
-        head(0, any(100000));
-        string(2, 8);
-        head(0, 1);
-        closed();
-        closed();
-        closed();
-    }
-    closed();
-}
-
-static void witness(void)
-{
-    opened(4, 2);
-    string(2, 32);
-    string(2, 64);
-    closed();
-}
-
-static void transaction(void)
-{
-    if (alike)
-        seed = first;
-    unsigned inputs = 1 + any(3), outputs = 1 + any(3);
-    opened(4, 2);
-    opened(5, 4);
-    head(0, 0);
-    opened(4, inputs);
-    while (inputs--)
-        input();
-    closed();
-    head(0, 1);
-    opened(4, outputs);
-    while (outputs--)
-        output();
-    closed();
-    head(0, 2);
-    head(0, 170000 + any(65536));
-    head(0, 3);
-    head(0, 40000000 + any(16000000));
-    closed();
-    opened(5, 2);
-    head(0, 0);
-    opened(4, 2);
-    witness();
-    witness();
-    closed();
-    head(0, 1);
-    opened(4, 2);
-    head(6, 24);
-    string(2, 20);
-    byte(0xf6);
-    closed();
-    closed();
-    closed();
-}
-
-static size_t build(uint8_t *b, size_t size, int indefinite)
-{
-    size_t n = 0;
-    endless = indefinite;
-    out = b;
-    for (len = 0, seed = first; len + 800 < size; n++)
-        transaction();
-    len = 0;
-    seed = first;
-    opened(4, 2);
-    opened(4, 3);
-    head(0, 7654321);
-    string(2, 32);
-    string(2, 200);
-    closed();
-    opened(4, n);
-    while (n--)
-        transaction();
-    closed();
-    closed();
-    return len;
-}
-
-/* The plain walk that does the same work. */
-struct told { long end, heads; };
-enum { INCOMPLETE = -1, BAD = -2 };
-enum { ITEMS, ELEMENTS, PAIRS, BYTES, TEXT };
-
-static struct told plain(const uint8_t *b, size_t n)
-{
-    uint64_t lefts[18], left = 1;
-    uint8_t kinds[18], kind = ITEMS;
-    int depth = 0;
-    size_t at = 0;
-    long heads = 0;
-    for (;;) {
-        while (kind == ITEMS && left == 0) {
-            if (depth == 0)
-                return (struct told){ at, heads };
-            depth--;
-            kind = kinds[depth];
-            left = lefts[depth];
-        }
-        if (at >= n)
-            return (struct told){ INCOMPLETE, heads };
-        unsigned i = b[at], m = i >> 5, a = i & 31;
-        size_t p = at + 1;
-        uint64_t v = a;
-        if (i == 255) {
-            if (kind == ITEMS || (kind == PAIRS && left % 2))
-                return (struct told){ BAD, heads };
-            kind = ITEMS;
-            left = 0;
-            heads++;
-            at = p;
-            continue;
-        }
-        if (kind >= BYTES && (m != kind - BYTES + 2u || a >= 28))
-            return (struct told){ BAD, heads };
-        if (m >= 4 && m <= 6 && depth == 16)
-            return (struct told){ BAD, heads };
-        if (a >= 24) {
-            if (a == 31 && m >= 2 && m <= 5) {
-                kinds[depth] = kind;
-                lefts[depth++] = left - 1;
-                kind = m == 2 ? BYTES : m == 3 ? TEXT : m == 4 ? ELEMENTS : PAIRS;
-                left = 0;
-                heads++;
-                at = p;
-                continue;
-            }
-            if (a >= 28)
-                return (struct told){ BAD, heads };
-            size_t w = (size_t)1 << (a - 24);
-            if (n - p < w)
-                return (struct told){ INCOMPLETE, heads };
-            v = 0;
-            for (size_t k = 0; k < w; k++)
-                v = v << 8 | b[p + k];
-            p += w;
-            if (m == 7 && w == 1 && v < 32)
-                return (struct told){ BAD, heads };
-        }
-        heads++;
-        left--;
-        if (m == 2 || m == 3) {
-            if (v > n - p)
-                return (struct told){ INCOMPLETE, heads };
-            p += v;
-        } else if (m >= 4 && m <= 6) {
-            kinds[depth] = kind;
-            lefts[depth++] = left;
-            kind = ITEMS;
-            left = m == 4 ? v : m == 5 ? 2 * v : 1;
-        }
-        at = p;
-    }
-}
 
 /* The plain walk that knows definite lengths only, and counts no heads. */
 static long lean(const uint8_t *b, long n)
@@ -313,13 +98,6 @@ static void walked_copies(void)
         sink += cbor_end(copies + i * part, part, 0);
 }
 
-static double now(void)
-{
-    struct timespec t;
-    clock_gettime(CLOCK_MONOTONIC, &t);
-    return t.tv_sec * 1e6 + t.tv_nsec * 1e-3;
-}
-
 /* The least times of the walks, run in turn. */
 enum { WALKS = 9, RUNS = 31 };
 static void times(double *least)
@@ -381,6 +159,105 @@ static void made(size_t wanted)
     }
 }
 
+/* libcbor (0.8 and 0.10): one head at a time. */
+struct decoded { size_t read; int status; size_t required; };
+static struct decoded (*decode)(const uint8_t *, size_t, const void *, void *);
+static const void *callbacks;
+
+static void found(void)
+{
+    void *lib = dlopen("libcbor.so.0.8", RTLD_NOW);
+    if (!lib)
+        lib = dlopen("libcbor.so.0.10", RTLD_NOW);
+    if (!lib)
+        return;
+    callbacks = dlsym(lib, "cbor_empty_callbacks");
+    *(void **)&decode = callbacks ? dlsym(lib, "cbor_stream_decode") : 0;
+}
+
+static long by_libcbor(const uint8_t *b, size_t n)
+{
+    size_t at = 0;
+    while (at < n) {
+        struct decoded d = decode(b + at, n - at, callbacks, 0);
+        if (d.status)
+            return BAD;
+        at += d.read;
+    }
+    return at;
+}
+
+/* An item's walks by their number: the proved one, plain C, memcpy, libcbor. */
+enum { PROVED, PLAIN, COPY, LIBCBOR, WAYS };
+static void *(*volatile copied)(void *, const void *, size_t) = memcpy;
+
+static long walk(int way, const uint8_t *b, size_t n)
+{
+    if (way == PROVED)
+        return cbor_end(b, n, 0);
+    if (way == PLAIN)
+        return plain(b, n).end;
+    if (way == COPY)
+        copied(copies, b, n);
+    return way == COPY ? (long)n : by_libcbor(b, n);
+}
+
+static void walks_timed(const uint8_t *b, size_t n, double *least)
+{
+    int rounds = 1 + 3000000 / (int)(n < 4000 ? 4000 : n), ways = decode ? WAYS : LIBCBOR;
+    for (int w = 0; w < ways; w++)
+        if (walk(w, b, n) != (long)n) {
+            puts("the walks do not agree");
+            exit(1);
+        }
+    for (int r = 0; r < RUNS; r++)
+        for (int w = 0; w < ways; w++) {
+            double begun = now();
+            for (int k = 0; k < rounds; k++)
+                sink += walk(w, b, n);
+            double t = (now() - begun) / rounds;
+            if (r == 0 || t < least[w])
+                least[w] = t;
+        }
+}
+
+static void row(const char *what, const uint8_t *b, size_t n, double bound)
+{
+    double t[WAYS];
+    walks_timed(b, n, t);
+    printf("| measure, %s: %zu bytes, %zu heads | %.2f | %.3f | ", what, n, cbor_heads(b, n, 0), t[PROVED] / t[PLAIN], t[COPY] / t[PROVED]);
+    if (decode)
+        printf("%.2f | ", t[PROVED] / t[LIBCBOR]);
+    else
+        printf("| ");
+    printf("at most %g × plain C | %s |\n", bound, t[PROVED] <= bound * t[PLAIN] ? "yes" : "no");
+}
+
+static void rows(void)
+{
+    found();
+    row("an item like a block", item, build(item, 65000, 0), 1.3);
+    row("the same, small", item, build(item, 1500, 0), 1.3);
+    row("the same, large", item, build(item, 128000, 0), 1.3);
+    row("all containers indefinite", item, build(item, 65000, 1), 2);
+    out = item;
+    len = 0;
+    string(2, 65000);
+    row("one string", item, len, 1.3);
+}
+
+static void growth(void)
+{
+    double a[WAYS], b[WAYS];
+    size_t n = build(item, 2000, 0);
+    walks_timed(item, n, a);
+    size = build(item, 128000, 0);
+    walks_timed(item, size, b);
+    double times = (double)size / n;
+    printf("| measure, an item of %zu bytes to one of %zu | %.2f | %.2f | %.2f |\n", size, n, b[PROVED] / a[PROVED] / times,
+           b[PLAIN] / a[PLAIN] / times, b[COPY] / a[COPY] / times);
+}
+
 static int walked_once(size_t wanted)
 {
     if (wanted > sizeof item)
@@ -393,6 +270,10 @@ static int walked_once(size_t wanted)
 int main(int argc, char **argv)
 {
     double t[WALKS];
+    if (argc == 2 && !strcmp(argv[1], "rows"))
+        return rows(), 0;
+    if (argc == 2 && !strcmp(argv[1], "growth"))
+        return growth(), 0;
     if (argc == 2)
         return walked_once(strtoul(argv[1], 0, 10));
     made(65000);
