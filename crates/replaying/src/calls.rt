@@ -6,8 +6,8 @@ use crate::STORE;
 use crate::answering;
 use crate::first;
 use crate::least;
-use crate::lent;
 use crate::lending;
+use crate::lent;
 use crate::with;
 use build::Built;
 use connection::Settings;
@@ -77,7 +77,14 @@ fn told(line: &[u8], w: Word) -> Name {
 }
 
 // Makes the call that a line spells.
-pub fn call(d: Desk, receive: &mut [u8], send: &mut [u8], line: &mut [u8], buf: &mut [u8], out: &mut [u8]) -> Desk {
+pub fn call(
+    d: Desk,
+    receive: &mut [u8],
+    send: &mut [u8],
+    line: &mut [u8],
+    buf: &mut [u8],
+    out: &mut [u8],
+) -> Desk {
     let w = script::first(line);
     let call = named(line, w);
     match call {
@@ -185,7 +192,10 @@ fn open(d: Desk, receive: &[u8], send: &[u8], line: &[u8], w: Word, out: &mut [u
     let middle = first_nine.last;
     let last_nine = read_capacities(line, middle);
     let end = last_nine.last;
-    if !base::and(script::last(line, end), base::and(first_nine.ok, last_nine.ok)) {
+    if !base::and(
+        script::last(line, end),
+        base::and(first_nine.ok, last_nine.ok),
+    ) {
         return bad(d, out);
     }
     let receives = first_nine.caps;
@@ -308,7 +318,15 @@ fn build(d: Desk, line: &mut [u8], w: Word, buf: &mut [u8], out: &mut [u8]) -> D
 }
 
 // NUMS PARTS LEN, the words after one.
-fn build_parts(d: Desk, i: u64, kind: u64, line: &mut [u8], w: Word, buf: &mut [u8], out: &mut [u8]) -> Desk {
+fn build_parts(
+    d: Desk,
+    i: u64,
+    kind: u64,
+    line: &mut [u8],
+    w: Word,
+    buf: &mut [u8],
+    out: &mut [u8],
+) -> Desk {
     let third = script::next(line, w);
     let fourth = script::next(line, third);
     let fifth = script::next(line, fourth);
@@ -326,7 +344,16 @@ fn build_parts(d: Desk, i: u64, kind: u64, line: &mut [u8], w: Word, buf: &mut [
 }
 
 // Builds into the lent buffer.
-fn built(d: Desk, i: u64, kind: u64, nums: Numbers, parts: Runs, line: &[u8], buf: &mut [u8], out: &mut [u8]) -> Desk {
+fn built(
+    d: Desk,
+    i: u64,
+    kind: u64,
+    nums: Numbers,
+    parts: Runs,
+    line: &[u8],
+    buf: &mut [u8],
+    out: &mut [u8],
+) -> Desk {
     fill(buf);
     let numbers = nums.numbers;
     let b = build_of(i, kind, numbers, nums.count, parts, line, buf);
@@ -335,13 +362,29 @@ fn built(d: Desk, i: u64, kind: u64, nums: Numbers, parts: Runs, line: &[u8], bu
 }
 
 // The numbers as a slice.
-fn build_of(i: u64, kind: u64, numbers: [u64; MOST_NUMBERS], count: usize, parts: Runs, line: &[u8], buf: &mut [u8]) -> Built {
+fn build_of(
+    i: u64,
+    kind: u64,
+    numbers: [u64; MOST_NUMBERS],
+    count: usize,
+    parts: Runs,
+    line: &[u8],
+    buf: &mut [u8],
+) -> Built {
     build_from(i, kind, &numbers, count, parts, line, buf)
 }
 
 // A message of the first of some numbers and of runs that are bytes of the line. Of three runs the last is counted, and
 // not handed over.
-fn build_from(i: u64, kind: u64, numbers: &[u64], count: usize, parts: Runs, line: &[u8], buf: &mut [u8]) -> Built {
+fn build_from(
+    i: u64,
+    kind: u64,
+    numbers: &[u64],
+    count: usize,
+    parts: Runs,
+    line: &[u8],
+    buf: &mut [u8],
+) -> Built {
     let starts = parts.starts;
     let lengths = parts.lengths;
     let a = script::within(line, starts[0], lengths[0]);
@@ -379,7 +422,15 @@ fn put(d: Desk, send: &mut [u8], line: &mut [u8], w: Word, out: &mut [u8]) -> De
 }
 
 // Puts n bytes of the line.
-fn queued(d: Desk, send: &mut [u8], i: u64, line: &[u8], at: usize, n: usize, out: &mut [u8]) -> Desk {
+fn queued(
+    d: Desk,
+    send: &mut [u8],
+    i: u64,
+    line: &[u8],
+    at: usize,
+    n: usize,
+    out: &mut [u8],
+) -> Desk {
     let s = lent(d.send, send);
     let p = script::within(line, at, n);
     let from = p.from;

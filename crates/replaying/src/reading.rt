@@ -1,6 +1,6 @@
 // Reading a script: lines are gathered from runs of bytes cut anywhere, and each is run when it is whole.
-use crate::Desk;
 use crate::CHUNK;
+use crate::Desk;
 use crate::LENT;
 use crate::LINE;
 use crate::STORE;
@@ -36,7 +36,15 @@ pub fn run(
 //
 // A proved loop has to end, and nothing says that the input does. So the loop counts its turns down, from a number that
 // no run uses up.
-fn run_from(d: Desk, receive: &mut [u8], send: &mut [u8], line: &mut [u8], buf: &mut [u8], out: &mut [u8], space: &mut [u8]) {
+fn run_from(
+    d: Desk,
+    receive: &mut [u8],
+    send: &mut [u8],
+    line: &mut [u8],
+    buf: &mut [u8],
+    out: &mut [u8],
+    space: &mut [u8],
+) {
     let mut read = begun(d, 0);
     let mut turns = u64::MAX;
     while 0 < turns {
@@ -58,7 +66,15 @@ fn begun(d: Desk, filled: usize) -> Read {
 }
 
 // Reads once, and runs the lines that end there.
-fn some(r: Read, receive: &mut [u8], send: &mut [u8], line: &mut [u8], buf: &mut [u8], out: &mut [u8], space: &mut [u8]) -> Read {
+fn some(
+    r: Read,
+    receive: &mut [u8],
+    send: &mut [u8],
+    line: &mut [u8],
+    buf: &mut [u8],
+    out: &mut [u8],
+    space: &mut [u8],
+) -> Read {
     let n = io::count(libc::read(STDIN_FILENO, space), space);
     if n == 0 {
         return rest(r, receive, send, line, buf, out);
@@ -67,7 +83,14 @@ fn some(r: Read, receive: &mut [u8], send: &mut [u8], line: &mut [u8], buf: &mut
 }
 
 // The last line may lack its line feed.
-fn rest(r: Read, receive: &mut [u8], send: &mut [u8], line: &mut [u8], buf: &mut [u8], out: &mut [u8]) -> Read {
+fn rest(
+    r: Read,
+    receive: &mut [u8],
+    send: &mut [u8],
+    line: &mut [u8],
+    buf: &mut [u8],
+    out: &mut [u8],
+) -> Read {
     let d = r.desk;
     Read {
         desk: last(d, receive, send, line, r.filled, buf, out),
@@ -76,7 +99,15 @@ fn rest(r: Read, receive: &mut [u8], send: &mut [u8], line: &mut [u8], buf: &mut
     }
 }
 
-fn last(d: Desk, receive: &mut [u8], send: &mut [u8], line: &mut [u8], n: usize, buf: &mut [u8], out: &mut [u8]) -> Desk {
+fn last(
+    d: Desk,
+    receive: &mut [u8],
+    send: &mut [u8],
+    line: &mut [u8],
+    n: usize,
+    buf: &mut [u8],
+    out: &mut [u8],
+) -> Desk {
     if n == 0 {
         return d;
     }
@@ -84,13 +115,30 @@ fn last(d: Desk, receive: &mut [u8], send: &mut [u8], line: &mut [u8], n: usize,
 }
 
 // The lines that end in a run of bytes, and the beginning of the one that does not.
-fn each(r: Read, receive: &mut [u8], send: &mut [u8], line: &mut [u8], buf: &mut [u8], out: &mut [u8], bytes: &[u8]) -> Read {
+fn each(
+    r: Read,
+    receive: &mut [u8],
+    send: &mut [u8],
+    line: &mut [u8],
+    buf: &mut [u8],
+    out: &mut [u8],
+    bytes: &[u8],
+) -> Read {
     let mut read = r;
     let mut from: usize = 0;
     while from < bytes.len() {
         let to = script::end(bytes, from, b'\n');
         let next = behind(to, bytes.len());
-        read = up_to(read, receive, send, line, buf, out, &bytes[from..to], to < bytes.len());
+        read = up_to(
+            read,
+            receive,
+            send,
+            line,
+            buf,
+            out,
+            &bytes[from..to],
+            to < bytes.len(),
+        );
         from = next;
     }
     read
@@ -104,7 +152,16 @@ fn behind(to: usize, n: usize) -> usize
 }
 
 // The bytes of a line up to its end, if it ends here.
-fn up_to(r: Read, receive: &mut [u8], send: &mut [u8], line: &mut [u8], buf: &mut [u8], out: &mut [u8], bytes: &[u8], ended: bool) -> Read {
+fn up_to(
+    r: Read,
+    receive: &mut [u8],
+    send: &mut [u8],
+    line: &mut [u8],
+    buf: &mut [u8],
+    out: &mut [u8],
+    bytes: &[u8],
+    ended: bool,
+) -> Read {
     let filled = gather(line, r.filled, bytes);
     let d = r.desk;
     if ended {
@@ -114,7 +171,15 @@ fn up_to(r: Read, receive: &mut [u8], send: &mut [u8], line: &mut [u8], buf: &mu
 }
 
 // A whole line is run, and the next begins.
-fn whole(d: Desk, receive: &mut [u8], send: &mut [u8], line: &mut [u8], n: usize, buf: &mut [u8], out: &mut [u8]) -> Read {
+fn whole(
+    d: Desk,
+    receive: &mut [u8],
+    send: &mut [u8],
+    line: &mut [u8],
+    n: usize,
+    buf: &mut [u8],
+    out: &mut [u8],
+) -> Read {
     begun(one(counted(d), receive, send, line, n, buf, out), 0)
 }
 
@@ -131,7 +196,15 @@ fn gather(line: &mut [u8], filled: usize, bytes: &[u8]) -> usize {
 }
 
 // Runs a line of n characters.
-fn one(d: Desk, receive: &mut [u8], send: &mut [u8], line: &mut [u8], n: usize, buf: &mut [u8], out: &mut [u8]) -> Desk {
+fn one(
+    d: Desk,
+    receive: &mut [u8],
+    send: &mut [u8],
+    line: &mut [u8],
+    n: usize,
+    buf: &mut [u8],
+    out: &mut [u8],
+) -> Desk {
     if line.len() < n {
         return calls::bad(d, out);
     }
