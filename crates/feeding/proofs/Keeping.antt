@@ -169,7 +169,7 @@ unfolding added
 spelt-added h b (l, s) t =
     cond-cases Spelt (ltb (h .count) headerLength) (λ q. (length-set (h .bytes) (h .count) b ∙ l, bytes-set (h .bytes) (h .count) b s t)) (λ q. (l, s))
 
-zeros : (k : ℕ) → Bytes (replicate k 0)
+pub zeros : (k : ℕ) → Bytes (replicate k 0)
 unfolding Bytes
 zeros zero = tt
 zeros (suc k) = (omega arith, zeros k)

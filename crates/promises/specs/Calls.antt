@@ -91,3 +91,7 @@ pub record Opened (s : Settings) (receive send : List ℕ) : Type 0 where
 -- the world that open leaves
 abbrev pub first : Settings → List ℕ → List ℕ → World
 first s receive send = record { connection = openOf s (length receive) (length send) .connection; receive = receive; send = send }
+
+-- there is such an open
+abbrev pub SomeOpened : Type 0
+SomeOpened = (s : Settings) × (receive : List ℕ) × (send : List ℕ) × Opened s receive send

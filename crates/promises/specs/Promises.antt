@@ -1,12 +1,15 @@
 -- What the front promises over several calls. Each holds after every list of calls from an open answered 0 on (`Calls`), where the caller hands
 -- record and stores back untouched. This is the file to open first; the words of each promise stand at its statement.
 use Rattle.promises.specs.Examples.{Examples}
+use Rattle.promises.specs.Calls.{SomeOpened}
 use Rattle.promises.specs.Reached.{InRangeForEver, Never23}
 use Rattle.promises.specs.Fairness.{Fair}
 use Rattle.promises.specs.History.{History, SplitOnce, StatusTells, AfterFault}
 use Rattle.promises.specs.Alone.{Alone, Alike}
 
 pub record Promises : Type 0 where
+  -- what the others suppose is met: there is an open answered 0
+  pub opened : SomeOpened
   -- T10: the record is in range, with its stores, so that no call answers 23
   pub in-range : InRangeForEver
   pub never-23 : Never23
