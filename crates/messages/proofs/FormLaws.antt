@@ -40,9 +40,9 @@ getD-map f [] n d e h = absurd (omega arith)
 getD-map f (x ∷ l) zero d e h = refl
 getD-map f (x ∷ l) (suc n) d e h = getD-map f l n d e (omega arith)
 
--- the table's cells are the forms' columns
-pub cell-form : (i c : ℕ) → i < formCount → getD (getD (map columns allForms) i []) c 0 ≡ getD (columns (formAt i)) c 0
-cell-form i c h = ap (λ (r : List ℕ). getD r c 0) (getD-map columns allForms i (form 0 []) [] h)
+-- the table's rows are document 01's forms, column by column
+pub row-at : (i : ℕ) → i < formCount → getD (map columns allForms) i [] ≡ columns (formAt i)
+row-at i h = getD-map columns allForms i (form 0 []) [] h
 
 -- no form has more than three fields
 few : ℕ → Form → Bool

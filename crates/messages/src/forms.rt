@@ -25,22 +25,22 @@ pub enum Listed {
 }
 
 // The fields by number.
-const ITEM: u64 = 0;
+const ITEM: u8 = 0;
 
-const ITEMS: u64 = 1;
+const ITEMS: u8 = 1;
 
-const PAIRS: u64 = 2;
+const PAIRS: u8 = 2;
 
-const VERSIONS: u64 = 3;
+const VERSIONS: u8 = 3;
 
-const WORD: u64 = 4;
+const WORD: u8 = 4;
 
-const BOOL: u64 = 5;
+const BOOL: u8 = 5;
 
-const VERSION: u64 = 6;
+const VERSION: u8 = 6;
 
 // Kind, number of fields, the fields; 0 where there is none.
-const FORMS: [[u64; 5]; 26] = [
+const FORMS: [[u8; 5]; 26] = [
     // Handshake: Propose, Accept, Refuse
     [0, 1, VERSIONS, 0, 0],
     [1, 2, VERSION, ITEM, 0],
@@ -101,21 +101,23 @@ fn count(p: Protocol) -> usize
 }
 
 // What stands in a column of row i.
-fn at(i: usize, column: usize) -> u64
+fn at(i: usize, column: usize) -> u8
     requires { ⌜ (i < formCount) × (column < 5) ⌝ }
     ensures { λ r. ⌜ r ≡ getD (columns (formAt i)) column 0 ⌝ }
 {
     FORMS[i][column]
 }
 
-// The row of a kind.
+// The row of a kind. The table is made anew wherever it is named: so once, before the search.
 pub fn find(p: Protocol, kind: u64) -> Listed
     ensures { λ r. ⌜ Finds p kind r ⌝ }
 {
+    let table = FORMS;
     let mut i = first(p);
     let end = i + count(p);
     while i < end {
-        if at(i, 0) == kind {
+        let row = table[i];
+        if row[0] as u64 == kind {
             return Listed::Row(i);
         }
         i += 1;
@@ -132,7 +134,7 @@ pub fn fields(i: usize) -> usize
 }
 
 // The field that a number in the table stands for.
-fn field_of(mark: u64) -> Field
+fn field_of(mark: u8) -> Field
     ensures { λ r. ⌜ r ≡ fieldOf mark ⌝ }
 {
     if mark == ITEM {
