@@ -22,12 +22,12 @@ pub fn base_of(caps: &[u64], i: usize) -> usize
     sum as usize
 }
 
-// Where in its area of cap bytes byte n of a stream is kept.
+// Where in its area of cap bytes byte n of a stream is kept. Most numbers are below the capacity and need no division.
 fn place_of(cap: usize, n: usize) -> usize
     requires { ⌜ 0 < cap ⌝ }
     ensures { λ r. ⌜ (r ≡ n % cap) × (r < cap) ⌝ }
 {
-    n % cap
+    if n < cap { n } else { n % cap }
 }
 
 // The smaller of two numbers.
