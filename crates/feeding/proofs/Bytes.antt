@@ -176,10 +176,10 @@ unfolding admission
 admission-by side caps held h d r e f = rw (f, e)
 
 pub heads-whole : (side : Side) (caps held : List ℕ) (w : Way) (b : ℕ) (h : Header) (a : Admission) (t : Turn) → h ≡ added (w .header) b
-    → leb headerLength (h .count) ≡ true → a ≡ admission side caps held h → Settles w a t → Heads side caps held w b t
+    → leb headerLength (h .count) ≡ true → a ≡ admission side caps held h → Settles w a 1 t → Heads side caps held w b t
 unfolding headed
 heads-whole side caps held w b h a t e q f k =
-    record { one = k .one; leaves = λ starts store. k .leaves starts held store ∙ rw (← e, q, f) }
+    record { one = k .uses; leaves = λ starts store. k .leaves starts held store ∙ rw (← e, q, f) }
 
 pub heads-part : (side : Side) (caps held : List ℕ) (w : Way) (b : ℕ) (h : Header) → h ≡ added (w .header) b → leb headerLength (h .count) ≡ false
     → Heads side caps held w b (record { way = record { header = h; instance = w .instance; rest = w .rest }; gate = Open; used = 1 })
@@ -226,13 +226,19 @@ ready-settled caps s n (To i) w r =
     })
     (λ e. record { areas = r .areas; wide = r .wide; many = r .many; each = r .each; under = r .under })
 
+pub ready-admission : (side : Side) (caps : List ℕ) (s : State) (h : Header) → Ready caps s
+    → Ready caps (settled s (admission side caps (s .receiving .held) h))
+unfolding admission
+ready-admission side caps s h r =
+    let d = decoded (h .bytes) in
+    ready-settled caps s (d .len) (routeOf side (d .protocol) (d .mode)) (route-within side (d .protocol) (d .mode)) r
+
 pub ready-headed : (side : Side) (caps : List ℕ) (s : State) (b : ℕ) → Ready caps s → Ready caps (headed side caps s b)
-unfolding headed admission
+unfolding headed
 ready-headed side caps s b r =
     let h = added (s .receiving .header) b in
-    let d = decoded (h .bytes) in
     cond-cases (Ready caps) (leb headerLength (h .count))
-    (λ e. ready-settled caps s (d .len) (routeOf side (d .protocol) (d .mode)) (route-within side (d .protocol) (d .mode)) r)
+    (λ e. ready-admission side caps s h r)
     (λ e. record { areas = r .areas; wide = r .wide; many = r .many; each = r .each; under = r .under })
 
 pub ready-kept : (caps : List ℕ) (s : State) (xs : List ℕ) → Ready caps s → 0 < s .receiving .rest → length xs ≤ s .receiving .rest → Ready caps (kept caps s xs)
@@ -290,27 +296,40 @@ module _ (side : Side) (caps starts held : List ℕ) (w : Way) (store xs : List 
         ready = subst (Ready caps) (sym (k .leaves starts store)) (ready-headed side caps s (getD xs at 0) r);
       }
 
+  -- a run of bytes whose law says to which state it leads
+  pub turn-run : (held′ store′ : List ℕ) (m : State) → 0 < t .used → at + t .used ≤ length xs
+      → state starts held′ (t .way) (t .gate) store′ ≡ m → Ready caps m
+      → ((ys : List ℕ)
+      → (fed side caps (state starts held w Open store) (run xs at (t .used) ++ ys) ≡ fed side caps m ys)
+      × (used side caps (state starts held w Open store) (run xs at (t .used) ++ ys) ≡ length (run xs at (t .used)) + used side caps m ys))
+      → Turns side caps starts held held′ w store store′ xs at t
+  turn-run held′ store′ m more ends leads ready law =
+      let s : State = state starts held w Open store in
+      let p : List ℕ = run xs at (t .used) in
+      let behind : List ℕ = drop (at + t .used) xs in
+      let long : length p ≡ t .used = run-length xs at (t .used) ends in
+      let cut : drop at xs ≡ p ++ behind = sym (take-append-drop (t .used) (drop at xs)) ∙ ap (λ (l : List ℕ). p ++ l) (drop-drop (t .used) at xs) in
+      let all = law behind in
+      record {
+        some = more;
+        ends = ends;
+        leaves = ap (λ (l : List ℕ). fed side caps s l) cut ∙ all .0 ∙ ap (λ (n : State). fed side caps n behind) (sym leads);
+        counts =
+            ap (λ (l : List ℕ). used side caps s l) cut ∙ all .1
+            ∙ ap (λ (n : State). length p + used side caps n behind) (sym leads)
+            ∙ ap (λ (n : ℕ). n + used side caps (state starts held′ (t .way) (t .gate) store′) behind) long;
+        ready = subst (Ready caps) (sym leads) ready;
+      }
+
   -- a run of payload bytes
   pub turn-kept : (held′ store′ : List ℕ) → 0 < w .rest → Keeps caps starts held held′ w store store′ xs at t
       → Turns side caps starts held held′ w store store′ xs at t
   turn-kept held′ store′ more k =
       let s : State = state starts held w Open store in
-      let n : State = state starts held′ (t .way) (t .gate) store′ in
       let p : List ℕ = run xs at (t .used) in
-      let behind : List ℕ = drop (at + t .used) xs in
       let long : length p ≡ t .used = run-length xs at (t .used) (k .ends) in
-      let cut : drop at xs ≡ p ++ behind = sym (take-append-drop (t .used) (drop at xs)) ∙ ap (λ (l : List ℕ). p ++ l) (drop-drop (t .used) at xs) in
-      let all = fed-kept side caps s p behind refl (omega (arith, k .some)) (omega (arith, k .within)) (omega (arith, r .under more .0, r .many)) in
-      record {
-        some = k .some;
-        ends = k .ends;
-        leaves = ap (λ (l : List ℕ). fed side caps s l) cut ∙ all .0 ∙ ap (λ (m : State). fed side caps m behind) (sym (k .leaves));
-        counts =
-            ap (λ (l : List ℕ). used side caps s l) cut ∙ all .1
-            ∙ ap (λ (m : State). length p + used side caps m behind) (sym (k .leaves))
-            ∙ ap (λ (m : ℕ). m + used side caps n behind) long;
-        ready = subst (Ready caps) (sym (k .leaves)) (ready-kept caps s p r more (omega (arith, k .within)));
-      }
+      turn-run held′ store′ (kept caps s p) (k .some) (k .ends) (k .leaves) (ready-kept caps s p r more (omega (arith, k .within)))
+      (λ ys. fed-kept side caps s p ys refl (omega (arith, k .some)) (omega (arith, k .within)) (omega (arith, r .under more .0, r .many)))
 
 -- the loop: what is left to feed leaves what all of it does
 pub record Running (side : Side) (caps : List ℕ) (s₀ : State) (xs : List ℕ) (s : State) (at : ℕ) : Type 0 where

@@ -1,10 +1,12 @@
 -- What only this crate's own functions cite.
 use Prim.Native.Nat.{ℕ, _+_, _-_, _≤_, _<_}
 use mathlib.Core.Path.{_≡_}
-use mathlib.Core.List.{List}
+use mathlib.Core.List.{List, [], _∷_}
 use lib.ListN.{length, getD, drop}
 use Rattle.ring.specs.Ring.{together, run}
+use Rattle.wire.specs.declared.segment.Header.{Header}
 use Rattle.wire.specs.declared.instances.Side.{Side}
+use Rattle.wire.specs.Segments.{headerLength, empty, added}
 use Rattle.wire.specs.Instances.{instances}
 use Rattle.connection.specs.declared.Gate.{Gate}
 use Rattle.connection.specs.declared.Gate.the-variants.{Open}
@@ -48,11 +50,21 @@ pub record Under (caps starts held : List ℕ) (w : Way) (n : ℕ) : Type 0 wher
   pub room : getD held (w .instance) 0 + w .rest ≤ getD caps (w .instance) 0
   pub small : getD caps (w .instance) 0 ≤ 131072
 
--- a turn uses one byte and leads to the state that a whole header does, and a header byte
-pub record Settles (w : Way) (a : Admission) (t : Turn) : Type 0 where
-  pub one : t .used ≡ 1
+-- a header record after bytes more, added one after the other
+unfoldable pub filled : Header → List ℕ → Header
+filled h [] = h
+filled h (b ∷ bs) = filled (added h b) bs
+
+-- the header whose eight bytes are those of xs from `at` on
+abbrev pub headerAt : List ℕ → ℕ → Header
+headerAt xs at = filled empty (run xs at headerLength)
+
+-- a turn uses n bytes and leads to the state that a whole header does
+pub record Settles (w : Way) (a : Admission) (n : ℕ) (t : Turn) : Type 0 where
+  pub uses : t .used ≡ n
   pub leaves : (starts held store : List ℕ) → state starts held (t .way) (t .gate) store ≡ settled (state starts held w Open store) a
 
+-- a turn uses one byte and leads to the state that a header byte does
 pub record Heads (side : Side) (caps held : List ℕ) (w : Way) (b : ℕ) (t : Turn) : Type 0 where
   pub one : t .used ≡ 1
   pub leaves : (starts store : List ℕ) → state starts held (t .way) (t .gate) store ≡ headed side caps (state starts held w Open store) b

@@ -1,7 +1,8 @@
 // Feed: a run of bytes, cut anywhere, goes into the receive store, segment by segment.
 //
-// What a run means is said byte by byte. The code takes header bytes one by one and payload bytes in runs. The range
-// is tested once for a call, the room once for a segment, and the record is put together once, at the end.
+// What a run means is said byte by byte. The code takes header bytes one by one, the eight of a header in one turn where
+// they are all there, and payload bytes in runs. The range is tested once for a call, the room once for a segment, and
+// the record is put together once, at the end.
 use connection::Closing;
 use connection::Connection;
 use connection::Gate;
@@ -10,18 +11,20 @@ use wire::instances::INSTANCES;
 use wire::instances::Route;
 use wire::instances::Side;
 use wire::segment::Header;
+use wire::segment::LENGTH;
 ghost use mathlib.Core.Path.{_≡_};
 ghost use mathlib.Core.Bool.{true};
 ghost use Prim.Native.Nat.{_+_, _-_, _≤_, _<_, min};
 ghost use lib.ListN.{length, getD};
 ghost use Rattle.ring.specs.Ring.{baseOf, laid, run};
 ghost use Rattle.wire.specs.Instances.{instances};
+ghost use Rattle.wire.specs.Segments.{headerLength};
 ghost use Rattle.wire.specs.declared.instances.Route.the-variants.{To};
 ghost use Rattle.connection.specs.declared.Gate.the-variants.{Open};
 ghost use Rattle.connection.specs.Closings.{numberOf};
 ghost use Rattle.connection.specs.Ranges.{receives};
 ghost use Rattle.feeding.specs.Feeding.{admitted, admission, instanceFor, left, fed, used, told, taken, feedOf};
-ghost use Rattle.feeding.specs.Inside.{state, Ready, Area, Under, Settles, Heads, Keeps, Turns};
+ghost use Rattle.feeding.specs.Inside.{state, Ready, Area, Under, headerAt, Settles, Heads, Keeps, Turns};
 
 // What a whole header leads to: a fault, or a payload for an instance and how many bytes it has.
 pub enum Admission {
@@ -83,8 +86,8 @@ fn instance_for(rest: u64, i: u64) -> u64
 }
 
 // The connection is closed, and the header record emptied.
-fn shut(w: Way, x: Closing) -> Turn
-    ensures { λ r. ⌜ Settles w (Admission.Fault x) r ⌝ }
+fn shut(w: Way, x: Closing, used: usize) -> Turn
+    ensures { λ r. ⌜ Settles w (Admission.Fault x) used r ⌝ }
 {
     let way = Way {
         header: Header::empty(),
@@ -94,13 +97,13 @@ fn shut(w: Way, x: Closing) -> Turn
     Turn {
         way,
         gate: Gate::Closed(x),
-        used: 1,
+        used,
     }
 }
 
 // A payload of n bytes begins.
-fn begin(w: Way, i: u64, n: u64) -> Turn
-    ensures { λ r. ⌜ Settles w (Admission.Payload i n) r ⌝ }
+fn begin(w: Way, i: u64, n: u64, used: usize) -> Turn
+    ensures { λ r. ⌜ Settles w (Admission.Payload i n) used r ⌝ }
 {
     let way = Way {
         header: Header::empty(),
@@ -110,16 +113,17 @@ fn begin(w: Way, i: u64, n: u64) -> Turn
     Turn {
         way,
         gate: Gate::Open,
-        used: 1,
+        used,
     }
 }
 
-fn settle(w: Way, a: Admission) -> Turn
-    ensures { λ r. ⌜ Settles w a r ⌝ }
+// What a whole header leads to; used counts the bytes of this turn.
+fn settle(w: Way, a: Admission, used: usize) -> Turn
+    ensures { λ r. ⌜ Settles w a used r ⌝ }
 {
     match a {
-        Admission::Fault(x) => shut(w, x),
-        Admission::Payload(i, n) => begin(w, i, n),
+        Admission::Fault(x) => shut(w, x, used),
+        Admission::Payload(i, n) => begin(w, i, n, used),
     }
 }
 
@@ -130,7 +134,7 @@ fn header_byte(side: Side, caps: &[u64; INSTANCES], held: &[u64; INSTANCES], w: 
     let old = w.header;
     let header = old.add(b);
     if header.whole() {
-        return settle(w, admit(side, caps, held, header));
+        return settle(w, admit(side, caps, held, header), 1);
     }
     let way = Way {
         header,
@@ -142,6 +146,36 @@ fn header_byte(side: Side, caps: &[u64; INSTANCES], held: &[u64; INSTANCES], w: 
         gate: Gate::Open,
         used: 1,
     }
+}
+
+// The header whose eight bytes are there from place `at` on, each added in its step. The steps are counted and begin
+// with an empty record, so the compiler makes one load of them.
+fn header_at(input: &[u8], at: usize) -> Header
+    requires { ⌜ at + headerLength ≤ length (now input) ⌝ }
+    ensures { λ r. ⌜ r ≡ headerAt (now (input .entry)) at ⌝ }
+{
+    let mut header = Header::empty();
+    let mut j: usize = 0;
+    while j < LENGTH {
+        header = header.add(input[at + j]);
+        j += 1;
+    }
+    header
+}
+
+// All eight bytes of a header.
+fn header_whole(
+    side: Side,
+    caps: &[u64; INSTANCES],
+    held: &[u64; INSTANCES],
+    w: Way,
+    input: &[u8],
+    at: usize,
+) -> Turn
+    requires { ⌜ at + headerLength ≤ length (now input) ⌝ }
+    ensures { λ r. ⌜ Settles w (admission side (now (caps .entry)) (now (held .entry)) (headerAt (now (input .entry)) at)) headerLength r ⌝ }
+{
+    settle(w, admit(side, caps, held, header_at(input, at)), LENGTH)
 }
 
 // Lays k bytes of input from place `at` on as byte n of the stream of instance i and those that follow it.
@@ -200,7 +234,8 @@ fn payload(
     }
 }
 
-// Of the payload under way as many bytes as there are, else one byte of a header.
+// Of the payload under way as many bytes as there are; else a header's eight bytes where none has come and all are
+// there, and one byte of it where not.
 fn part(
     side: Side,
     caps: &[u64; INSTANCES],
@@ -215,10 +250,14 @@ fn part(
     requires { ⌜ at < length (now input) ⌝ }
     ensures { λ r. ⌜ Turns side (now (caps .entry)) (now (starts .entry)) (now (held .entry)) (now (held .exit)) w (now (store .entry)) (now (store .exit)) (now (input .entry)) at r ⌝ }
 {
-    if w.rest == 0 {
-        return header_byte(side, caps, held, w, input[at]);
+    if 0 < w.rest {
+        return payload(caps, starts, held, w, store, input, at);
     }
-    payload(caps, starts, held, w, store, input, at)
+    let header = w.header;
+    if base::and(header.count == 0, LENGTH <= input.len() - at) {
+        return header_whole(side, caps, held, w, input, at);
+    }
+    header_byte(side, caps, held, w, input[at])
 }
 
 // All of input, or up to the byte that closes; used counts from its front.

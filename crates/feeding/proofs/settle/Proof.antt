@@ -8,10 +8,10 @@ use Rattle.feeding.proofs.settle.Statement.{statement}
 use Rattle.feeding.proofs.settle.Tie as tie
 
 returns : tie.Need-returns
-returns c = subst (λ (a : Admission). Settles (c .before .before .before .before .args .w) a (c .shut .result)) (sym (c .before .before .a .given .1)) (c .shut .ensures)
+returns c = subst (λ (a : Admission). Settles (c .before .before .before .before .args .w) a (c .before .before .before .before .args .used) (c .shut .result)) (sym (c .before .before .a .given .1)) (c .shut .ensures)
 
 returns-2 : tie.Need-returns-2
-returns-2 c = subst (λ (a : Admission). Settles (c .before .before .before .before .args .w) a (c .begin .result)) (sym (c .before .before .a2 .given .1)) (c .begin .ensures)
+returns-2 c = subst (λ (a : Admission). Settles (c .before .before .before .before .args .w) a (c .before .before .before .before .args .used) (c .begin .result)) (sym (c .before .before .a2 .given .1)) (c .begin .ensures)
 
 pub settle-spec : {M : Type 1} → statement M
 settle-spec =
