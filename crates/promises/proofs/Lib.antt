@@ -22,4 +22,8 @@ pub mod HistorySends
 pub mod HistoryItems
 pub mod History
 pub mod Alone
+pub mod ArrivalSegments
+pub mod ArrivalTaken
+pub mod ArrivalMet
+pub mod Arrival
 pub mod Promises

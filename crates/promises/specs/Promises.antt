@@ -6,10 +6,18 @@ use Rattle.promises.specs.Reached.{InRangeForEver, Never23}
 use Rattle.promises.specs.Fairness.{Fair}
 use Rattle.promises.specs.History.{History, SplitOnce, StatusTells, AfterFault}
 use Rattle.promises.specs.Alone.{Alone, Alike}
+use Rattle.promises.specs.Arrival.{Glued, AllThere, BuiltIsTaken, Journey, SomeDue}
 
 pub record Promises : Type 0 where
   -- what the others suppose is met: there is an open answered 0
   pub opened : SomeOpened
+  -- T9 (c): what is put at one end is what the other end was handed and holds, what is in flight and what waits; and a message that was built, put,
+  -- sent in any segments and fed is what is taken, with build's kind, numbers and runs; and there is such a message
+  pub glued : Glued
+  pub all-there : AllThere
+  pub built-is-taken : BuiltIsTaken
+  pub journey : Journey
+  pub some-due : SomeDue
   -- T10: the record is in range, with its stores, so that no call answers 23
   pub in-range : InRangeForEver
   pub never-23 : Never23
