@@ -24,18 +24,29 @@ ghost use Rattle.connection.specs.Ranges.{limitOk, capacityOk, settingsO
 ghost use Rattle.connection.specs.Inside.{capacitiesIn, areaIn, receivingIn, sendingIn, statesIn, acceptIn, Small};
 ghost use Rattle.connection.specs.declared.Closing.the-variants.{Of};
 
+// The payload limit S goes from 1 up to this.
+pub const MOST_LIMIT: u64 = 65535;
+
+// Capacities go from the one up to the other.
+pub const LEAST_CAPACITY: u64 = 16;
+
+pub const MOST_CAPACITY: u64 = 131072;
+
+// The payload limit.
 fn limit_ok(s: u64) -> bool
     ensures { λ r. ⌜ r ≡ limitOk s ⌝ }
 {
-    base::and(1 <= s, s <= 65535)
+    base::and(1 <= s, s <= MOST_LIMIT)
 }
 
+// A capacity.
 fn capacity_ok(c: u64) -> bool
     ensures { λ r. ⌜ r ≡ capacityOk c ⌝ }
 {
-    base::and(16 <= c, c <= 131072)
+    base::and(LEAST_CAPACITY <= c, c <= MOST_CAPACITY)
 }
 
+// All capacities, receiving and sending.
 fn capacities_ok(receive: [u64; INSTANCES], send: [u64; INSTANCES]) -> bool
     ensures { λ r. ⌜ r ≡ allBelow (capacitiesIn receive send) instances ⌝ }
 {
@@ -126,6 +137,7 @@ fn sending_ok(caps: [u64; INSTANCES], starts: [u64; INSTANCES], waiting: [u64; I
     true
 }
 
+// States are the protocol's: none is above its last.
 fn states_ok(states: [u64; INSTANCES]) -> bool
     ensures { λ r. ⌜ r ≡ allBelow (statesIn states) instances ⌝ }
 {
@@ -138,6 +150,7 @@ fn states_ok(states: [u64; INSTANCES]) -> bool
     ok
 }
 
+// The header record has fewer than eight bytes, none with a payload under way, whose instance is one.
 fn header_ok(r: Receiving) -> bool
     ensures { λ b. ⌜ b ≡ headerOk r ⌝ }
 {
@@ -149,6 +162,7 @@ fn header_ok(r: Receiving) -> bool
     )
 }
 
+// Accept is marked only with Handshake at Done.
 fn accept_ok(accepted: bool, states: [u64; INSTANCES]) -> bool
     ensures { λ r. ⌜ r ≡ acceptIn accepted states ⌝ }
 {
@@ -173,6 +187,7 @@ fn named(n: u64, i: u64) -> bool
     base::or(base::and(n == 12, i == 0), late)
 }
 
+// Open, or closed by a closing that a fault leaves.
 fn gate_ok(g: Gate) -> bool
     ensures { λ r. ⌜ r ≡ gateOk g ⌝ }
 {
