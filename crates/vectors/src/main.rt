@@ -31,6 +31,7 @@ fn main() {
     each(b"8181818181818181818181818181818100 8181818181818181818181818181818181");
     io::write_all(STDOUT_FILENO, b"Easy to get wrong\n");
     nested();
+    chunks();
     greatest();
 }
 
@@ -110,6 +111,11 @@ fn nested() {
     each(b"c0c0c0c0c0c0c0c0c0c0c0c0c0c0c0c0d8 9f9f9f9f9f9f9f9f9f9f9f9f9f9f9f9f9b");
     each(b"9f9f9f9f9f9f9f9f9f9f9f9f9f9f9f9fffffffffffffffffffffffffffffffff");
     each(b"818181818181818181818181818181815f4100ff 8181818181818181818181818181818140");
+}
+
+// A chunk is a string of the same type, and known to be none by its first byte; a pair is a key and a value.
+fn chunks() {
+    each(b"5f4100ff 5f61 7f6100ff a10001");
 }
 
 // As many bytes, elements and pairs as can be announced are merely incomplete; bytes after an item are not the item's;
