@@ -157,7 +157,7 @@ fn header_ok(r: Receiving) -> bool
     let h = r.header;
     let under_way = base::and(h.count == 0, r.instance < INSTANCES as u64);
     base::and(
-        h.count < wire::segment::LENGTH,
+        h.count < wire::segment::HEADER,
         base::or(r.rest == 0, under_way),
     )
 }

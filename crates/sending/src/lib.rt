@@ -11,7 +11,7 @@ use connection::range::sends;
 use ready::Choice;
 use wire::instances::INSTANCES;
 use wire::instances::Side;
-use wire::segment::LENGTH;
+use wire::segment::HEADER;
 use wire::segment::Segment;
 ghost use mathlib.Core.Path.{_≡_};
 ghost use mathlib.Core.Bool.{true};
@@ -81,7 +81,7 @@ fn serve_instance(c: Connection, store: &[u8], time: u32, buf: &mut [u8], i: usi
     let starts = sending.starts;
     let waiting = sending.waiting;
     let n = smaller(settings.limit, at(waiting, i));
-    let len = LENGTH + n as usize;
+    let len = HEADER + n as usize;
     if buf.len() < len {
         return unmade(c, 18);
     }
@@ -122,7 +122,7 @@ fn put_payload(buf: &mut [u8], store: &[u8], caps: [u64; INSTANCES], i: usize, s
 {
     let cap = at(caps, i) as usize;
     let base = ring::base_of(&caps, i);
-    ring::read(buf, LENGTH, store, base, cap, start as usize, n as usize);
+    ring::read(buf, HEADER, store, base, cap, start as usize, n as usize);
 }
 
 // n bytes of instance i are sent: their room is used again, and the turn moves.
