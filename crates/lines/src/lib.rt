@@ -15,7 +15,7 @@ pub fn print_run(l: Listing, run: &[u8]) -> Listing
     let mut known = l;
     let mut from = 0;
     while from < run.len() {
-        let t = known.turn(run, from);
+        let t = known.step(run, from);
         let line = t.line;
         print_line(line);
         let next = t.listing;
