@@ -1,4 +1,4 @@
--- Laws of lists that several rooms need and the kit has not.
+-- Laws of lists that several crates need and the kit has not.
 -- Assumes nothing.
 use mathlib.Core.Path.{_≡_, refl, sym, ap, _∙_}
 use mathlib.Core.List.{List, [], _∷_, _++_, map}
