@@ -1,6 +1,6 @@
 -- What the usual heads do, at any frame of items: one law for each way out of the code.
 -- Assumes nothing.
-use Prim.Native.Nat.{ℕ, _+_, _*_, _-_, _≤_, _<_, _/_, _%_}
+use Prim.Native.Nat.{ℕ, _+_, _*_, _-_, _^_, _≤_, _<_, _/_, _%_}
 use mathlib.Core.List.{List, _++_}
 use mathlib.Core.Bool.{Bool, true, false, cond}
 use mathlib.Core.Option.{some}
@@ -10,6 +10,8 @@ use lib.ListN.{length, drop, getD, length-append}
 use lib.Seq.{drop-cons}
 use native.Mathlib.Omega.{arith}
 use borrow.Author.Tests.{lt-ltb, ltb-true, ltb-false, ne-eqb, eqb-true, eqb-false}
+use Rattle.base.specs.Numbers.{spelled, number}
+use Rattle.ring.specs.Ring.{run}
 use Rattle.head.specs.Initial.{initial, majorOf}
 use Rattle.head.specs.declared.Major.{Major}
 use Rattle.head.specs.declared.Major.the-variants.{Array, Map}
@@ -17,7 +19,7 @@ use Rattle.head.specs.declared.Initial.the-variants.{Short, Long, Indefinite}
 use Rattle.item.specs.Grammar.{Frame, Items, Content, Argument, content, indefinite, enter, nesting}
 use Rattle.item.specs.Verdict.{Stack, push}
 use Rattle.cbor.specs.Walk.{frameOf, tell}
-use Rattle.cbor.specs.Inside.Frames.{kept, Wants, roomFor, number, widthOf, smallOf}
+use Rattle.cbor.specs.Inside.Frames.{kept, Wants, roomFor, widthOf, smallOf}
 use Rattle.cbor.specs.Inside.Moves.{Goes, Passes, Enters, Breaks}
 use Rattle.cbor.proofs.Tell.{tell-one, tell-string}
 use Rattle.cbor.proofs.Frames.{tell-into, room-some, indefinite-some}
@@ -36,7 +38,7 @@ module _ (xs : List ℕ) (at d : ℕ) (l : at < length xs) where
       (w .items (nesting - d) (Short m v) ∙ room-some m d (content m v) r)
 
   heads-long : (m : Major) (j : ℕ) → initial (getD xs at 0) ≡ Long m j → roomFor m d ≡ true → at + 1 + j < length xs
-      → Heads xs at d (content m (number 0 (j + 1) (drop (at + 1) xs))) (at + 1 + (j + 1))
+      → Heads xs at d (content m (number (run xs (at + 1) (j + 1)))) (at + 1 + (j + 1))
   unfolding enter
   heads-long m j e r q f w ys fs h =
       long-head (xs ++ ys) at h (nesting - d) f fs (longer xs ys at l) (w .holds) (w .unspent) m j (here xs ys at l e)
@@ -153,8 +155,8 @@ width-some i h l = of (eqb i 24) (eqb i 25) (eqb i 26) (eqb i 27) refl refl refl
         let z : i ≡ 27 → ⊥ = eqb-false _ _ s in
         absurd (omega arith)
 
-number-one : (xs : List ℕ) (p : ℕ) → p < length xs → number 0 1 (drop p xs) ≡ getD xs p 0
-unfolding number
+number-one : (xs : List ℕ) (p : ℕ) → p < length xs → number (run xs p 1) ≡ getD xs p 0
+unfolding spelled
 number-one xs p h = rw (drop-cons xs p 0 h) (omega arith)
 
 -- A head at a place with eight bytes after it.
@@ -179,8 +181,8 @@ module _ (xs : List ℕ) (at d b : ℕ) (l : at + 8 < length xs) (e : b ≡ getD
           let w = width-most (b % 32) in
           let u = width-some (b % 32) (ltb-false _ _ q) h in
           let z : at + 1 + (widthOf (b % 32) - 1 + 1) ≡ at + 1 + widthOf (b % 32) = omega arith in (
-            number 0 (widthOf (b % 32) - 1 + 1) (drop (at + 1) xs),
-            subst (λ (p : ℕ). Heads xs at d (content (majorOf (b / 32)) (number 0 (widthOf (b % 32) - 1 + 1) (drop (at + 1) xs))) p) z
+            number (run xs (at + 1) (widthOf (b % 32) - 1 + 1)),
+            subst (λ (p : ℕ). Heads xs at d (content (majorOf (b / 32)) (number (run xs (at + 1) (widthOf (b % 32) - 1 + 1)))) p) z
                 (heads-long xs at d at-here (majorOf (b / 32)) (widthOf (b % 32) - 1) (ap initial (sym e) ∙ long-initial b (ltb-false _ _ q) h n) r (omega arith)),
           )
 
@@ -221,7 +223,7 @@ module _ (xs : List ℕ) (at d b : ℕ) (l : at + 8 < length xs) (e : b ≡ getD
       of false p =
           let i : 24 ≤ b % 32 = ltb-false _ _ p in
           let i′ : b % 32 ≡ 24 = omega arith in
-          let x : number 0 1 (drop (at + 1) xs) ≡ v = number-one xs (at + 1) (omega arith) ∙ sym (z ∙ ap (λ (t : Bool). cond t (b % 32) (getD xs (at + 1) 0)) p) in
+          let x : number (run xs (at + 1) 1) ≡ v = number-one xs (at + 1) (omega arith) ∙ sym (z ∙ ap (λ (t : Bool). cond t (b % 32) (getD xs (at + 1) 0)) p) in
           let y : at + 1 + (0 + 1) ≡ at + 1 + widthOf (b % 32) = rw i′ in
           subst (λ (p : ℕ). Heads xs at d (content (majorOf m) v) p) y
           (subst (λ (n : ℕ). Heads xs at d (content (majorOf m) n) (at + 1 + (0 + 1))) x
@@ -266,13 +268,13 @@ module _ (xs : List ℕ) (at d b : ℕ) (l : at + 8 < length xs) (e : b ≡ getD
       (subst (λ (n : ℕ). Heads xs at d (content (majorOf (b / 32)) (t .0)) n) (sym z) (t .1))
 
   -- an array or a map that goes up to a break; a break
-  pub open-array : b ≡ 159 → d < nesting → Enters xs at d (at + 1) 2 9223372036854775808
+  pub open-array : b ≡ 159 → d < nesting → Enters xs at d (at + 1) 2 (2 ^ 63)
   unfolding initial indefinite
-  open-array q z = enters-open xs at d at-here Array 2 9223372036854775808 (ap initial (sym e ∙ q)) (lt-ltb d nesting z) refl (omega arith) z
+  open-array q z = enters-open xs at d at-here Array 2 (2 ^ 63) (ap initial (sym e ∙ q)) (lt-ltb d nesting z) refl (omega arith) z
 
-  pub open-map : b ≡ 191 → d < nesting → Enters xs at d (at + 1) 3 9223372036854775808
+  pub open-map : b ≡ 191 → d < nesting → Enters xs at d (at + 1) 3 (2 ^ 63)
   unfolding initial indefinite
-  open-map q z = enters-open xs at d at-here Map 3 9223372036854775808 (ap initial (sym e ∙ q)) (lt-ltb d nesting z) refl (omega arith) z
+  open-map q z = enters-open xs at d at-here Map 3 (2 ^ 63) (ap initial (sym e ∙ q)) (lt-ltb d nesting z) refl (omega arith) z
 
   pub is-break : b ≡ 255 → Breaks xs at (at + 1)
   unfolding initial

@@ -1,4 +1,4 @@
--- `cbor::text` meets its contract: the argument is in the first byte or in the next, and the string is there.
+-- `cbor::short_string` meets its contract: the argument is in the first byte or in the next, and the string is there.
 -- Assumes nothing.
 use mathlib.Core.Path.{_≡_, ap, _∙_}
 use native.Mathlib.Omega.{arith}
@@ -7,8 +7,8 @@ use lib.ListN.{getD}
 use borrow.Author.Needs.{needs}
 use Rattle.cbor.specs.Inside.Frames.{widthOf, smallOf}
 use Rattle.cbor.proofs.UsualHeads.{width-most, pass-string}
-use Rattle.cbor.proofs.text.Statement.{statement}
-use Rattle.cbor.proofs.text.Tie as tie
+use Rattle.cbor.proofs.short_string.Statement.{statement}
+use Rattle.cbor.proofs.short_string.Tie as tie
 
 returns : tie.Need-returns
 returns c =
@@ -43,8 +43,8 @@ returns-3 : tie.Need-returns-3
 returns-3 c =
     λ xs d b e q x i k l. tt
 
-pub text-spec : {M : Type 1} → statement M
-text-spec =
+pub short-string-spec : {M : Type 1} → statement M
+short-string-spec =
     tie.close
     (tie.spec
     returns
