@@ -31,7 +31,9 @@ use Rattle.messages.specs.declared.Answer as messages
 use Rattle.messages.specs.Matching.{begun}
 use Rattle.connection.specs.declared.Settings.{Settings}
 use Rattle.connection.specs.declared.Connection.{Connection}
-use Rattle.connection.specs.Closings.{isOpen}
+use Rattle.connection.specs.declared.Gate.{Gate}
+use Rattle.connection.specs.declared.Gate.the-variants.{Open, Closed}
+use Rattle.connection.specs.Closings.{isOpen, closingOf}
 use Rattle.connection.specs.Ranges.{receives}
 use Rattle.judging.specs.declared.Judged.{Judged}
 use Rattle.judging.specs.Judging.{stateOf, ours, unjudged, byRow, byReading, judgedOf}
@@ -42,7 +44,7 @@ use Rattle.promises.specs.Calls.{Answer, taken, World, step, first}
 use Rattle.promises.specs.Reached.{Reached}
 use Rattle.promises.specs.History.{Past, bytesIn, Act, messageIn, acts, handedBy, handedFor, receivedIn, Moves, Walks, rests, moves}
 use Rattle.promises.specs.History.{firstFault, Tells}
-use Rattle.promises.specs.Alone.{Seen, seenBy, but, twentyForOne, Alone, Alike}
+use Rattle.promises.specs.Alone.{Seen, anyClosing, seenBy, but, twentyForOne, Alone, Alike}
 use Rattle.promises.proofs.Ways.{Judges, no-message, message, judges}
 use Rattle.promises.proofs.HistoryCalls.{Good, good-receives}
 use Rattle.promises.proofs.HistoryRuns.{good}
@@ -225,9 +227,10 @@ give-same : (i : ℕ) (buf : List ℕ) {side side′ : Side} {state state′ : �
     → give hs buf (judge side i state a o hs) ≡ give hs′ buf (judge side′ i state′ a′ o′ hs′)
 give-same i buf p q r t u = rw (p, q, r, t, u)
 
-not-not : (b : Bool) → b ≡ not (not b)
-not-not true = refl
-not-not false = refl
+-- open, or there is a closing
+open-or-closed : (g : Gate) → isOpen g ≡ not (anyClosing (closingOf g))
+open-or-closed Open = refl
+open-or-closed (Closed x) = refl
 
 -- a take in a world that the history tells of
 take-seen : (s : Settings) (past : Past) (w : World) → Reached s w → Tells s past w → (segments : List Carried) (left : List ℕ)
@@ -244,7 +247,7 @@ take-seen s past w k t segments left d i buf =
     rw y
     (take-is w i buf (good k) l
     ∙ give-same i buf (ap (λ (u : Settings). u .side) (k .settings)) (sym (state-is (t .talks .states i l))) (t .talks .accepted)
-    (ap isOpen (t .closes) ∙ not-not (isOpen (firstFault (s .side) [] past)))
+    (rw (← t .closes) (open-or-closed (w .connection .gate)))
     (unread-is (seenBy (s .side) past segments left i) (taking.heldOf (w .connection) (w .receive) i) came)))
     (λ y. rw y (take-beyond w i buf (good k) y))
 

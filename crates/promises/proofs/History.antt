@@ -40,7 +40,7 @@ ties-next s past w c real k k′ t =
       held = held-after s past w c real k k′ (t .held);
       waits = waits-after s past w c real k (t .waits);
       talks = talks-next s past w c real k k′ (t .talks);
-      closes = closes-after s past w c k k′ (t .held) (t .closes);
+      closes = closes-after s past w c k (t .held) (t .closes);
     }
 
 -- ---- status
