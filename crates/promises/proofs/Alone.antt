@@ -4,7 +4,7 @@ use mathlib.Core.Path.{_≡_, refl, sym, ap, _∙_}
 use mathlib.Core.Bool.{Bool, true, false, cond, not, _&&_}
 use mathlib.Core.List.{List, [], _∷_, _++_, flatMap}
 use mathlib.Core.Logic.{_≢_}
-use Prim.Native.Nat.{ℕ, _+_, _≤_, _<_}
+use Prim.Native.Nat.{ℕ, _≤_, _<_}
 use native.Mathlib.Omega.{arith}
 use borrow.Author.Tests.{ne-eqb, eqb-true, eqb-false, lt-ltb, ltb-true}
 use lib.Dec.{eqb, ltb}
@@ -34,7 +34,6 @@ use Rattle.connection.specs.declared.Connection.{Connection}
 use Rattle.connection.specs.declared.Gate.{Gate}
 use Rattle.connection.specs.declared.Gate.the-variants.{Open, Closed}
 use Rattle.connection.specs.Closings.{isOpen, closingOf}
-use Rattle.connection.specs.Ranges.{receives}
 use Rattle.judging.specs.declared.Judged.{Judged}
 use Rattle.judging.specs.Judging.{stateOf, ours, unjudged, byRow, byReading, judgedOf}
 use Rattle.taking.specs.Taking as taking
@@ -43,12 +42,11 @@ use Rattle.promises.specs.Calls as calls
 use Rattle.promises.specs.Calls.{Answer, taken, World, step, first}
 use Rattle.promises.specs.Reached.{Reached}
 use Rattle.promises.specs.History.{Past, bytesIn, Act, messageIn, acts, handedBy, handedFor, receivedIn, Moves, Walks, rests, moves}
-use Rattle.promises.specs.History.{firstFault, Tells}
+use Rattle.promises.specs.History.{Tells}
 use Rattle.promises.specs.Alone.{Seen, anyClosing, seenBy, but, twentyForOne, Alone, Alike}
 use Rattle.promises.proofs.Ways.{Judges, no-message, message, judges}
-use Rattle.promises.proofs.HistoryCalls.{Good, good-receives}
-use Rattle.promises.proofs.HistoryRuns.{good}
-use Rattle.promises.proofs.Reached.{in-range-for-ever}
+use Rattle.promises.proofs.Reached.{reached-receives, in-range-for-ever}
+use Rattle.promises.proofs.HistoryCalls.{Good, good}
 use Rattle.promises.proofs.History.{history}
 
 -- ---- the function
@@ -197,12 +195,12 @@ module _ (w : World) (i : ℕ) (buf : List ℕ) where
   unfolding step taking.takeOf taking.judgeOf judge early
   take-is g l =
       let n : ℕ = taking.earlyOf c i in
-      rw (good-receives w g, lt-ltb i instances l, held-long)
+      rw (reached-receives g, lt-ltb i instances l, held-long)
       (by-test (eqb n 0) (λ t. rw t (verdicts (verdict held) refl)) (λ t. rw t (gives (unjudged n) (λ z. absurd (eqb-false n 0 t z)))))
 
   take-beyond : Good w → ltb i instances ≡ false → step w (calls.take i buf) .answer ≡ taken 10 0 (begun 0) buf
   unfolding step taking.takeOf
-  take-beyond g t = rw (good-receives w g, t)
+  take-beyond g t = rw (reached-receives g, t)
 
 -- ---- by the history
 

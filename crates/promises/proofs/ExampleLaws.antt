@@ -27,4 +27,4 @@ unfolding allBelow spelled octets baseOf laid stream headAt headBy longAt simple
     wordOf countOf lowestFrom seek settingsOk speaks inRange statusOf serve nextOf made
     feeding.feedOf feeding.taken feeding.used feeding.fed feeding.step feeding.kept feeding.headed feeding.admission
 examples =
-    ((refl, refl, refl, refl), ((refl, refl, refl, refl), (refl, (refl, (refl, (refl, (refl, (refl, (refl, (refl, (refl, (refl, (refl, (refl, (refl, (refl, ((refl, refl), tt)))))))))))))))))
+    ((refl, refl, refl, refl, refl), ((refl, refl, refl, refl, refl), (refl, (refl, (refl, (refl, (refl, (refl, (refl, (refl, (refl, (refl, (refl, (refl, (refl, (refl, ((refl, refl), tt)))))))))))))))))

@@ -3,18 +3,14 @@
 -- Assumes nothing.
 use mathlib.Core.Path.{_≡_, refl, sym, ap, _∙_}
 use mathlib.Core.Bool.{true, false, true≢false, cond}
-use mathlib.Core.List.{List, [], _∷_, _++_, append-nil, append-assoc, flatMap}
-use mathlib.Core.Logic.{_≢_}
+use mathlib.Core.List.{List, [], _∷_, _++_, append-nil, append-assoc}
 use Prim.Native.Nat.{ℕ, suc, _+_, _-_, _≤_, _<_}
 use native.Mathlib.Omega.{arith}
 use borrow.Author.Tests.{eq-eqb, ne-eqb, eqb-true, eqb-false, leb-true, leb-false}
 use lib.Dec.{eqb, leb}
 use lib.ListN.{length, getD, take, length-set, length-append}
-use lib.Seq.{getD-set-same, getD-set-other}
 use Rattle.base.proofs.Conds.{by-test, cond-cases}
 use Rattle.ring.specs.Ring.{baseOf, together, stream}
-use Rattle.ring.proofs.Stores.{stream-behind}
-use Rattle.ring.proofs.Areas.{area-in-store, stream-stays}
 use Rattle.wire.specs.declared.segment.Header.{Header}
 use Rattle.wire.specs.declared.instances.Side.{Side}
 use Rattle.wire.specs.declared.instances.Route.{Route}
@@ -28,6 +24,7 @@ use Rattle.feeding.specs.Feeding.{State, admitted, admission, settled, headed, 
 use Rattle.feeding.proofs.Bytes.{step-headed, step-kept, fed-closed}
 use Rattle.feeding.proofs.Keeping.{Kept, kept-fed}
 use Rattle.promises.specs.History.{payloadFor, receivedIn}
+use Rattle.promises.proofs.Streams.{queue-laid}
 use Rattle.promises.proofs.HistoryLayout.{part, add-part, part-whole, divided-on, divided-whole, none-for, for-append, received-head}
 use Rattle.promises.proofs.HistoryLayout.{received-in, received-whole}
 
@@ -55,9 +52,6 @@ pub record Tied (side : Side) (caps : List ℕ) (handed : ℕ → List ℕ) (bs 
 module _ (side : Side) (bs : List ℕ) (b : ℕ) (cs : List Carried) (left : List ℕ) (d : Divided bs cs left) where
   abbrev H : List ℕ
   H = left ++ (b ∷ [])
-
-  abbrev flat : ℕ → List ℕ
-  flat i = flatMap (λ (c : Carried). payloadFor side i (c .header) (c .payload)) cs
 
   -- a header that is not whole with it
   head-part : length H < headerLength → Divided (bs ++ (b ∷ [])) cs H
@@ -193,19 +187,8 @@ module _ (side : Side) (caps : List ℕ) (handed : ℕ → List ℕ) (wide : len
       → (i : ℕ) → i < instances → heldIn caps (kept caps s (b ∷ [])) i ≡ heldIn caps s i ++ cond (eqb (s .receiving .instance) i) (b ∷ []) []
   unfolding kept
   held-more b s many areas inside room i l =
-      let j = s .receiving .instance in
-      let held = s .receiving .held in
-      by-test (eqb j i)
-      (λ q.
-      let e : j ≡ i = eqb-true j i q in
-      rw (q, ← e, getD-set-same held j (getD held j 0 + 1) 0 (omega arith))
-      (stream-behind (s .store) (baseOf caps j) (getD caps j 0) (getD (s .receiving .starts) j 0) (getD held j 0) (b ∷ []) (omega arith)
-      (area-in-store (s .store) caps j areas (omega arith))))
-      (λ q.
-      let n : i ≢ j = λ e. eqb-false j i q (sym e) in
-      rw (q, append-nil, getD-set-other held j i (getD held j 0 + 1) 0 n)
-      (stream-stays (s .store) caps i j (getD (s .receiving .starts) i 0) (getD held i 0) (getD (s .receiving .starts) j 0 + getD held j 0) (b ∷ []) n
-      (some i l) (some j inside)))
+      queue-laid (s .store) caps (s .receiving .starts) (s .receiving .held) (s .receiving .instance) (b ∷ []) areas (λ j h. some j (omega arith))
+      (omega arith) (omega arith) (omega arith) i (omega arith)
 
   -- a byte of a payload
   module _ (bs : List ℕ) (b : ℕ) (s : State) (t : Tied side caps handed bs s) (areas : length (s .store) ≡ together caps)

@@ -35,14 +35,14 @@ use Rattle.putting.specs.Putting as putting
 use Rattle.sending.specs.NextSegment as sending
 use Rattle.promises.specs.Trace.{Out, Event, event}
 use Rattle.promises.specs.Calls.{Call, feed, take, put, next, status, Answer, fed, World, step, Opened, first}
-use Rattle.promises.specs.Reached.{Reached, numberOf}
+use Rattle.promises.specs.Reached.{Reached}
 use Rattle.promises.specs.History.{Past, usedBy, bytesIn, handedFor, lastRoute, routed, faultBy, firstFault, Closes}
 use Rattle.promises.proofs.Ways.{Takes, refuses, faults, hands, Puts, queues, Nexts, serves}
-use Rattle.promises.proofs.HistoryCalls.{Good, ends, uses, Feeds, shut, bytes, feeds, takes, puts, makes, afterTake, afterPut, afterNext}
+use Rattle.promises.proofs.Reached.{opens-fresh}
+use Rattle.promises.proofs.HistoryCalls.{Good, good, ends, uses, Feeds, shut, bytes, feeds, takes, puts, makes, afterTake, afterPut, afterNext}
 use Rattle.promises.proofs.HistoryLayout.{part, add-part, part-whole}
 use Rattle.promises.proofs.HistoryBytes.{Reading, in-head, in-pay, Tied, tied-fed}
 use Rattle.promises.proofs.HistoryReceives.{Held}
-use Rattle.promises.proofs.HistoryRuns.{good, opens-fresh}
 
 -- ---- the header that is refused
 
@@ -170,9 +170,9 @@ module _ (w : World) (g : Good w) (past : Past) (t : Held (w .connection .settin
       of (Closed x) e =
           cause-tells
           (refused-last side (w .connection .settings .receive) (λ i. handedFor i past) (g .shaped .receive)
-          (λ i l. let q = ranged (w .connection) (g .in-range) .set .receive i l in omega arith) xs (bytesIn past)
+          (λ i l. let q = ranged (w .connection) (g .ranged) .set .receive i l in omega arith) xs (bytesIn past)
           (given (w .connection) (w .receive)) (w .connection .receiving .starts) (length (w .receive)) x (t .tied)
-          (kept-given (w .connection) (w .receive) (g .in-range)) (g .receive-long) y e .2)
+          (kept-given (w .connection) (w .receive) (g .ranged)) (g .receive) y e .2)
 
   gated-take : (j : ℕ) (buf : List ℕ) {x : taking.Told} → Takes (w .connection) (w .receive) j buf x → Gated (take j buf) (afterTake w x)
   gated-take j buf (refuses n z y f) = rw f (sym (or-none (closingOf (w .connection .gate))))

@@ -3,16 +3,13 @@
 use mathlib.Core.Path.{_≡_, refl, sym, ap, _∙_, subst}
 use mathlib.Core.Bool.{true, true≢false, cond, _&&_}
 use mathlib.Core.List.{List, [], _∷_, _++_, append-nil, append-assoc, flatMap}
-use mathlib.Core.Logic.{_≢_}
-use Prim.Native.Nat.{ℕ, _+_, _-_, _%_, _<_}
+use Prim.Native.Nat.{ℕ, _%_, _<_}
 use native.Mathlib.Omega.{arith}
-use native.Mathlib.Nat.{mod-add-mod, zero-mod}
-use borrow.Author.Tests.{eqb-true, eqb-false}
+use native.Mathlib.Nat.{zero-mod}
 use lib.Dec.{eqb}
 use lib.ListN as lists
-use lib.ListN.{length, getD, set, length-set, length-append, getD-replicate}
-use lib.Seq.{sets, getD-set-same, getD-set-other}
-use Rattle.base.proofs.Conds.{by-test}
+use lib.ListN.{length, getD, length-set, getD-replicate}
+use lib.Seq.{sets}
 use Rattle.ring.specs.Ring.{baseOf, stream}
 use Rattle.ring.proofs.Stores.{stream-length}
 use Rattle.wire.specs.declared.instances.Side.{Side}
@@ -34,16 +31,16 @@ use Rattle.taking.specs.Taking as taking
 use Rattle.putting.specs.Putting as putting
 use Rattle.sending.specs.NextSegment as sending
 use Rattle.promises.specs.Trace.{Out, Event, event}
-use Rattle.promises.specs.Calls.{Call, feed, take, put, next, status, Answer, told, World, step, Real, Opened, first}
+use Rattle.promises.specs.Calls.{Call, feed, take, put, next, status, Answer, told, World, step, Opened, first}
 use Rattle.promises.specs.Reached.{Reached}
 use Rattle.promises.specs.History.{Past, usedBy, bytesIn, gave, got, actsBy, acts, handedBy, handedFor, receivedIn, Receives}
 use Rattle.promises.proofs.Ways.{Takes, refuses, faults, hands, Puts, queues, Nexts, serves}
-use Rattle.promises.proofs.HistoryCalls.{Good, Feeds, shut, bytes, feeds, takes, puts, makes, afterTake, afterPut, afterNext}
+use Rattle.promises.proofs.Reached.{opens-fresh}
+use Rattle.promises.proofs.HistoryCalls.{Good, good, Feeds, shut, bytes, feeds, takes, puts, makes, afterTake, afterPut, afterNext}
 use Rattle.promises.proofs.HistoryLaws.{no-act-adds, act-adds, act-unseen, front, bytes-next, handed-next}
-use Rattle.promises.proofs.HistoryStreams.{stream-freed, stream-count, stream-place}
+use Rattle.promises.proofs.Streams.{stream-count, stream-place, queue-freed, starts-freed}
 use Rattle.promises.proofs.HistoryLayout.{none-for}
 use Rattle.promises.proofs.HistoryBytes.{heldIn, Reading, in-head, in-pay, Tied, tied-fed}
-use Rattle.promises.proofs.HistoryRuns.{good, opens-fresh}
 
 -- the tie of the bytes, and where each instance's first held byte is
 pub record Held (s : Settings) (past : Past) (w : World) : Type 0 where
@@ -110,7 +107,7 @@ module _ (w : World) (g : Good w) (past : Past) (t : Held (w .connection .settin
   wide = g .shaped .receive
 
   some : (i : ℕ) → i < instances → 0 < getD (s .receive) i 0
-  some i l = let q = ranged c (g .in-range) .set .receive i l in omega arith
+  some i l = let q = ranged c (g .ranged) .set .receive i l in omega arith
 
   held-feed : (xs : List ℕ) {o : Out World Answer} → Feeds w xs o → After (feed xs) o
   unfolding flatMap
@@ -123,8 +120,8 @@ module _ (w : World) (g : Good w) (past : Past) (t : Held (w .connection .settin
       let n : ℕ = used (s .side) (s .receive) st xs in
       let q : Tied (s .side) (s .receive) (λ i. handedFor i past) (bytesIn past ++ lists.take n xs) (fed (s .side) (s .receive) st xs) =
       tied-fed (s .side) (s .receive) (λ i. handedFor i past) wide some xs (bytesIn past) st (c .receiving .starts) (length (w .receive)) (t .tied)
-      (kept-given c (w .receive) (g .in-range)) (g .receive-long) in
-      let k = kept-fed (s .side) (s .receive) (c .receiving .starts) (length (w .receive)) st xs (kept-given c (w .receive) (g .in-range)) in
+      (kept-given c (w .receive) (g .ranged)) (g .receive) in
+      let k = kept-fed (s .side) (s .receive) (c .receiving .starts) (length (w .receive)) st xs (kept-given c (w .receive) (g .ranged)) in
       record {
         tied = tied-to (fed (s .side) (s .receive) st xs) q (bytes-next past ev) (λ i l. rw (← same i)) (q .reading) (q .many);
         starts = λ i l. rw (k .places, ← same i) (t .starts i l);
@@ -144,34 +141,16 @@ module _ (w : World) (g : Good w) (past : Past) (t : Held (w .connection .settin
       λ i. handed-next past ev i ∙ ap (λ (r : List ℕ). handedFor i past ++ r) (rw at-front (act-adds handedBy (eqb j i) (got xs))) in
       let held = c .receiving .held in
       let start = c .receiving .starts in
-      let free : ℕ = (getD start j 0 + n) % getD (s .receive) j 0 in
-      let less : ℕ = getD held j 0 - n in
-      let held-long : j < length held = omega (arith, g .shaped .held) in
-      let starts-long : j < length start = omega (arith, g .shaped .receive-starts) in
+      let in-starts : j < length start = omega (arith, g .shaped .receive-starts) in
       record {
         tied =
             tied-to (given ((afterTake w x) .world .connection) (w .receive)) (t .tied) (bytes-next past ev ∙ append-nil (bytesIn past))
             (λ i l′.
-            rw (now i)
-            (by-test (eqb j i)
-            (λ y.
-            let p : j ≡ i = eqb-true j i y in
-            rw (y, ← p, getD-set-same held j less 0 held-long, getD-set-same start j free 0 starts-long, append-assoc)
-            (ap (λ (r : List ℕ). handedFor j past ++ r)
-            (stream-freed (w .receive) (baseOf (s .receive) j) (getD (s .receive) j 0) (getD start j 0) (getD held j 0) n l)))
-            (λ y.
-            let p : i ≢ j = λ x. eqb-false j i y (sym x) in
-            rw (y, append-nil, getD-set-other held j i less 0 p, getD-set-other start j i free 0 p))))
+            rw (now i, append-assoc)
+            (ap (λ (r : List ℕ). handedFor i past ++ r)
+            (queue-freed (w .receive) (s .receive) start held j n in-starts (omega (arith, g .shaped .held)) l i)))
             (λ y. reading-freed (s .receive) j n (t .tied .reading y)) (rw length-set (g .shaped .held));
-        starts = λ i l′.
-            rw (now i)
-            (by-test (eqb j i)
-            (λ y.
-            let p : j ≡ i = eqb-true j i y in
-            rw (y, ← p, getD-set-same start j free 0 starts-long, length-append, long, t .starts j h, mod-add-mod))
-            (λ y.
-            let p : i ≢ j = λ x. eqb-false j i y (sym x) in
-            rw (y, append-nil, getD-set-other start j i free 0 p) (t .starts i l′)));
+        starts = λ i l′. rw (now i) (starts-freed (w .receive) (s .receive) start held j n in-starts (handedFor i past) xs long i (t .starts i l′));
       }
 
   held-put : (j : ℕ) (xs : List ℕ) {x : putting.Told} → Puts (w .connection) (w .send) j xs x → After (put j xs) (afterPut w x)
@@ -193,9 +172,9 @@ module _ (w : World) (g : Good w) (past : Past) (t : Held (w .connection .settin
   held-call (next time buf) = held-next time buf (makes w g time buf)
   held-call status = held-same status (record { world = w; answer = told (statusOf c) }) refl (λ i. refl) refl refl (λ q. q)
 
-pub held-after : (s : Settings) (past : Past) (w : World) (a : Call) → Real a → Reached s w → Reached s (step w a .world) → Held s past w
+pub held-after : (s : Settings) (past : Past) (w : World) (a : Call) → Reached s w → Held s past w
     → Held s (past ++ (event step w a ∷ [])) (step w a .world)
-held-after s past w a real k k′ t =
+held-after s past w a k t =
     subst (λ (u : Settings). Held u (past ++ (event step w a ∷ [])) (step w a .world)) (k .settings)
     (held-call w (good k) past (subst (λ (u : Settings). Held u past w) (sym (k .settings)) t) a)
 

@@ -27,10 +27,10 @@ use Rattle.promises.specs.Reached.{Reached, numberOf}
 use Rattle.promises.specs.Fairness.{segmentOf, segments}
 use Rattle.promises.specs.History.{Past, usedBy, bytesIn, gave, got, actsBy, acts, putBy, putFor, Shut, Nothing, AfterFault}
 use Rattle.promises.proofs.Ways.{Takes, refuses, faults, hands}
-use Rattle.promises.proofs.HistoryCalls.{Good, good-receives, good-sends, takes, tells, afterTake}
+use Rattle.promises.proofs.HistoryCalls.{Good, good, takes, tells, afterTake}
 use Rattle.promises.proofs.HistoryLaws.{no-act-adds, act-unseen, bytes-next, put-next, segments-next}
-use Rattle.promises.proofs.Reached.{in-range-for-ever}
-use Rattle.promises.proofs.HistoryRuns.{good, on}
+use Rattle.promises.proofs.Reached.{Sound, reached-receives, reached-sends, sound-first, sound-run}
+use Rattle.promises.proofs.HistoryRuns.{on}
 
 -- only the first closing is kept
 still : (g : Gate) (x : Closing) → isOpen g ≡ false → closedBy g x ≡ g
@@ -40,15 +40,15 @@ still (Closed y) x e = refl
 module _ (w : World) (g : Good w) (closed : isOpen (w .connection .gate) ≡ false) where
   shut-feeds : (xs : List ℕ) → step w (feed xs) ≡ record { world = w; answer = fed 20 0 }
   unfolding step feeding.feedOf
-  shut-feeds xs = rw (good-receives w g, closed)
+  shut-feeds xs = rw (reached-receives g, closed)
 
   shut-puts : (i : ℕ) (xs : List ℕ) → step w (put i xs) ≡ record { world = w; answer = queued (cond (ltb i instances) 20 10) }
   unfolding step putting.putOf putting.judgeOf
-  shut-puts i xs = rw (good-sends w g) (by-test (ltb i instances) (λ t. rw (t, closed)) (λ t. rw t))
+  shut-puts i xs = rw (reached-sends g) (by-test (ltb i instances) (λ t. rw (t, closed)) (λ t. rw t))
 
   shut-makes : (time : ℕ) (buf : List ℕ) → step w (next time buf) ≡ record { world = w; answer = made 20 0 buf }
   unfolding step sending.nextOf
-  shut-makes time buf = rw (good-sends w g, closed)
+  shut-makes time buf = rw (reached-sends g, closed)
 
   abbrev Leaves : World → Type 0
   Leaves v =
@@ -149,6 +149,6 @@ nothing-yet = record { comes = refl; put = λ i. refl; sent = refl }
 pub after-fault : AfterFault
 after-fault s receive send opened cs ds r q x e =
     let w : World = run step (first s receive send) cs in
-    let t : Since x (trace step w ds) (run step w ds) =
-    on opened (Since x) (since-next s x) ds cs [] r q (record { same = e; nothing = nothing-yet }) in
-    (shut w (good (in-range-for-ever s receive send opened cs r)) (closed-so (w .connection .gate) x e), t .nothing, t .same)
+    let k : Sound s w = sound-run s (first s receive send) cs r (sound-first s receive send opened) in
+    let t : Since x (trace step w ds) (run step w ds) = on (Since x) (since-next s x) ds [] w q k (record { same = e; nothing = nothing-yet }) in
+    (shut w (good (k .reached)) (closed-so (w .connection .gate) x e), t .nothing, t .same)

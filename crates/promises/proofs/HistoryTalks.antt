@@ -4,7 +4,7 @@ use mathlib.Core.Path.{_≡_, refl, sym, ap}
 use mathlib.Core.Bool.{Bool, true, false, true≢false, cond, not, _&&_, _||_}
 use mathlib.Core.List.{List, [], _∷_, _++_, append-nil, flatMap}
 use mathlib.Core.Logic.{_≢_}
-use Prim.Native.Nat.{ℕ, _+_, _<_}
+use Prim.Native.Nat.{ℕ, _<_}
 use native.Mathlib.Omega.{arith}
 use borrow.Author.Tests.{eqb-true, eqb-false}
 use lib.Dec.{eqb}
@@ -17,40 +17,28 @@ use Rattle.wire.specs.declared.instances.Side.{Side}
 use Rattle.wire.specs.Instances.{instances, at, initiates}
 use Rattle.rows.specs.declared.Agency.{Agency}
 use Rattle.rows.specs.declared.Agency.the-variants.{Initiator, Responder, Nobody}
-use Rattle.rows.specs.declared.Protocol.{Protocol}
 use Rattle.rows.specs.declared.Next.the-variants.{To}
-use Rattle.rows.specs.Rows.{nextOf, agencyOf, rowIn, doneOf}
+use Rattle.rows.specs.Rows.{nextOf, agencyOf, doneOf}
 use Rattle.rows.specs.Spoken.{speaks}
 use Rattle.rows.proofs.RowLaws.{thirty}
 use Rattle.messages.specs.Reading.{messageOf, read, flagOf}
 use Rattle.connection.specs.declared.Settings.{Settings}
 use Rattle.connection.proofs.RangeLaws.{ranged}
+use Rattle.judging.proofs.Moving.{leads-low}
 use Rattle.judging.specs.Judging.{holds, stateOf, ours, movedBy}
 use Rattle.taking.specs.Taking as taking
 use Rattle.putting.specs.Putting as putting
 use Rattle.sending.specs.NextSegment as sending
 use Rattle.promises.specs.Trace.{Out, event}
-use Rattle.promises.specs.Calls.{Call, feed, take, put, next, status, Answer, World, step, Real, Opened, first}
+use Rattle.promises.specs.Calls.{Call, feed, take, put, next, status, Answer, World, step, Opened, first}
 use Rattle.promises.specs.Reached.{Reached}
 use Rattle.promises.specs.History.{Past, Act, gave, got, messageIn, actsBy, acts, theirs, Moves, Walks, rests, moves, endsInAccept, Talks}
 use Rattle.promises.proofs.Ways.{early, Takes, refuses, faults, hands, Puts, queues, Nexts, serves}
-use Rattle.promises.proofs.HistoryCalls.{Feeds, shut, bytes, feeds, takes, puts, makes, afterTake, afterPut, afterNext}
+use Rattle.promises.proofs.Reached.{opens-fresh}
+use Rattle.promises.proofs.HistoryCalls.{good, Feeds, shut, bytes, feeds, takes, puts, makes, afterTake, afterPut, afterNext}
 use Rattle.promises.proofs.HistoryLaws.{no-act, an-act, front, acts-next}
-use Rattle.promises.proofs.HistoryRuns.{good, opens-fresh}
 
 -- ---- rows
-
-and-first : (a b : Bool) → (a && b) ≡ true → a ≡ true
-and-first true b e = refl
-and-first false b e = e
-
--- a state with a row is not the last
-pub row-going : (p : Protocol) (s k f n : ℕ) → nextOf p s k f ≡ To n → s < doneOf p
-row-going p s k f n e =
-    let r = thirty .only p s k f n e in
-    let i = r .0 in
-    let same : rowIn p i .state ≡ s = eqb-true (rowIn p i .state) s (and-first _ _ (r .2)) in
-    omega (arith, thirty .last p i (r .1) .0)
 
 -- where the one has no agency, and somebody has, the other has
 other-holds : (b : Bool) (a : Agency) → holds b a ≡ false → a ≢ Nobody → holds (not b) a ≡ true
@@ -63,7 +51,7 @@ other-holds b Nobody e n = absurd (n refl)
 their-turn : (side : Side) (i s k f n : ℕ) → ours side i s ≡ false → nextOf (speaks i) s k f ≡ To n → theirs side i s ≡ true
 unfolding ours
 their-turn side i s k f n e q =
-    other-holds (initiates side (at i .role)) (agencyOf (speaks i) s) e (thirty .going (speaks i) s (row-going (speaks i) s k f n q))
+    other-holds (initiates side (at i .role)) (agencyOf (speaks i) s) e (thirty .going (speaks i) s (leads-low (speaks i) s k f n q .0))
 
 -- ---- what a call does to the states
 
@@ -151,7 +139,7 @@ module _ (s : Settings) (w : World) (k : Reached s w) (past : Past) (t : Talks s
       by-test (eqb j 0)
       (λ q.
       let e : j ≡ 0 = eqb-true j 0 q in
-      let going = row-going (speaks j) (stateOf (w .connection) j) (m .message .kind) (flagOf (speaks j) (m .message)) to (m .row) in
+      let going = leads-low (speaks j) (stateOf (w .connection) j) (m .message .kind) (flagOf (speaks j) (m .message)) to (m .row) .0 in
       let not-yet : w .connection .talk .accepted ≡ false =
       by-test (w .connection .talk .accepted)
       (λ y.
@@ -174,9 +162,9 @@ module _ (s : Settings) (w : World) (k : Reached s w) (past : Past) (t : Talks s
         accepted = rw (acts-next past (record { call = c; answer = o .answer }) 0, n 0, e) (marks-on j to a m);
       }
 
-pub talks-next : (s : Settings) (past : Past) (w : World) (c : Call) → Real c → Reached s w → Reached s (step w c .world) → Talks s past w
+pub talks-next : (s : Settings) (past : Past) (w : World) (c : Call) → Reached s w → Talks s past w
     → Talks s (past ++ (event step w c ∷ [])) (step w c .world)
-talks-next s past w c real k k′ t = talks-by s w k past t c (talked s w k c)
+talks-next s past w c k t = talks-by s w k past t c (talked s w k c)
 
 pub talks-first : {s : Settings} {receive send : List ℕ} → Opened s receive send → Talks s [] (first s receive send)
 unfolding acts endsInAccept flatMap

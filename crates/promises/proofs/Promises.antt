@@ -1,4 +1,4 @@
--- Every promise is kept.
+-- Every promise is kept: each is proved in a file of its own.
 -- Assumes nothing.
 use Rattle.promises.specs.Promises.{Promises}
 use Rattle.promises.proofs.ExampleLaws as examples

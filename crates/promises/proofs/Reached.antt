@@ -1,8 +1,8 @@
 -- T10: every call keeps the range, what waits of Handshake within one segment, and what waits of the others behind Accept.
 -- Assumes nothing.
 use mathlib.Core.Path.{_≡_, refl, sym, ap, subst, _∙_}
-use mathlib.Core.Bool.{Bool, true, false, true≢false, false≢true, not, _&&_, _||_}
-use mathlib.Core.List.{List}
+use mathlib.Core.Bool.{true, false, true≢false, not, _&&_}
+use mathlib.Core.List.{List, [], _∷_}
 use Prim.Native.Nat.{ℕ, zero, suc, _+_, _-_, _≤_, _<_}
 use native.Mathlib.Omega.{arith}
 use lib.Dec.{eqb}
@@ -24,7 +24,7 @@ use Rattle.connection.specs.declared.opening as opening
 use Rattle.connection.specs.Parts.{withReceiving}
 use Rattle.connection.specs.Shapes.{Shaped}
 use Rattle.connection.specs.Ranges.{inRange, receiveStoreOk, sendStoreOk, receives, sends, settingsOk}
-use Rattle.connection.specs.Openings.{zeros, fresh, openOf}
+use Rattle.connection.specs.Openings.{fresh, openOf}
 use Rattle.connection.proofs.RangeLaws.{ranged}
 use Rattle.connection.proofs.NumberLaws as connection
 use Rattle.judging.specs.Judging.{ours, barred}
@@ -42,11 +42,10 @@ use Rattle.sending.proofs.NumberLaws as sending-laws
 use Rattle.promises.specs.Trace.{run}
 use Rattle.promises.specs.Calls.{Call, feed, take, put, next, status, World, step, Real, AllReal, Opened, first}
 use Rattle.promises.specs.Reached.{waits, Reached, InRangeForEver, numberOf, Never23}
-use Rattle.promises.proofs.TraceLaws.{keeps-real}
 use Rattle.promises.proofs.ReachedHandshake.{shakes, spare, spare-put, spare-moved, spare-first}
 use Rattle.promises.proofs.Ways.{Row, Takes, Puts, Nexts, refuses, faults, hands, queues, serves, take-way, put-way, next-way}
 use Rattle.promises.proofs.ReachedFeed as tidy
-use Rattle.promises.proofs.ReachedFeed.{Tidy, Feeds, stays, feeds, feed-way, blank-empty}
+use Rattle.promises.proofs.ReachedFeed.{Blank, Tidy, Feeds, stays, feeds, feed-way}
 
 -- ---- what every call keeps
 
@@ -71,6 +70,15 @@ pub reached-sends : {s : Settings} {w : World} → Reached s w → sends (w .con
 reached-sends {w = w} r =
     let caps = w .connection .settings .send in
     rw (r .ranged, eq-eqb (length (w .send)) (together caps) (r .send ∙ ap (λ (x : Settings). together (x .send)) (sym (r .settings))))
+
+-- whoever is chosen is an instance with bytes waiting
+pub chosen-waiting : {s : Settings} {w : World} → Reached s w → (i : ℕ) → chosen (w .connection .sending .waiting) (w .connection .sending .turn) ≡ Instance i
+    → (i < instances) × (0 < waits w i)
+chosen-waiting {w = w} r i e =
+    let n : length (w .connection .sending .waiting) ≡ instances = r .shaped .waiting in
+    let turn = ranged (w .connection) (r .ranged) .turn in
+    let p = chosen-waits (w .connection .sending .waiting) (w .connection .sending .turn) i (turn .0) (rw n (turn .1)) e in
+    (rw n at (p .0), p .1)
 
 module _ (s : Settings) (w : World) (k : Sound s w) where
   abbrev c : Connection
@@ -134,47 +142,37 @@ module _ (s : Settings) (w : World) (k : Sound s w) where
       (spare-moved (s .side) (s .limit) (shakes (getD (c .talk .states) 0 0) after row))
   moved (suc i) after row = rw (getD-set-other (c .talk .states) (suc i) 0 after 0 (λ e. omega arith)) (omega arith)
 
-  or-true : (a b : Bool) → a ≡ true → (a || b) ≡ true
-  or-true true b e = refl
-  or-true false b e = absurd (false≢true e)
+  -- what a call keeps that leaves settings, header and payload under way as they were
+  kept : {c′ : Connection} {store : List ℕ} → c′ .settings ≡ c .settings → c′ .receiving .header ≡ c .receiving .header
+      → c′ .receiving .rest ≡ c .receiving .rest → c′ .receiving .instance ≡ c .receiving .instance
+      → inRange c′ ≡ true → Shaped c′ → length store ≡ length (w .send)
+      → let w′ : World = record { connection = c′; receive = w .receive; send = store } in
+      handshake s w′ ≤ handshake s w → ((i : ℕ) → 0 < i → 0 < waits w′ i → c′ .talk .accepted ≡ true) → Sound s w′
+  kept set head rest to ok shaped long bound accepted =
+      record {
+        reached =
+            record {
+              settings = set ∙ r .settings;
+              ranged = ok;
+              shaped = shaped;
+              receive = r .receive;
+              send = long ∙ r .send;
+              spelt = subst Spelt (sym head) (r .spelt);
+              blank = subst Blank (sym head) (r .blank);
+              idle = λ z. to ∙ r .idle (sym rest ∙ z);
+              single = omega (arith, bound, k .bound);
+              accepted = accepted;
+            };
+        bound = omega (arith, bound, k .bound);
+      }
 
   sound-took : {i : ℕ} {buf : List ℕ} {t : taking.Told} → Takes c (w .receive) i buf t → inRange (t .taken .connection) ≡ true
       → Shaped (t .taken .connection) → Sound s (record { connection = t .taken .connection; receive = w .receive; send = w .send })
   sound-took (refuses n z ne f) ok shaped = k
-  sound-took (faults n low high l) ok shaped =
-      record {
-        reached =
-            record {
-              settings = r .settings;
-              ranged = ok;
-              shaped = shaped;
-              receive = r .receive;
-              send = r .send;
-              spelt = r .spelt;
-              blank = r .blank;
-              idle = r .idle;
-              single = r .single;
-              accepted = r .accepted;
-            };
-        bound = k .bound;
-      }
+  sound-took (faults n low high l) ok shaped = kept refl refl refl refl ok shaped refl (omega arith) (r .accepted)
   sound-took {i} (hands n m to l early held long reads row) ok shaped =
-      record {
-        reached =
-            record {
-              settings = r .settings;
-              ranged = ok;
-              shaped = shaped;
-              receive = r .receive;
-              send = r .send;
-              spelt = r .spelt;
-              blank = r .blank;
-              idle = r .idle;
-              single = r .single;
-              accepted = λ i some more. or-true _ _ (r .accepted i some more);
-            };
-        bound = omega (arith, k .bound, moved i to (m .kind, flagOf (speaks i) m, row));
-      }
+      kept refl refl refl refl ok shaped refl (omega (arith, moved i to (m .kind, flagOf (speaks i) m, row)))
+      (λ j some waiting. rw (r .accepted j some waiting))
 
   sound-take : (i : ℕ) (buf : List ℕ) → Sound s (step w (take i buf) .world)
   unfolding step
@@ -222,23 +220,8 @@ module _ (s : Settings) (w : World) (k : Sound s w) where
       → Sound s (record { connection = t .answer .connection; receive = w .receive; send = t .store })
   sound-put-way (refuses n z ne) ok shaped long = k
   sound-put-way {i} {xs} (queues m to l listens free mine reads row short fits) ok shaped long =
-      let b = put-bound i to (length xs) mine (m .kind, flagOf (speaks i) m, row) short in
-      record {
-        reached =
-            record {
-              settings = r .settings;
-              ranged = ok;
-              shaped = shaped;
-              receive = r .receive;
-              send = long ∙ r .send;
-              spelt = r .spelt;
-              blank = r .blank;
-              idle = r .idle;
-              single = omega (arith, b, k .bound);
-              accepted = λ i′ some waiting. or-true _ _ (put-accepted i (length xs) free i′ some waiting);
-            };
-        bound = omega (arith, b, k .bound);
-      }
+      kept refl refl refl refl ok shaped long (put-bound i to (length xs) mine (m .kind, flagOf (speaks i) m, row) short)
+      (λ j some waiting. rw (put-accepted i (length xs) free j some waiting))
 
   sound-put : (i : ℕ) (xs : List ℕ) → Sound s (step w (put i xs) .world)
   unfolding step
@@ -249,12 +232,6 @@ module _ (s : Settings) (w : World) (k : Sound s w) where
       sound-put-way (put-way c (w .send) i xs (reached-sends r)) (ok .0) (q .shaped) (q .long)
 
   -- ---- next segment
-
-  -- whoever is chosen is an instance
-  pub chosen-inside : (i : ℕ) → chosen (c .sending .waiting) (c .sending .turn) ≡ Instance i → i < instances
-  chosen-inside i e =
-      let t = ranged c (r .ranged) .turn in
-      omega (arith, r .shaped .waiting, chosen-waits (c .sending .waiting) (c .sending .turn) i (t .0) (omega (arith, t .1, r .shaped .waiting)) e .0)
 
   -- what is sent waits no more
   fewer : (i n : ℕ) → i < instances → (j : ℕ) → getD (set (c .sending .waiting) i (waits w i - n)) j 0 ≤ waits w j
@@ -268,23 +245,8 @@ module _ (s : Settings) (w : World) (k : Sound s w) where
       → Shaped (t .made .connection) → Sound s (record { connection = t .made .connection; receive = w .receive; send = w .send })
   sound-next-way (refuses n z ne) ok shaped = k
   sound-next-way (serves i who room) ok shaped =
-      let less = fewer i (sending.much c i) (chosen-inside i who) in
-      record {
-        reached =
-            record {
-              settings = r .settings;
-              ranged = ok;
-              shaped = shaped;
-              receive = r .receive;
-              send = r .send;
-              spelt = r .spelt;
-              blank = r .blank;
-              idle = r .idle;
-              single = omega (arith, less 0, r .single);
-              accepted = λ j some waiting. r .accepted j some (omega (arith, less j));
-            };
-        bound = omega (arith, less 0, k .bound);
-      }
+      let less = fewer i (sending.much c i) (chosen-waiting r i who .0) in
+      kept refl refl refl refl ok shaped refl (omega (arith, less 0)) (λ j some waiting. r .accepted j some (omega (arith, less j)))
 
   sound-next : (time : ℕ) (buf : List ℕ) → Sound s (step w (next time buf) .world)
   unfolding step
@@ -294,11 +256,12 @@ module _ (s : Settings) (w : World) (k : Sound s w) where
 
 -- ---- open
 
-opened : (s : Settings) (n m : ℕ) → openOf s n m .number ≡ 0 → openOf s n m .connection ≡ fresh s 1
+-- what an open answered 0 leaves
+pub opens-fresh : {s : Settings} {receive send : List ℕ} → Opened s receive send → first s receive send .connection ≡ fresh s 1
 unfolding openOf
-opened s n m =
-    cond-cases (λ (o : opening.Opened.Opened). o .number ≡ 0 → o .connection ≡ fresh s 1) (settingsOk s && (receiveStoreOk s n && sendStoreOk s m))
-    (λ t z. refl) (λ t z. absurd (omega arith))
+opens-fresh {s} {receive} {send} o =
+    cond-cases (λ (x : opening.Opened.Opened). x .number ≡ 0 → x .connection ≡ fresh s 1)
+    (settingsOk s && (receiveStoreOk s (length receive) && sendStoreOk s (length send))) (λ t z. refl) (λ t z. absurd (omega arith)) (o .done)
 
 sound-fresh : (s : Settings) (receive send : List ℕ) → Opened s receive send
     → Sound s (record { connection = fresh s 1; receive = receive; send = send })
@@ -311,7 +274,7 @@ sound-fresh s receive send o =
       reached =
           record {
             settings = refl;
-            ranged = subst (λ (c : Connection). inRange c ≡ true) (opened s n m (o .done)) (connection.opening .opened s n m (o .done));
+            ranged = subst (λ (c : Connection). inRange c ≡ true) (opens-fresh o) (connection.opening .opened s n m (o .done));
             shaped =
                 record {
                   receive = o .receives;
@@ -336,8 +299,8 @@ sound-fresh s receive send o =
 
 pub sound-first : (s : Settings) (receive send : List ℕ) → Opened s receive send → Sound s (first s receive send)
 sound-first s receive send o =
-    subst (λ (c : Connection). Sound s (record { connection = c; receive = receive; send = send }))
-    (sym (opened s (length receive) (length send) (o .done))) (sound-fresh s receive send o)
+    subst (λ (c : Connection). Sound s (record { connection = c; receive = receive; send = send })) (sym (opens-fresh o))
+    (sound-fresh s receive send o)
 
 -- ---- no call answers 23
 
@@ -374,7 +337,9 @@ sound-step s w (next time buf) b k = sound-next s w k time buf
 sound-step s w status b k = k
 
 pub sound-run : (s : Settings) (w : World) (cs : List Call) → AllReal cs → Sound s w → Sound s (run step w cs)
-sound-run s w cs a k = keeps-real step (Sound s) (sound-step s) cs w a k
+unfolding run AllReal
+sound-run s w [] a k = k
+sound-run s w (c ∷ cs) (b, a) k = sound-run s (step w c .world) cs a (sound-step s w c b k)
 
 -- T10
 pub in-range-for-ever : InRangeForEver

@@ -80,12 +80,10 @@ unfoldable pub AllReal : List Call → Type 0
 AllReal [] = Unit {0}
 AllReal (c ∷ cs) = Real c × AllReal cs
 
--- An open answered 0, with what every call of open has: arrays of as many entries as there are instances, and stores of bytes.
+-- An open answered 0, with what every call of open has: arrays of as many entries as there are instances.
 pub record Opened (s : Settings) (receive send : List ℕ) : Type 0 where
   pub receives : length (s .receive) ≡ instances
   pub sends : length (s .send) ≡ instances
-  pub receive-bytes : Bytes receive
-  pub send-bytes : Bytes send
   pub done : openOf s (length receive) (length send) .number ≡ 0
 
 -- the world that open leaves

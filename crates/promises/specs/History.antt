@@ -161,7 +161,7 @@ pub record Sends (s : Settings) (past : Past) (w : World) : Type 0 where
       → getD (w .send) (place (baseOf (s .send) i) (getD (s .send) i 0) n) 0 ≡ getD (putFor i past) n 0
 
 -- A segment that is made reads back as it was written: the given time, mode and protocol number of what we send as an instance, the smaller of S
--- and the bytes waiting, at least one; and the first of these bytes.
+-- and the bytes waiting, at least one; and the first of these bytes. Of Handshake that is all that waits: a message is always in one segment.
 pub record Segmented (s : Settings) (w : World) (time : ℕ) (bs : List ℕ) : Type 0 where
   pub instance : ℕ
   pub within : instance < instances
@@ -169,6 +169,7 @@ pub record Segmented (s : Settings) (w : World) (time : ℕ) (bs : List ℕ) : T
       ≡ record { time = time; mode = modeOf (s .side) instance; protocol = protocolOf instance; len = min (s .limit) (waits w instance) }
   pub some : 1 ≤ min (s .limit) (waits w instance)
   pub carries : payload bs ≡ take (min (s .limit) (waits w instance)) (queue w instance)
+  pub whole : instance ≡ 0 → payload bs ≡ queue w 0
 
 -- ---- T11 (c): the states
 

@@ -1,5 +1,5 @@
--- What the front promises over several calls. Each holds after every list of calls from an open answered 0 on (`Calls`), where the caller hands
--- record and stores back untouched. This is the file to open first; the words of each promise stand at its statement.
+-- What the front promises over several calls. Each that speaks of calls holds after every list of calls from an open answered 0 on (`Calls`), where
+-- the caller hands record and stores back untouched. This is the file to open first; the words of each promise stand at its statement.
 use Rattle.promises.specs.Examples.{Examples}
 use Rattle.promises.specs.Calls.{SomeOpened}
 use Rattle.promises.specs.Reached.{InRangeForEver, Never23}
@@ -29,10 +29,10 @@ pub record Promises : Type 0 where
   pub fair : Fair
   -- T13: status tells the history's counts and closing
   pub status-tells : StatusTells
-  -- T14: what a take answers and writes rests on its own instance, on Accept and on the lent buffer, and only 1 or 20 on the closing
+  -- T14: what a take answers and writes rests on its own instance, the side, Accept and the lent buffer, and only 1 or 20 on the closing
   pub alone : Alone
   pub alike : Alike
-  -- T15: after a fault nothing comes in and nothing is sent
+  -- T15: after a fault nothing comes in, nothing is put and nothing is sent
   pub after-fault : AfterFault
   -- T16: P1 to P12
   pub examples : Examples
