@@ -32,8 +32,8 @@ use Rattle.promises.specs.Calls.{Call, feed, take, put, next, status, Wo
 use Rattle.promises.specs.Reached.{waits, Reached}
 use Rattle.promises.specs.Fairness.{queue, segmentOf, header, payload}
 use Rattle.promises.proofs.Ways.{Takes, Puts, Nexts, refuses, faults, hands, queues, serves, take-way, put-way, next-way}
-use Rattle.promises.proofs.ReachedFeed.{Feeds, stays, feeds, feed-way}
-use Rattle.promises.proofs.Reached.{handshake, Sound, reached-receives, reached-sends, feeds-tidy, moved, put-bound}
+use Rattle.promises.proofs.ReachedFeed.{Feeds, shut, bytes, feed-way}
+use Rattle.promises.proofs.Reached.{handshake, Sound, reached-receives, reached-sends, moved, put-bound}
 use Rattle.promises.proofs.Streams.{queue-freed, queue-laid}
 use Rattle.promises.proofs.SegmentMade.{Made, made-of}
 
@@ -84,8 +84,8 @@ module _ (s : Settings) (w : World) (k : Sound s w) where
 
   quiet-feed : {xs : List ℕ} {t : feeding.Told} → Feeds c (w .receive) xs t
       → Quiet s w (record { connection = t .answer .connection; receive = t .store; send = w .send })
-  quiet-feed (stays n) = unmoved
-  quiet-feed (feeds n st t) = record { turn = refl; grows = λ i l. still (queue w i); bound = omega arith }
+  quiet-feed (shut o) = unmoved
+  quiet-feed (bytes o) = record { turn = refl; grows = λ i l. still (queue w i); bound = omega arith }
 
   quiet-take : {i : ℕ} {buf : List ℕ} {t : taking.Told} → Takes c (w .receive) i buf t
       → Quiet s w (record { connection = t .taken .connection; receive = w .receive; send = w .send })
@@ -121,10 +121,10 @@ module _ (s : Settings) (w : World) (k : Sound s w) where
     abbrev n : ℕ
     n = sending.much c j
 
-    abbrev bytes : List ℕ
-    bytes = list.take (headerLength + n) (sets buf 0 (encoded (sending.headed (c .settings .side) time j n) ++ sending.payloadOf c (w .send) j))
+    abbrev segment : List ℕ
+    segment = list.take (headerLength + n) (sets buf 0 (encoded (sending.headed (c .settings .side) time j n) ++ sending.payloadOf c (w .send) j))
 
-    one : Made w time j bytes
+    one : Made w time j segment
     one = made-of r time buf j short who room
 
     abbrev left : World
@@ -149,7 +149,7 @@ module _ (s : Settings) (w : World) (k : Sound s w) where
         let mine : queue w j ≡ sending.payloadOf c (w .send) j ++ queue left j = rw (eq-eqb j j refl) at (goes j) in
         sym (ap (drop n) mine ∙ drop-at (sending.payloadOf c (w .send) j) (queue left j) n (stream-length (w .send) _ _ _ n))
 
-    serving : Served s w left j bytes
+    serving : Served s w left j segment
     serving =
         record {
           who = who;
@@ -172,7 +172,7 @@ module _ (s : Settings) (w : World) (k : Sound s w) where
   -- every call
   pub moves : (x : Call) → Real x → Moves s w (step w x .world) (segmentOf (step w x .answer))
   unfolding step
-  moves (feed xs) b = quiet (quiet-feed (feed-way c (w .receive) xs (reached-receives r) (feeds-tidy s w k)))
+  moves (feed xs) b = quiet (quiet-feed (feed-way c (w .receive) xs (reached-receives r)))
   moves (take i buf) b = quiet (quiet-take (take-way c (w .receive) i buf (reached-receives r)))
   moves (put i xs) b = quiet (quiet-put (put-way c (w .send) i xs (reached-sends r)))
   moves (next time buf) b = moves-next (b .0) (next-way c (w .send) time buf (reached-sends r))

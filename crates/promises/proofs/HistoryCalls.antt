@@ -1,12 +1,9 @@
 -- Each call on a record in range with its stores goes one of a few ways: what it then answers and leaves.
 -- Assumes nothing.
 use mathlib.Core.Path.{_≡_, refl, sym, subst}
-use mathlib.Core.Bool.{true, false}
 use mathlib.Core.List.{List}
 use Prim.Native.Nat.{ℕ}
-use Rattle.base.proofs.Conds.{cond-cases}
 use Rattle.connection.specs.declared.Settings.{Settings}
-use Rattle.connection.specs.Closings.{isOpen}
 use Rattle.connection.specs.Statuses.{statusOf}
 use Rattle.feeding.specs.Feeding as feeding
 use Rattle.taking.specs.Taking as taking
@@ -14,8 +11,9 @@ use Rattle.putting.specs.Putting as putting
 use Rattle.sending.specs.NextSegment as sending
 use Rattle.promises.specs.Trace.{Out}
 use Rattle.promises.specs.Reached.{Reached}
-use Rattle.promises.specs.Calls.{feed, status, Answer, fed, taken, queued, made, told, World, step}
+use Rattle.promises.specs.Calls.{status, Answer, fed, taken, queued, made, told, World, step}
 use Rattle.promises.proofs.Ways.{Takes, Puts, Nexts, take-way, put-way, next-way}
+use Rattle.promises.proofs.ReachedFeed.{Feeds, feed-way}
 use Rattle.promises.proofs.Reached.{reached-receives, reached-sends}
 
 -- reached, with the settings that the record has
@@ -25,7 +23,7 @@ Good w = Reached (w .connection .settings) w
 pub good : {s : Settings} {w : World} → Reached s w → Good w
 good {w = w} r = subst (λ (u : Settings). Reached u w) (sym (r .settings)) r
 
--- ---- feed
+-- ---- what each call leaves
 
 abbrev pub afterFeed : World → feeding.Told → Out World Answer
 afterFeed w r =
@@ -33,27 +31,6 @@ afterFeed w r =
       world = record { connection = r .answer .connection; receive = r .store; send = w .send };
       answer = fed (r .answer .number) (r .answer .used);
     }
-
--- the state that a run leaves, and how many of its bytes are used
-abbrev pub ends : World → List ℕ → feeding.State
-ends w xs =
-    feeding.fed (w .connection .settings .side) (w .connection .settings .receive) (feeding.given (w .connection) (w .receive)) xs
-
-abbrev pub uses : World → List ℕ → ℕ
-uses w xs =
-    feeding.used (w .connection .settings .side) (w .connection .settings .receive) (feeding.given (w .connection) (w .receive)) xs
-
-pub data Feeds (w : World) (xs : List ℕ) : Out World Answer → Type 0 where
-  shut : isOpen (w .connection .gate) ≡ false → Feeds w xs (record { world = w; answer = fed 20 0 })
-  bytes : isOpen (w .connection .gate) ≡ true → Feeds w xs (afterFeed w (feeding.accepted (w .connection) (uses w xs) (ends w xs)))
-
-pub feeds : (w : World) → Good w → (xs : List ℕ) → Feeds w xs (step w (feed xs))
-unfolding step feeding.feedOf feeding.taken
-feeds w g xs =
-    rw (reached-receives g)
-    (cond-cases (λ (r : feeding.Told). Feeds w xs (afterFeed w r)) (isOpen (w .connection .gate)) (λ o. bytes o) (λ o. shut o))
-
--- ---- take, put and next segment
 
 abbrev pub afterTake : World → taking.Told → Out World Answer
 afterTake w r =
@@ -77,6 +54,9 @@ afterNext w r =
     }
 
 module _ (w : World) (g : Good w) where
+  pub feeds : (xs : List ℕ) → Feeds (w .connection) (w .receive) xs (feeding.feedOf (w .connection) (w .receive) xs)
+  feeds xs = feed-way (w .connection) (w .receive) xs (reached-receives g)
+
   pub takes : (i : ℕ) (buf : List ℕ) → Takes (w .connection) (w .receive) i buf (taking.takeOf (w .connection) (w .receive) i buf)
   takes i buf = take-way (w .connection) (w .receive) i buf (reached-receives g)
 

@@ -38,8 +38,9 @@ use Rattle.promises.specs.Calls.{Call, feed, take, put, next, status, An
 use Rattle.promises.specs.Reached.{Reached}
 use Rattle.promises.specs.History.{Past, usedBy, bytesIn, handedFor, lastRoute, routed, faultBy, firstFault, Closes}
 use Rattle.promises.proofs.Ways.{Takes, refuses, faults, hands, Puts, queues, Nexts, serves}
+use Rattle.promises.proofs.ReachedFeed.{ends, uses, Feeds, shut, bytes}
 use Rattle.promises.proofs.Reached.{opens-fresh}
-use Rattle.promises.proofs.HistoryCalls.{Good, good, ends, uses, Feeds, shut, bytes, feeds, takes, puts, makes, afterTake, afterPut, afterNext}
+use Rattle.promises.proofs.HistoryCalls.{Good, good, feeds, takes, puts, makes, afterFeed, afterTake, afterPut, afterNext}
 use Rattle.promises.proofs.HistoryLayout.{part, add-part, part-whole}
 use Rattle.promises.proofs.HistoryBytes.{Reading, in-head, in-pay, Tied, tied-fed}
 use Rattle.promises.proofs.HistoryReceives.{Held}
@@ -160,12 +161,12 @@ module _ (w : World) (g : Good w) (past : Past) (t : Held (w .connection .settin
       closingOf (o .world .connection .gate)
       ≡ orElse (closingOf (w .connection .gate)) (faultBy side (bytesIn past ++ usedBy a (o .answer)) a (o .answer))
 
-  gated-feed : (xs : List ℕ) {o : Out World Answer} → Feeds w xs o → Gated (feed xs) o
+  gated-feed : (xs : List ℕ) {x : feeding.Told} → Feeds (w .connection) (w .receive) xs x → Gated (feed xs) (afterFeed w x)
   gated-feed xs (shut y) = sym (or-none (closingOf (w .connection .gate)))
-  gated-feed xs (bytes y) = of (ends w xs .gate) refl ∙ sym (open-or (w .connection .gate) _ y)
+  gated-feed xs (bytes y) = of (ends (w .connection) (w .receive) xs .gate) refl ∙ sym (open-or (w .connection .gate) _ y)
     where
-      of : (q : Gate) → ends w xs .gate ≡ q
-          → closingOf q ≡ faultBy side (bytesIn past ++ lists.take (uses w xs) xs) (feed xs) (fed (left q) (uses w xs))
+      of : (q : Gate) → ends (w .connection) (w .receive) xs .gate ≡ q
+          → let n = uses (w .connection) (w .receive) xs in closingOf q ≡ faultBy side (bytesIn past ++ lists.take n xs) (feed xs) (fed (left q) n)
       of Open e = refl
       of (Closed x) e =
           cause-tells
@@ -203,10 +204,9 @@ module _ (w : World) (g : Good w) (past : Past) (t : Held (w .connection .settin
 
 pub closes-after : (s : Settings) (past : Past) (w : World) (a : Call) → Reached s w → Held s past w → Closes s past w
     → Closes s (past ++ (event step w a ∷ [])) (step w a .world)
-closes-after s past w a k t e =
-    subst (λ (u : Settings). Closes u (past ++ (event step w a ∷ [])) (step w a .world)) (k .settings)
-    (closes-call w (good k) past (subst (λ (u : Settings). Held u past w) (sym (k .settings)) t) a
-    (subst (λ (u : Settings). Closes u past w) (sym (k .settings)) e))
+closes-after s past w a k =
+    subst (λ (u : Settings). Held u past w → Closes u past w → Closes u (past ++ (event step w a ∷ [])) (step w a .world)) (k .settings)
+    (λ t. closes-call w (good k) past t a)
 
 pub closes-first : {s : Settings} {receive send : List ℕ} → Opened s receive send → Closes s [] (first s receive send)
 unfolding firstFault

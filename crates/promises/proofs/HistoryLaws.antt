@@ -1,4 +1,4 @@
--- Laws of histories: what one event more adds.
+-- What one event more adds to what a history tells: all is gathered event by event, so what the event tells stands behind the rest.
 -- Assumes nothing.
 use mathlib.Core.Path.{_≡_, refl, ap}
 use mathlib.Core.List.{List, [], _∷_, _++_, append-nil, append-assoc, flatMap}

@@ -25,6 +25,7 @@ use Rattle.connection.specs.declared.Connection.{Connection}
 use Rattle.connection.specs.Closings.{isOpen, closedBy}
 use Rattle.connection.specs.Statuses.{statusOf}
 use Rattle.connection.proofs.RangeLaws.{ranged}
+use Rattle.feeding.specs.Feeding as feeding
 use Rattle.feeding.specs.Feeding.{State, given, fed, used}
 use Rattle.feeding.proofs.Keeping.{kept-given, kept-fed}
 use Rattle.taking.specs.Taking as taking
@@ -35,8 +36,9 @@ use Rattle.promises.specs.Calls.{Call, feed, take, put, next, status, An
 use Rattle.promises.specs.Reached.{Reached}
 use Rattle.promises.specs.History.{Past, usedBy, bytesIn, gave, got, actsBy, acts, handedBy, handedFor, receivedIn, Receives}
 use Rattle.promises.proofs.Ways.{Takes, refuses, faults, hands, Puts, queues, Nexts, serves}
+use Rattle.promises.proofs.ReachedFeed.{Feeds, shut, bytes}
 use Rattle.promises.proofs.Reached.{opens-fresh}
-use Rattle.promises.proofs.HistoryCalls.{Good, good, Feeds, shut, bytes, feeds, takes, puts, makes, afterTake, afterPut, afterNext}
+use Rattle.promises.proofs.HistoryCalls.{Good, good, feeds, takes, puts, makes, afterFeed, afterTake, afterPut, afterNext}
 use Rattle.promises.proofs.HistoryLaws.{no-act-adds, act-adds, act-unseen, front, bytes-next, handed-next}
 use Rattle.promises.proofs.Streams.{stream-count, stream-place, queue-freed, starts-freed}
 use Rattle.promises.proofs.HistoryLayout.{none-for}
@@ -109,12 +111,12 @@ module _ (w : World) (g : Good w) (past : Past) (t : Held (w .connection .settin
   some : (i : ℕ) → i < instances → 0 < getD (s .receive) i 0
   some i l = let q = ranged c (g .ranged) .set .receive i l in omega arith
 
-  held-feed : (xs : List ℕ) {o : Out World Answer} → Feeds w xs o → After (feed xs) o
+  held-feed : (xs : List ℕ) {x : feeding.Told} → Feeds c (w .receive) xs x → After (feed xs) (afterFeed w x)
   unfolding flatMap
-  held-feed xs {o} (shut y) = held-same (feed xs) o refl (λ i. refl) refl refl (λ q. q)
-  held-feed xs {o} (bytes y) =
-      let ev : Event Call Answer = record { call = feed xs; answer = o .answer } in
-      let same : (i : ℕ) → handedFor i past ≡ handedFor i (with (feed xs) (o .answer)) =
+  held-feed xs {x} (shut y) = held-same (feed xs) (afterFeed w x) refl (λ i. refl) refl refl (λ q. q)
+  held-feed xs {x} (bytes y) =
+      let ev : Event Call Answer = record { call = feed xs; answer = (afterFeed w x) .answer } in
+      let same : (i : ℕ) → handedFor i past ≡ handedFor i (with (feed xs) ((afterFeed w x) .answer)) =
       λ i. sym (handed-next past ev i ∙ append-nil (handedFor i past)) in
       let st : State = given c (w .receive) in
       let n : ℕ = used (s .side) (s .receive) st xs in
@@ -174,9 +176,9 @@ module _ (w : World) (g : Good w) (past : Past) (t : Held (w .connection .settin
 
 pub held-after : (s : Settings) (past : Past) (w : World) (a : Call) → Reached s w → Held s past w
     → Held s (past ++ (event step w a ∷ [])) (step w a .world)
-held-after s past w a k t =
-    subst (λ (u : Settings). Held u (past ++ (event step w a ∷ [])) (step w a .world)) (k .settings)
-    (held-call w (good k) past (subst (λ (u : Settings). Held u past w) (sym (k .settings)) t) a)
+held-after s past w a k =
+    subst (λ (u : Settings). Held u past w → Held u (past ++ (event step w a ∷ [])) (step w a .world)) (k .settings)
+    (λ t. held-call w (good k) past t a)
 
 pub held-first : {s : Settings} {receive send : List ℕ} → Opened s receive send → Held s [] (first s receive send)
 unfolding bytesIn handedFor acts flatMap receivedIn stream
@@ -220,5 +222,4 @@ module _ (past : Past) (w : World) (t : Held (w .connection .settings) past w) w
       }
 
 pub receives : (s : Settings) (past : Past) (w : World) → Reached s w → Held s past w → Receives s past w
-receives s past w k t =
-    subst (λ (u : Settings). Receives u past w) (k .settings) (receives-of past w (subst (λ (u : Settings). Held u past w) (sym (k .settings)) t))
+receives s past w k = subst (λ (u : Settings). Held u past w → Receives u past w) (k .settings) (receives-of past w)

@@ -19,6 +19,7 @@ use Rattle.connection.specs.declared.Settings.{Settings}
 use Rattle.connection.specs.declared.Connection.{Connection}
 use Rattle.connection.specs.Statuses.{statusOf}
 use Rattle.connection.proofs.RangeLaws.{ranged}
+use Rattle.feeding.specs.Feeding as feeding
 use Rattle.putting.specs.Putting as putting
 use Rattle.sending.specs.NextSegment as sending
 use Rattle.taking.specs.Taking as taking
@@ -29,9 +30,10 @@ use Rattle.promises.specs.Fairness.{queue, segmentOf, segments, header, 
 use Rattle.promises.specs.History.{Past, gave, got, actsBy, acts, putBy, putFor, sentFor, Sends, Segmented}
 use Rattle.promises.proofs.Ways.{Takes, refuses, faults, hands, Puts, queues, Nexts, serves}
 use Rattle.promises.proofs.FairSent.{of-same, of-other}
+use Rattle.promises.proofs.ReachedFeed.{Feeds, shut, bytes}
 use Rattle.promises.proofs.Reached.{opens-fresh}
 use Rattle.promises.proofs.SegmentMade.{Made, made-of}
-use Rattle.promises.proofs.HistoryCalls.{Good, good, Feeds, shut, bytes, feeds, takes, puts, makes, afterTake, afterPut, afterNext}
+use Rattle.promises.proofs.HistoryCalls.{Good, good, feeds, takes, puts, makes, afterFeed, afterTake, afterPut, afterNext}
 use Rattle.promises.proofs.HistoryLaws.{no-act-adds, act-adds, act-unseen, put-next, sent-next}
 use Rattle.promises.proofs.Streams.{stream-count, stream-place, queue-freed, starts-freed, queue-laid}
 
@@ -132,10 +134,10 @@ module _ (w : World) (g : Good w) (past : Past) (t : Waits (w .connection .setti
             (starts-freed (w .send) (s .send) start waiting j n in-starts (sentFor (s .side) i past) xs (stream-length _ _ _ _ n) i (t .starts i k));
       }
 
-  waits-feed : (xs : List ℕ) {o : Out World Answer} → Feeds w xs o → After (feed xs) o
+  waits-feed : (xs : List ℕ) {x : feeding.Told} → Feeds c (w .receive) xs x → After (feed xs) (afterFeed w x)
   unfolding flatMap
-  waits-feed xs {o} (shut y) = waits-same (feed xs) o refl (λ i. refl) refl refl refl
-  waits-feed xs {o} (bytes y) = waits-same (feed xs) o refl (λ i. refl) refl refl refl
+  waits-feed xs {x} (shut y) = waits-same (feed xs) (afterFeed w x) refl (λ i. refl) refl refl refl
+  waits-feed xs {x} (bytes y) = waits-same (feed xs) (afterFeed w x) refl (λ i. refl) refl refl refl
 
   waits-take : (j : ℕ) (buf : List ℕ) {x : taking.Told} → Takes (w .connection) (w .receive) j buf x → After (take j buf) (afterTake w x)
   waits-take j buf {x} (refuses n z y f) =
@@ -155,9 +157,9 @@ module _ (w : World) (g : Good w) (past : Past) (t : Waits (w .connection .setti
 
 pub waits-after : (s : Settings) (past : Past) (w : World) (a : Call) → Real a → Reached s w → Waits s past w
     → Waits s (past ++ (event step w a ∷ [])) (step w a .world)
-waits-after s past w a real k t =
-    subst (λ (u : Settings). Waits u (past ++ (event step w a ∷ [])) (step w a .world)) (k .settings)
-    (waits-call w (good k) past (subst (λ (u : Settings). Waits u past w) (sym (k .settings)) t) a real)
+waits-after s past w a real k =
+    subst (λ (u : Settings). Waits u past w → Waits u (past ++ (event step w a ∷ [])) (step w a .world)) (k .settings)
+    (λ t. waits-call w (good k) past t a real)
 
 pub waits-first : {s : Settings} {receive send : List ℕ} → Opened s receive send → Waits s [] (first s receive send)
 unfolding putFor acts segments sentBy flatMap stream
@@ -186,8 +188,7 @@ sends-of past w t =
     }
 
 pub sends : (s : Settings) (past : Past) (w : World) → Reached s w → Waits s past w → Sends s past w
-sends s past w k t =
-    subst (λ (u : Settings). Sends u past w) (k .settings) (sends-of past w (subst (λ (u : Settings). Waits u past w) (sym (k .settings)) t))
+sends s past w k = subst (λ (u : Settings). Waits u past w → Sends u past w) (k .settings) (sends-of past w)
 
 -- a segment that is made
 segmented-of : (w : World) (g : Good w) (time : ℕ) (buf : List ℕ) → time < 2 ^ 32 → {x : sending.Told} → Nexts (w .connection) (w .send) time buf x

@@ -1,16 +1,16 @@
 -- The states (T11 c): each call moves no state, or that of one instance by one row, and notes it as an act of that instance.
 -- Assumes nothing.
 use mathlib.Core.Path.{_≡_, refl, sym, ap}
-use mathlib.Core.Bool.{Bool, true, false, true≢false, cond, not, _&&_, _||_}
+use mathlib.Core.Bool.{Bool, true, false, true≢false, cond, not, _&&_, _||_, or-false}
 use mathlib.Core.List.{List, [], _∷_, _++_, append-nil, flatMap}
 use mathlib.Core.Logic.{_≢_}
 use Prim.Native.Nat.{ℕ, _<_}
 use native.Mathlib.Omega.{arith}
-use borrow.Author.Tests.{eqb-true, eqb-false}
+use borrow.Author.Tests.{eq-eqb, ne-eqb, eqb-true}
 use lib.Dec.{eqb}
 use lib.ListN as lists
 use lib.ListN.{length, getD, getD-replicate}
-use lib.Seq.{sets, getD-set-same, getD-set-other}
+use lib.Seq.{sets}
 use Rattle.base.proofs.Conds.{by-test}
 use Rattle.ring.proofs.Stores.{stream-length}
 use Rattle.wire.specs.declared.instances.Side.{Side}
@@ -27,6 +27,7 @@ use Rattle.connection.proofs.RangeLaws.{ranged}
 use Rattle.judging.proofs.Moving.{leads-low}
 use Rattle.judging.specs.Judging.{holds, stateOf, ours, movedBy}
 use Rattle.taking.specs.Taking as taking
+use Rattle.feeding.specs.Feeding as feeding
 use Rattle.putting.specs.Putting as putting
 use Rattle.sending.specs.NextSegment as sending
 use Rattle.promises.specs.Trace.{Out, event}
@@ -34,8 +35,10 @@ use Rattle.promises.specs.Calls.{Call, feed, take, put, next, status, An
 use Rattle.promises.specs.Reached.{Reached}
 use Rattle.promises.specs.History.{Past, Act, gave, got, messageIn, actsBy, acts, theirs, Moves, Walks, rests, moves, endsInAccept, Talks}
 use Rattle.promises.proofs.Ways.{early, Takes, refuses, faults, hands, Puts, queues, Nexts, serves}
+use Rattle.promises.proofs.Streams.{at-set}
+use Rattle.promises.proofs.ReachedFeed.{Feeds, shut, bytes}
 use Rattle.promises.proofs.Reached.{opens-fresh}
-use Rattle.promises.proofs.HistoryCalls.{good, Feeds, shut, bytes, feeds, takes, puts, makes, afterTake, afterPut, afterNext}
+use Rattle.promises.proofs.HistoryCalls.{good, feeds, takes, puts, makes, afterFeed, afterTake, afterPut, afterNext}
 use Rattle.promises.proofs.HistoryLaws.{no-act, an-act, front, acts-next}
 
 -- ---- rows
@@ -86,9 +89,9 @@ module _ (s : Settings) (w : World) (k : Reached s w) where
       acted j (gave xs) to h (record { message = m; reads = r; agency = rw (← k .settings) u; row = q }) refl
       (λ i. an-act (eqb j i) (gave xs))
 
-  talked-feed : (xs : List ℕ) {o : Out World Answer} → Feeds w xs o → Talked s w (feed xs) o
-  talked-feed xs (shut g) = quiet refl (λ i. refl)
-  talked-feed xs (bytes g) = quiet refl (λ i. refl)
+  talked-feed : (xs : List ℕ) {x : feeding.Told} → Feeds (w .connection) (w .receive) xs x → Talked s w (feed xs) (afterFeed w x)
+  talked-feed xs (shut y) = quiet refl (λ i. refl)
+  talked-feed xs (bytes y) = quiet refl (λ i. refl)
 
   talked-next : (time : ℕ) (buf : List ℕ) {x : sending.Told} → Nexts (w .connection) (w .send) time buf x → Talked s w (next time buf) (afterNext w x)
   talked-next time buf (refuses n z y) = quiet refl (λ i. refl)
@@ -115,22 +118,14 @@ ends-next [] a = refl
 ends-next (b ∷ []) a = refl
 ends-next (b ∷ d ∷ before) a = ends-next (d ∷ before) a
 
-or-false : (b : Bool) → (b || false) ≡ b
-or-false true = refl
-or-false false = refl
-
 module _ (s : Settings) (w : World) (k : Reached s w) (past : Past) (t : Talks s past w) where
   -- the states of all after an act of j
   walks-on : (j to : ℕ) (a : Act) → j < instances → Moves (s .side) j (stateOf (w .connection) j) a to → (i : ℕ) → i < instances
       → Walks (s .side) i 0 (acts i past ++ cond (eqb j i) (a ∷ []) []) (getD (lists.set (w .connection .talk .states) j to) i 0)
-  walks-on j to a h m i l =
-      by-test (eqb j i)
-      (λ q.
-      let e : j ≡ i = eqb-true j i q in
-      rw (q, ← e, getD-set-same (w .connection .talk .states) j to 0 (omega (arith, k .shaped .states))) (walk-next (t .states j h) m))
-      (λ q.
-      let n : i ≢ j = λ e. eqb-false j i q (sym e) in
-      rw (q, append-nil, getD-set-other (w .connection .talk .states) j i to 0 n) (t .states i l))
+  walks-on j to a h m i =
+      at-set (λ n state. n < instances → Walks (s .side) n 0 (acts n past ++ cond (eqb j n) (a ∷ []) []) state) (w .connection .talk .states) j to
+      (omega (arith, k .shaped .states)) (λ l. rw (eq-eqb j j refl) (walk-next (t .states j h) m))
+      (λ n ne l. rw (ne-eqb j n (λ e. ne (sym e)), append-nil) (t .states n l)) i
 
   -- and whether Accept is marked: no state with a row is Handshake's last
   marks-on : (j to : ℕ) (a : Act) (m : Moves (s .side) j (stateOf (w .connection) j) a to)

@@ -2,9 +2,9 @@ pub mod ExampleLaws
 pub mod Ways
 pub mod ReachedFeed
 pub mod ReachedHandshake
+pub mod Streams
 pub mod Reached
 pub mod HistoryLaws
-pub mod Streams
 pub mod SegmentMade
 pub mod FairRound
 pub mod FairCalls

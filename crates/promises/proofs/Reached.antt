@@ -45,7 +45,8 @@ use Rattle.promises.specs.Reached.{waits, Reached, InRangeForEver, numbe
 use Rattle.promises.proofs.ReachedHandshake.{shakes, spare, spare-put, spare-moved, spare-first}
 use Rattle.promises.proofs.Ways.{Row, Takes, Puts, Nexts, refuses, faults, hands, queues, serves, take-way, put-way, next-way}
 use Rattle.promises.proofs.ReachedFeed as tidy
-use Rattle.promises.proofs.ReachedFeed.{Blank, Tidy, Feeds, stays, feeds, feed-way}
+use Rattle.promises.proofs.ReachedFeed.{Blank, Tidy, tidy-fed, ends, Feeds, shut, bytes, feed-way}
+use Rattle.promises.proofs.Streams.{at-set}
 
 -- ---- what every call keeps
 
@@ -89,14 +90,15 @@ module _ (s : Settings) (w : World) (k : Sound s w) where
 
   -- ---- feed
 
-  pub feeds-tidy : Tidy (c .receiving .starts) (feeding.given c (w .receive))
-  feeds-tidy = record { places = refl; many = r .shaped .held; blank = r .blank; idle = r .idle }
-
   sound-fed : {xs : List ℕ} {t : feeding.Told} → Feeds c (w .receive) xs t → receives (t .answer .connection) (length (t .store)) ≡ true
       → Spelt (t .answer .connection .receiving .header)
       → Sound s (record { connection = t .answer .connection; receive = t .store; send = w .send })
-  sound-fed (stays n) ok spelt = k
-  sound-fed (feeds n st t) ok spelt =
+  sound-fed (shut o) ok spelt = k
+  sound-fed {xs} (bytes o) ok spelt =
+      let st : feeding.State = ends c (w .receive) xs in
+      let t : Tidy (c .receiving .starts) st =
+      tidy-fed (c .settings .side) (c .settings .receive) (c .receiving .starts) (feeding.given c (w .receive)) xs
+      (record { places = refl; many = r .shaped .held; blank = r .blank; idle = r .idle }) in
       let p = both-true (inRange (withReceiving c (st .receiving) (st .gate))) (receiveStoreOk (c .settings) (length (st .store))) ok in
       record {
         reached =
@@ -130,7 +132,7 @@ module _ (s : Settings) (w : World) (k : Sound s w) where
   unfolding step
   sound-feed xs b =
       let q = feeding-laws.keeps c (w .receive) xs (r .spelt) b (reached-receives r) in
-      sound-fed (feed-way c (w .receive) xs (reached-receives r) feeds-tidy) (q .0) (q .1)
+      sound-fed (feed-way c (w .receive) xs (reached-receives r)) (q .0) (q .1)
 
   -- ---- take
 
@@ -236,10 +238,7 @@ module _ (s : Settings) (w : World) (k : Sound s w) where
   -- what is sent waits no more
   fewer : (i n : ℕ) → i < instances → (j : ℕ) → getD (set (c .sending .waiting) i (waits w i - n)) j 0 ≤ waits w j
   fewer i n l j =
-      by-test (eqb j i)
-      (λ t.
-      rw (eqb-true j i t, getD-set-same (c .sending .waiting) i (waits w i - n) 0 (omega (arith, r .shaped .waiting))) (omega arith))
-      (λ t. rw (getD-set-other (c .sending .waiting) i j (waits w i - n) 0 (eqb-false j i t)) (omega arith))
+      at-set (λ j m. m ≤ waits w j) (c .sending .waiting) i (waits w i - n) (omega (arith, r .shaped .waiting)) (omega arith) (λ j ne. omega arith) j
 
   sound-next-way : {time : ℕ} {buf : List ℕ} {t : sending.Told} → Nexts c (w .send) time buf t → inRange (t .made .connection) ≡ true
       → Shaped (t .made .connection) → Sound s (record { connection = t .made .connection; receive = w .receive; send = w .send })

@@ -1,7 +1,7 @@
 -- What feeding leaves of a record besides its range, byte by byte: its shape, and that what has not come is 0.
 -- Assumes nothing.
 use mathlib.Core.Path.{_≡_, refl, _∙_}
-use mathlib.Core.Bool.{true, cond}
+use mathlib.Core.Bool.{true, false, cond}
 use mathlib.Core.List.{List, [], _∷_}
 use Prim.Native.Nat.{ℕ, zero, suc, _+_, _-_, _≤_}
 use native.Mathlib.Omega.{arith}
@@ -19,7 +19,7 @@ use Rattle.connection.specs.Closings.{isOpen}
 use Rattle.connection.specs.Ranges.{receives}
 use Rattle.feeding.specs.declared.Admission.{Admission}
 use Rattle.feeding.specs.declared.Admission.the-variants.{Fault, Payload}
-use Rattle.feeding.specs.Feeding.{State, admission, settled, headed, kept, step, fed, Told, given, accepted, refused, taken, feedOf}
+use Rattle.feeding.specs.Feeding.{State, admission, settled, headed, kept, step, fed, used, Told, given, accepted, refused, taken, feedOf}
 
 abbrev pub Blank : Header → Type 0
 Blank h = (k : ℕ) → h .count ≤ k → getD (h .bytes) k 0 ≡ 0
@@ -75,21 +75,25 @@ module _ (side : Side) (caps starts : List ℕ) where
       }))
       (λ o. t)
 
-  tidy-fed : (s : State) (xs : List ℕ) → Tidy starts s → Tidy starts (fed side caps s xs)
+  pub tidy-fed : (s : State) (xs : List ℕ) → Tidy starts s → Tidy starts (fed side caps s xs)
   unfolding fed
   tidy-fed s [] t = t
   tidy-fed s (x ∷ xs) t = tidy-fed (step side caps s x) xs (tidy-step s x t)
 
--- Nothing changes, or bytes are fed: only what was received, the gate and the receive store change.
-pub data Feeds (c : Connection) (st xs : List ℕ) : Told → Type 0 where
-  stays : (n : ℕ) → Feeds c st xs (refused n c st)
-  feeds : (n : ℕ) (s : State) → Tidy (c .receiving .starts) s → Feeds c st xs (accepted c n s)
+-- ---- a call
 
-pub feed-way : (c : Connection) (st xs : List ℕ) → receives c (length st) ≡ true → Tidy (c .receiving .starts) (given c st)
-    → Feeds c st xs (feedOf c st xs)
+-- the state that a run leaves, and how many of its bytes are used
+abbrev pub ends : Connection → List ℕ → List ℕ → State
+ends c st xs = fed (c .settings .side) (c .settings .receive) (given c st) xs
+
+abbrev pub uses : Connection → List ℕ → List ℕ → ℕ
+uses c st xs = used (c .settings .side) (c .settings .receive) (given c st) xs
+
+-- A feed to a record in range with its store: the gate is closed and nothing changes, or bytes are fed.
+pub data Feeds (c : Connection) (st xs : List ℕ) : Told → Type 0 where
+  shut : isOpen (c .gate) ≡ false → Feeds c st xs (refused 20 c st)
+  bytes : isOpen (c .gate) ≡ true → Feeds c st xs (accepted c (uses c st xs) (ends c st xs))
+
+pub feed-way : (c : Connection) (st xs : List ℕ) → receives c (length st) ≡ true → Feeds c st xs (feedOf c st xs)
 unfolding feedOf taken
-feed-way c st xs r t =
-    rw r
-    (cond-cases (Feeds c st xs) (isOpen (c .gate))
-    (λ o. feeds _ _ (tidy-fed (c .settings .side) (c .settings .receive) (c .receiving .starts) (given c st) xs t))
-    (λ o. stays 20))
+feed-way c st xs r = rw r (cond-cases (Feeds c st xs) (isOpen (c .gate)) (λ o. bytes o) (λ o. shut o))

@@ -1,14 +1,14 @@
 -- Laws of streams, of which the first bytes are gone and the others lie in an area: of one, and of every instance's, where bytes of one instance go
 -- or come.
 -- Assumes nothing.
-use mathlib.Core.Path.{_≡_, sym, ap, _∙_}
+use mathlib.Core.Path.{_≡_, refl, sym, ap, _∙_}
 use mathlib.Core.Bool.{cond}
 use mathlib.Core.List.{List, [], _++_, append-nil}
 use mathlib.Core.Logic.{_≢_}
 use Prim.Native.Nat.{ℕ, _+_, _-_, _%_, _≤_, _<_}
 use native.Mathlib.Omega.{arith}
 use native.Mathlib.Nat.{mod-mod, mod-add-mod}
-use borrow.Author.Tests.{eqb-true, eqb-false}
+use borrow.Author.Tests.{eq-eqb, ne-eqb, eqb-true, eqb-false}
 use lib.Dec.{eqb}
 use lib.ListN.{length, getD, set, length-append}
 use lib.Seq.{getD-append-add, getD-set-same, getD-set-other}
@@ -51,6 +51,13 @@ module _ (store : List ℕ) (base cap start count : ℕ) where
 
 -- ---- of every instance
 
+-- what holds of the value that is set, and of the others, holds at each place
+pub at-set : (P : ℕ → ℕ → Type 0) (l : List ℕ) (i v : ℕ) → i < length l → P i v → ((j : ℕ) → j ≢ i → P j (getD l j 0)) → (j : ℕ)
+    → P j (getD (set l i v) j 0)
+at-set P l i v h here there j =
+    by-test (eqb j i) (λ q. rw (eqb-true j i q, getD-set-same l i v 0 h) here)
+    (λ q. rw (getD-set-other l i j v 0 (eqb-false j i q)) (there j (eqb-false j i q)))
+
 -- the bytes of instance i in a store, by capacities, start places and counts
 abbrev pub queueAt : List ℕ → List ℕ → List ℕ → List ℕ → ℕ → List ℕ
 queueAt store caps starts counts i = stream store (baseOf caps i) (getD caps i 0) (getD starts i 0) (getD counts i 0)
@@ -82,15 +89,10 @@ module _ (store caps starts counts : List ℕ) (j : ℕ) where
     -- and each start place is as many bytes on as are gone
     pub starts-freed : (gone xs : List ℕ) → length xs ≡ n → (i : ℕ) → getD starts i 0 ≡ length gone % getD caps i 0
         → getD later i 0 ≡ length (gone ++ cond (eqb j i) xs []) % getD caps i 0
-    starts-freed gone xs long i at =
-        by-test (eqb j i)
-        (λ q.
-        let e : j ≡ i = eqb-true j i q in
-        let here : getD starts j 0 ≡ length gone % getD caps j 0 = rw e at in
-        rw (q, ← e, getD-set-same starts j ((getD starts j 0 + n) % getD caps j 0) 0 in-starts, length-append, long, here, mod-add-mod))
-        (λ q.
-        let ne : i ≢ j = λ e. eqb-false j i q (sym e) in
-        rw (q, append-nil, getD-set-other starts j i ((getD starts j 0 + n) % getD caps j 0) 0 ne) at)
+    starts-freed gone xs long =
+        at-set (λ i m. getD starts i 0 ≡ length gone % getD caps i 0 → m ≡ length (gone ++ cond (eqb j i) xs []) % getD caps i 0) starts j
+        ((getD starts j 0 + n) % getD caps j 0) in-starts (λ at. rw (eq-eqb j j refl, length-append, long, at, mod-add-mod))
+        (λ i ne at. rw (ne-eqb j i (λ e. ne (sym e)), append-nil) at)
 
   -- bytes xs are laid behind those of instance j
   pub queue-laid : (xs : List ℕ) → length store ≡ together caps → ((i : ℕ) → i < length caps → 0 < getD caps i 0)
@@ -98,13 +100,16 @@ module _ (store caps starts counts : List ℕ) (j : ℕ) where
       → queueAt (laid store (baseOf caps j) (getD caps j 0) (getD starts j 0 + getD counts j 0) xs) caps starts
       (set counts j (getD counts j 0 + length xs)) i
       ≡ queueAt store caps starts counts i ++ cond (eqb j i) xs []
-  queue-laid xs all some in-caps in-counts fit i l =
-      by-test (eqb j i)
-      (λ q.
-      let e : j ≡ i = eqb-true j i q in
-      rw (q, ← e, getD-set-same counts j (getD counts j 0 + length xs) 0 in-counts)
+  queue-laid xs all some in-caps in-counts fit =
+      at-set
+      (λ i n.
+      i < length caps
+      → stream (laid store (baseOf caps j) (getD caps j 0) (getD starts j 0 + getD counts j 0) xs) (baseOf caps i) (getD caps i 0) (getD starts i 0) n
+      ≡ queueAt store caps starts counts i ++ cond (eqb j i) xs [])
+      counts j (getD counts j 0 + length xs) in-counts
+      (λ l.
+      rw (eq-eqb j j refl)
       (stream-behind store (baseOf caps j) (getD caps j 0) (getD starts j 0) (getD counts j 0) xs fit (area-in-store store caps j all in-caps)))
-      (λ q.
-      let ne : i ≢ j = λ e. eqb-false j i q (sym e) in
-      rw (q, append-nil, getD-set-other counts j i (getD counts j 0 + length xs) 0 ne)
+      (λ i ne l.
+      rw (ne-eqb j i (λ e. ne (sym e)), append-nil)
       (stream-stays store caps i j (getD starts i 0) (getD counts i 0) (getD starts j 0 + getD counts j 0) xs ne (some i l) (some j in-caps)))
