@@ -2,7 +2,7 @@
 -- Handshake, each of which one of the segments made takes away.
 -- Assumes nothing.
 use mathlib.Core.Path.{_≡_, refl, sym, ap, subst, _∙_}
-use mathlib.Core.List.{List, [], _∷_, _++_}
+use mathlib.Core.List.{List, [], _∷_, _++_, flatMap}
 use mathlib.Core.Logic.{_≢_}
 use Prim.Native.Nat.{ℕ, zero, suc, _+_, _-_, _*_, _/_, _≤_, _<_}
 use native.Mathlib.Omega.{arith}
@@ -283,14 +283,14 @@ serves-always s w r =
 
 due : (s : Settings) (i : ℕ) → 1 ≤ i → i < instances → (cs : List Call) (w : World) → AllReal cs → Sound s w
     → Rest s w i (segments (trace step w cs))
-unfolding segments trace AllReal
+unfolding segments trace AllReal flatMap
 due s i some inside [] w a k = λ p n D h. absurd (omega (arith, D .budget))
 due s i some inside (c ∷ cs) w (b, a) k =
     let k′ = sound-step s w c b k in
     by-move s w i some inside (moves s w k c b) k k′ (segments (trace step (step w c .world) cs)) (due s i some inside cs (step w c .world) a k′)
 
 zeroth : (s : Settings) (cs : List Call) (w : World) → AllReal cs → Sound s w → Next s w (segments (trace step w cs))
-unfolding segments trace AllReal
+unfolding segments trace AllReal flatMap
 zeroth s [] w a k = λ p n there h. absurd (omega arith)
 zeroth s (c ∷ cs) w (b, a) k =
     by-next s w (moves s w k c b) k (segments (trace step (step w c .world) cs))

@@ -24,5 +24,6 @@ module _ {s : Settings} (Ties : Past → World → Type 0)
 pub along : {s : Settings} {receive send : List ℕ} → Opened s receive send → (Ties : Past → World → Type 0)
     → ((past : Past) (w : World) (c : Call) → Real c → Reached s w → Reached s (step w c .world)
     → Ties past w → Ties (past ++ (event step w c ∷ [])) (step w c .world))
-    → (cs : List Call) → AllReal cs → Ties [] (first s receive send) → Ties (trace step (first s receive send) cs) (run step (first s receive send) cs)
+    → (cs : List Call) → AllReal cs → Ties [] (first s receive send)
+    → Ties (trace step (first s receive send) cs) (run step (first s receive send) cs)
 along {s} {receive} {send} o Ties one cs a t = on Ties one cs [] (first s receive send) a (sound-first s receive send o) t

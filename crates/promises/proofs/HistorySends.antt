@@ -42,7 +42,7 @@ use Rattle.promises.proofs.Streams.{stream-count, stream-place, queue-f
 -- the payload of a segment of instance j, for i
 payload-is : (w : World) (time j : ℕ) (bs : List ℕ) → Made w time j bs → (i : ℕ) → i < instances
     → sentBy (w .connection .settings .side) i (bs ∷ []) ≡ cond (eqb j i) (sending.payloadOf (w .connection) (w .send) j) []
-unfolding sentBy
+unfolding sentBy flatMap
 payload-is w time j bs m i l =
     let side : Side = w .connection .settings .side in
     let mode : header bs .mode ≡ modeOf side j = ap (λ (h : Segment). h .mode) (m .reads) in
@@ -78,7 +78,7 @@ module _ (w : World) (g : Good w) (past : Past) (t : Waits (w .connection .setti
   waits-same : (a : Call) (o : Out World Answer) → segmentOf (o .answer) ≡ [] → ((i : ℕ) → flatMap putBy (actsBy i a (o .answer)) ≡ [])
       → o .world .connection .sending ≡ c .sending → o .world .connection .settings ≡ c .settings → o .world .send ≡ w .send
       → After a o
-  unfolding sentBy
+  unfolding sentBy flatMap
   waits-same a o none nothing e k f =
       let ev : Event Call Answer = record { call = a; answer = o .answer } in
       let puts-same : (i : ℕ) → putFor i (with a (o .answer)) ≡ putFor i past = λ i. put-next past ev i ∙ rw (nothing i, append-nil) in
@@ -90,7 +90,7 @@ module _ (w : World) (g : Good w) (past : Past) (t : Waits (w .connection .setti
   some i l = let q = ranged c (g .ranged) .set .send i (omega (arith, g .shaped .send)) in omega arith
 
   waits-put : (j : ℕ) (xs : List ℕ) {x : putting.Told} → Puts (w .connection) (w .send) j xs x → After (put j xs) (afterPut w x)
-  unfolding sentBy
+  unfolding sentBy flatMap
   waits-put j xs {x} (refuses n z y) = waits-same (put j xs) (afterPut w x) refl (λ i. no-act-adds putBy (eqb j i) n (gave xs) z) refl refl refl
   waits-put j xs {x} (queues m to h y free u r q short fit) =
       let ev : Event Call Answer = record { call = put j xs; answer = (afterPut w x) .answer } in

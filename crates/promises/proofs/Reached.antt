@@ -73,8 +73,8 @@ reached-sends {w = w} r =
     rw (r .ranged, eq-eqb (length (w .send)) (together caps) (r .send ∙ ap (λ (x : Settings). together (x .send)) (sym (r .settings))))
 
 -- whoever is chosen is an instance with bytes waiting
-pub chosen-waiting : {s : Settings} {w : World} → Reached s w → (i : ℕ) → chosen (w .connection .sending .waiting) (w .connection .sending .turn) ≡ Instance i
-    → (i < instances) × (0 < waits w i)
+pub chosen-waiting : {s : Settings} {w : World} → Reached s w → (i : ℕ)
+    → chosen (w .connection .sending .waiting) (w .connection .sending .turn) ≡ Instance i → (i < instances) × (0 < waits w i)
 chosen-waiting {w = w} r i e =
     let n : length (w .connection .sending .waiting) ≡ instances = r .shaped .waiting in
     let turn = ranged (w .connection) (r .ranged) .turn in
@@ -230,7 +230,8 @@ module _ (s : Settings) (w : World) (k : Sound s w) where
   sound-put i xs =
       let q = putting-laws.keeps c (w .send) i xs (r .shaped) (reached-sends r) in
       let after = putting.putOf c (w .send) i xs in
-      let ok = both-true (inRange (after .answer .connection)) (sendStoreOk (after .answer .connection .settings) (length (after .store))) (q .ranged) in
+      let c′ : Connection = after .answer .connection in
+      let ok = both-true (inRange c′) (sendStoreOk (c′ .settings) (length (after .store))) (q .ranged) in
       sound-put-way (put-way c (w .send) i xs (reached-sends r)) (ok .0) (q .shaped) (q .long)
 
   -- ---- next segment

@@ -76,7 +76,12 @@ module _ (store caps starts counts : List ℕ) (j : ℕ) where
         by-test (eqb j i)
         (λ q.
         let e : j ≡ i = eqb-true j i q in
-        rw (q, ← e, getD-set-same starts j ((getD starts j 0 + n) % getD caps j 0) 0 in-starts, getD-set-same counts j (getD counts j 0 - n) 0 in-counts)
+        rw (
+          q,
+          ← e,
+          getD-set-same starts j ((getD starts j 0 + n) % getD caps j 0) 0 in-starts,
+          getD-set-same counts j (getD counts j 0 - n) 0 in-counts,
+        )
         (stream-freed store (baseOf caps j) (getD caps j 0) (getD starts j 0) (getD counts j 0) n few))
         (λ q.
         let ne : i ≢ j = λ e. eqb-false j i q (sym e) in

@@ -2,7 +2,7 @@
 use Prim.Native.Nat.{ℕ, _+_, _-_, _*_, _/_, _≤_, _<_}
 use mathlib.Core.Path.{_≡_}
 use mathlib.Core.Bool.{Bool, true, cond, _&&_}
-use mathlib.Core.List.{List, [], _∷_, _++_}
+use mathlib.Core.List.{List, [], _∷_, _++_, flatMap}
 use mathlib.Core.Logic.{_↔_}
 use lib.Dec.{eqb}
 use lib.ListN.{length, getD, drop}
@@ -36,8 +36,7 @@ segmentOf (told report) = []
 
 -- the segments made, in order
 unfoldable pub segments : List (Event Call Answer) → List (List ℕ)
-segments [] = []
-segments (e ∷ es) = segmentOf (e .answer) ++ segments es
+segments past = flatMap (λ e. segmentOf (e .answer)) past
 
 -- what a segment's header says, and what follows it
 abbrev pub header : List ℕ → Segment
@@ -52,8 +51,7 @@ isOf side i bs = eqb (header bs .mode) (modeOf side i) && eqb (header bs .protoc
 
 -- the bytes of instance i in segments, end to end
 unfoldable pub sentBy : Side → ℕ → List (List ℕ) → List ℕ
-sentBy side i [] = []
-sentBy side i (bs ∷ ss) = cond (isOf side i bs) (payload bs) [] ++ sentBy side i ss
+sentBy side i ss = flatMap (λ bs. cond (isOf side i bs) (payload bs) []) ss
 
 -- One of the segments, for instance i and as long as its header says, carries byte b, in front of which there are p bytes of i:
 -- those in the segments in front of it, and those in front of b in its own payload.
