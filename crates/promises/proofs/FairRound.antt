@@ -48,7 +48,7 @@ reach n t i low high some within = elim (decLt i t) [
       )
 ]
 
-pub after-some : (n i : ℕ) → 1 ≤ afterOf n i
+after-some : (n i : ℕ) → 1 ≤ afterOf n i
 after-some n i = cond-cases (λ (k : ℕ). 1 ≤ k) (eqb (i + 1) n) (λ t. omega arith) (λ t. omega arith)
 
 -- instance j, found on the way to i, is i, or i is nearer to the one after j
@@ -61,7 +61,7 @@ found-later it = it
 found-later (nearer j e some lt r) = nearer j e some (omega arith) r
 
 -- a search that would come to i after d steps finds somebody, who is i or before it
-pub sought : (ws : List ℕ) (d k t i : ℕ) → 1 ≤ t → rounds (length ws) d t ≡ i → d < k → 0 < getD ws i 0
+sought : (ws : List ℕ) (d k t i : ℕ) → 1 ≤ t → rounds (length ws) d t ≡ i → d < k → 0 < getD ws i 0
     → (j : ℕ) × (seek ws t k ≡ Instance j) × Found (length ws) i d j
 unfolding rounds seek
 sought ws d zero t i some r h has = absurd (omega arith)

@@ -240,7 +240,7 @@ module _ (side : Side) (caps : List ℕ) (handed : ℕ → List ℕ) (wide : len
           many = many-after;
         })
 
-  pub tied-read : (bs : List ℕ) (b : ℕ) (s : State) (starts : List ℕ) (n : ℕ) (t : Tied side caps handed bs s) → isOpen (s .gate) ≡ true
+  tied-read : (bs : List ℕ) (b : ℕ) (s : State) (starts : List ℕ) (n : ℕ) (t : Tied side caps handed bs s) → isOpen (s .gate) ≡ true
       → Kept caps starts n s → n ≡ together caps → Reading side (s .receiving) (t .left) → Tied side caps handed (bs ++ (b ∷ [])) (step side caps s b)
   tied-read bs b s starts n t o k long (in-head z short e) =
       rw (step-headed side caps s b o z) (tied-headed bs b s t o z short e)

@@ -58,7 +58,7 @@ their-turn side i s k f n e q =
 
 -- ---- what a call does to the states
 
-pub data Talked (s : Settings) (w : World) (c : Call) (o : Out World Answer) : Type 0 where
+data Talked (s : Settings) (w : World) (c : Call) (o : Out World Answer) : Type 0 where
   quiet : o .world .connection .talk ≡ w .connection .talk → ((i : ℕ) → actsBy i c (o .answer) ≡ []) → Talked s w c o
   acted : (j : ℕ) (a : Act) (to : ℕ) → j < instances → (k : Moves (s .side) j (getD (w .connection .talk .states) j 0) a to)
       → o .world .connection .talk ≡ movedBy (w .connection .talk) j (k .message .kind) to
@@ -97,7 +97,7 @@ module _ (s : Settings) (w : World) (k : Reached s w) where
   talked-next time buf (refuses n z y) = quiet refl (λ i. refl)
   talked-next time buf (serves j who l) = quiet refl (λ i. refl)
 
-  pub talked : (c : Call) → Talked s w c (step w c)
+  talked : (c : Call) → Talked s w c (step w c)
   unfolding step
   talked (feed xs) = talked-feed xs (feeds w (good k) xs)
   talked (take j buf) = talked-take j buf (takes w (good k) j buf)

@@ -19,7 +19,7 @@ use Rattle.ring.proofs.Areas.{area-in-store, stream-stays}
 
 module _ (store : List ℕ) (base cap start count : ℕ) where
   -- n bytes go, and the others stay
-  pub stream-freed : (n : ℕ) → n ≤ count
+  stream-freed : (n : ℕ) → n ≤ count
       → stream store base cap start count ≡ stream store base cap start n ++ stream store base cap ((start + n) % cap) (count - n)
   stream-freed n l =
       let e : count ≡ n + (count - n) = omega arith in
