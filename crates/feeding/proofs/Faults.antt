@@ -13,7 +13,8 @@ use Rattle.wire.specs.declared.segment.Header.{Header}
 use Rattle.wire.specs.declared.instances.Side.{Side}
 use Rattle.wire.specs.declared.instances.Route.{Route}
 use Rattle.wire.specs.declared.instances.Route.the-variants.{Unknown, Wrong, To}
-use Rattle.wire.specs.Segments.{headerLength, added}
+use Rattle.wire.specs.Segments.{headerLength, added, decoded}
+use Rattle.wire.specs.Instances.{routeOf}
 use Rattle.connection.specs.declared.Closing.{Closing}
 use Rattle.connection.specs.declared.Closing.the-variants.{Bare, Of}
 use Rattle.connection.specs.declared.Gate.{Gate}
@@ -61,20 +62,32 @@ cause-number (overflow i h) = (omega arith, omega arith)
 
 -- ---- which byte
 
--- what follows from what an eighth byte says
-pub eighth-so : {side : Side} {caps : List ℕ} {s : State} {xs : List ℕ} {P Q : List ℕ → ℕ → Route → Type 0}
-    → ((held : List ℕ) (n : ℕ) (to : Route) → P held n to → Q held n to) → Eighth side caps s xs P → Eighth side caps s xs Q
-eighth-so f k =
-    record {
-      front = k .front;
-      byte = k .byte;
-      back = k .back;
-      run = k .run;
-      reached = k .reached;
-      idle = k .idle;
-      whole = k .whole;
-      says = f _ _ _ (k .says);
-    }
+module _ {side : Side} {caps : List ℕ} {s : State} {xs : List ℕ} {P : List ℕ → ℕ → Route → Type 0} where
+  -- Q holds of the counts, the length and the route of an eighth byte
+  abbrev pub Holds : Eighth side caps s xs P → (List ℕ → ℕ → Route → Type 0) → Type 0
+  Holds k Q =
+      let m = fed side caps s (k .front) .receiving in
+      let d = decoded (added (m .header) (k .byte) .bytes) in
+      Q (m .held) (d .len) (routeOf side (d .protocol) (d .mode))
+
+  -- the same byte, of which more is known
+  pub eighth-with : {Q : List ℕ → ℕ → Route → Type 0} (k : Eighth side caps s xs P) → Holds k Q → Eighth side caps s xs Q
+  eighth-with k q =
+      record {
+        front = k .front;
+        byte = k .byte;
+        back = k .back;
+        run = k .run;
+        reached = k .reached;
+        idle = k .idle;
+        whole = k .whole;
+        says = q;
+      }
+
+  -- what follows from what it says
+  pub eighth-so : {Q : List ℕ → ℕ → Route → Type 0} → ((held : List ℕ) (n : ℕ) (to : Route) → P held n to → Q held n to)
+      → Eighth side caps s xs P → Eighth side caps s xs Q
+  eighth-so {Q} f k = eighth-with {Q = Q} k (f _ _ _ (k .says))
 
 module _ (side : Side) (caps : List ℕ) where
   -- what an eighth byte says
@@ -156,6 +169,12 @@ module _ (side : Side) (caps : List ℕ) where
         ap (λ (l : List ℕ). used side caps s l) (e .run) ∙ used-append side caps s (e .front) (e .byte ∷ e .back)
             ∙ omega (arith, used-all s (e .front) (e .reached), some),
       )
+
+  -- what was open at a byte was open before
+  pub open-before : (s : State) (xs : List ℕ) → isOpen (fed side caps s xs .gate) ≡ true → isOpen (s .gate) ≡ true
+  open-before s xs o =
+      by-test (isOpen (s .gate)) (λ t. t)
+      (λ t. absurd (true≢false (sym o ∙ ap (λ (q : State). isOpen (q .gate)) (fed-closed side caps s xs t) ∙ t)))
 
   pub fault-why : (s : State) (xs : List ℕ) (x : Closing) → isOpen (s .gate) ≡ true → fed side caps s xs .gate ≡ Closed x
       → Eighth side caps s xs (λ held n to. Cause caps held n to x)

@@ -28,7 +28,7 @@ use Rattle.feeding.specs.Feeding.{State, admitted, fed, used, left, Told
 use Rattle.feeding.specs.Feeds.{Once, Taking, Comes, When, Leaves, Answers, Keeps, Joins, WholeOrCut}
 use Rattle.feeding.proofs.Bytes.{open-is, both-true, fed-closed, used-closed, fed-append, used-append, feed-range, feed-closed, feed-taken}
 use Rattle.feeding.proofs.Keeping.{kept-given, kept-fed, range-with, sound-fed}
-use Rattle.feeding.proofs.Faults.{Cause, unknown, wrong, overflow, cause-number, eighth-so, Refuses, fault-why, fault-leaves, used-all}
+use Rattle.feeding.proofs.Faults.{Cause, unknown, wrong, overflow, cause, cause-number, eighth-with, eighth-so, Refuses, fault-found, fault-why, fault-leaves, used-all, open-before}
 
 -- T1
 pub once : Once
@@ -99,18 +99,41 @@ module _ (c : Connection) (st xs : List ℕ) where
     λ p. at-20 (feed-closed c st xs (p .0) (p .1)),
   )
 
-  done : (number ≡ 0) ↔ (Taking c st × (isOpen (feedOf c st xs .answer .connection .gate) ≡ true))
+  -- 0 is answered where the connection stays open
+  stays : number ≡ 0 → Taking c st × (isOpen (ends c st xs .gate) ≡ true)
+  stays n =
+      ways c st xs (λ out e. absurd (omega (arith, at-23 e))) (λ ok o e. absurd (omega (arith, at-20 e)))
+      (λ ok o.
+      gate-is (ends c st xs .gate) (λ t g. ((ok, o), t))
+      (λ x t g. absurd (omega (arith, answer-number c st xs ok o, ap left g, closing-number c st xs ok o x g .0))))
+
+  -- a header that is a fault closes, and gives its number
+  fault-closes : (x : Closing) → Comes c st xs (Refuses (c .settings .side) (c .settings .receive) x) → ends c st xs .gate ≡ Closed x
+  fault-closes x k = ap (λ (s : State). s .gate) (fault-leaves (c .settings .side) (c .settings .receive) (given c st) xs x k .0)
+
+  fault-number : Taking c st → (x : Closing) → Comes c st xs (Refuses (c .settings .side) (c .settings .receive) x) → number ≡ numberOf x
+  fault-number p x k = answer-number c st xs (p .0) (p .1) ∙ ap left (fault-closes x k)
+
+  abbrev Faulty : List ℕ → ℕ → Route → Type 0
+  Faulty held n to = (x : Closing) × (admitted (c .settings .receive) held n to ≡ Fault x)
+
+  done : (number ≡ 0) ↔ (Taking c st × (Comes c st xs Faulty → ⊥))
   done = (
-    λ n.
-        ways c st xs (λ out e. absurd (omega (arith, at-23 e))) (λ ok o e. absurd (omega (arith, at-20 e)))
-        (λ ok o.
-        gate-is (ends c st xs .gate) (λ t g. ((ok, o), rw (answer c st xs ok o) t))
-        (λ x t g. absurd (omega (arith, answer-number c st xs ok o, ap left g, closing-number c st xs ok o x g .0)))),
+    λ n. (
+      stays n .0,
+      λ k.
+          let p = stays n .0 in
+          let x = k .says .0 in
+          let e = eighth-with {Q = Refuses (c .settings .side) (c .settings .receive) x} k (k .says .1) in
+          omega (arith, fault-number p x e, closing-number c st xs (p .0) (p .1) x (fault-closes x e) .0),
+    ),
     λ p.
-        let ok = p .0 .0 in
-        let o = p .0 .1 in
-        let t : isOpen (ends c st xs .gate) ≡ true = rw (answer c st xs ok o) at (p .1) in
-        answer-number c st xs ok o ∙ ap left (open-is (ends c st xs .gate) t),
+        gate-is (ends c st xs .gate) (λ t g. answer-number c st xs (p .0 .0) (p .0 .1) ∙ ap left g)
+        (λ x t g.
+        absurd
+        (p .1
+        (eighth-so {P = Refuses (c .settings .side) (c .settings .receive) x} {Q = Faulty} (λ held n to e. (x, e))
+        (fault-found (c .settings .side) (c .settings .receive) (given c st) xs x (p .0 .1) g)))),
   )
 
   -- a fault, by what it says of the header
@@ -130,24 +153,8 @@ module _ (c : Connection) (st xs : List ℕ) where
               (fault-why (c .settings .side) (c .settings .receive) (given c st) xs x o g),
         ))),
     λ p.
-        let ok = p .0 .0 in
-        let o = p .0 .1 in
-        let k = p .1 in
-        let w = back _ _ _ (k .says) in
-        let f : Comes c st xs (Refuses (c .settings .side) (c .settings .receive) (w .0)) =
-        record {
-          front = k .front;
-          byte = k .byte;
-          back = k .back;
-          run = k .run;
-          reached = k .reached;
-          idle = k .idle;
-          whole = k .whole;
-          says = w .1;
-        } in
-        answer-number c st xs ok o
-        ∙ ap (λ (s : State). left (s .gate)) (fault-leaves (c .settings .side) (c .settings .receive) (given c st) xs (w .0) f .0)
-        ∙ w .2,
+        let w = back _ _ _ (p .1 .says) in
+        fault-number (p .0) (w .0) (eighth-with {Q = Refuses (c .settings .side) (c .settings .receive) (w .0)} (p .1) (w .1)) ∙ w .2,
   )
 
 by-unknown : {caps held : List ℕ} {n : ℕ} {to : Route} {x : Closing} → Cause caps held n to x → numberOf x ≡ 11 → to ≡ Unknown
@@ -186,6 +193,33 @@ when c st xs =
       done = done c st xs;
     }
 
+by-cause : {P : Type 0} {caps held : List ℕ} {n : ℕ} {to : Route} {x : Closing} → Cause caps held n to x → (to ≡ Unknown → P)
+    → ((i : ℕ) × (to ≡ Wrong i) → P) → ((i : ℕ) × (to ≡ To i) × (getD caps i 0 < getD held i 0 + n) → P) → P
+by-cause unknown f g h = f refl
+by-cause (wrong i) f g h = g (i, refl)
+by-cause (overflow i l) f g h = h (i, refl, l)
+
+-- so no number but these six is answered
+pub no-other : (c : Connection) (st xs : List ℕ) (r : Told) → When c st xs r
+    → let n = r .answer .number in
+    (n ≡ 0 → ⊥) → (n ≡ 11 → ⊥) → (n ≡ 12 → ⊥) → (n ≡ 13 → ⊥) → (n ≡ 20 → ⊥) → (n ≡ 23 → ⊥) → ⊥
+no-other c st xs r w n0 n11 n12 n13 n20 n23 =
+    by-test (receives c (length st))
+    (λ ok.
+    by-test (isOpen (c .gate))
+    (λ o.
+    n0
+    (w .done .1 (
+      (ok, o),
+      λ k.
+          by-cause (cause _ _ _ _ (k .says .0) (k .says .1))
+          (λ e. n11 (w .unknown .1 ((ok, o), eighth-with k e)))
+          (λ e. n12 (w .wrong .1 ((ok, o), eighth-with k e)))
+          (λ e. n13 (w .overflow .1 ((ok, o), eighth-with k e))),
+    )))
+    (λ o. n20 (w .closed .1 (ok, o))))
+    (λ out. n23 (w .out-of-range .1 out))
+
 -- ---- T3
 
 leaves : (c : Connection) (st xs : List ℕ) → Leaves c st xs (feedOf c st xs)
@@ -198,14 +232,11 @@ leaves c st xs =
           (λ ok o f. f ∙ ap (λ (m : ℕ). refused m c st) (sym (at-20 c st xs f) ∙ e))
           (λ ok o. absurd (omega (arith, number-low c st xs ok o)));
       all = λ e.
-          let p = done c st xs .0 e in
-          let ok = p .0 .0 in
-          let o = p .0 .1 in
-          let t : isOpen (ends c st xs .gate) ≡ true = rw (answer c st xs ok o) at (p .1) in
-          ap (λ (r : Told). r .answer .used) (answer c st xs ok o) ∙ used-all side caps (given c st) xs t;
-      fault = λ x p e.
+          let p = stays c st xs e in
+          ap (λ (r : Told). r .answer .used) (answer c st xs (p .0 .0) (p .0 .1)) ∙ used-all side caps (given c st) xs (p .1);
+      fault = λ x ok e.
           let k = fault-leaves side caps (given c st) xs x e in
-          answer c st xs (p .0) (p .1)
+          answer c st xs ok (open-before side caps (given c st) (e .front) (e .reached))
           ∙ ap (λ (n : ℕ). accepted c n (ends c st xs)) (k .1)
           ∙ ap (λ (s : State). accepted c (suc (length (e .front))) s) (k .0);
     }

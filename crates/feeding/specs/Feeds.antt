@@ -55,16 +55,19 @@ pub record When (c : Connection) (st xs : List ℕ) (r : Told) : Type 0 where
   pub wrong : (r .answer .number ≡ 12) ↔ (Taking c st × Comes c st xs (λ held n to. (i : ℕ) × (to ≡ Wrong i)))
   pub overflow : (r .answer .number ≡ 13)
       ↔ (Taking c st × Comes c st xs (λ held n to. (i : ℕ) × (to ≡ To i) × (getD (c .settings .receive) i 0 < getD held i 0 + n)))
-  pub done : (r .answer .number ≡ 0) ↔ (Taking c st × (isOpen (r .answer .connection .gate) ≡ true))
+  pub done : (r .answer .number ≡ 0)
+      ↔ (Taking c st × (Comes c st xs (λ held n to. (x : Closing) × (admitted (c .settings .receive) held n to ≡ Fault x)) → ⊥))
 
 -- T3: 20 and 23 change nothing; 0 uses all bytes; and at a fault the bytes in front of that header are kept, the header record is empty, the
 -- closing is written, and no byte behind it is used.
 pub record Leaves (c : Connection) (st xs : List ℕ) (r : Told) : Type 0 where
   pub nothing : (n : ℕ) → r .answer .number ≡ n → 20 ≤ n → r ≡ refused n c st
   pub all : r .answer .number ≡ 0 → r .answer .used ≡ length xs
-  pub fault : (x : Closing) → Taking c st → (e : Comes c st xs (λ held n to. admitted (c .settings .receive) held n to ≡ Fault x))
+  pub fault : (x : Closing) → receives c (length st) ≡ true
+      → (e : Comes c st xs (λ held n to. admitted (c .settings .receive) held n to ≡ Fault x))
       → let s = fed (c .settings .side) (c .settings .receive) (given c st) (e .front) in
-      r ≡ told (record { number = numberOf x; used = suc (length (e .front)); connection = withReceiving c (withHeader (s .receiving) empty) (Closed x) }) (s .store)
+      let after = withReceiving c (withHeader (s .receiving) empty) (Closed x) in
+      r ≡ told (record { number = numberOf x; used = suc (length (e .front)); connection = after }) (s .store)
 
 abbrev pub Answers : Type 0
 Answers = (c : Connection) (st xs : List ℕ) → When c st xs (feedOf c st xs) × Leaves c st xs (feedOf c st xs)
