@@ -11,7 +11,7 @@ use wire::instances::INSTANCES;
 use wire::instances::Route;
 use wire::instances::Side;
 use wire::segment::Header;
-use wire::segment::LENGTH;
+use wire::segment::HEADER;
 ghost use mathlib.Core.Path.{_≡_};
 ghost use mathlib.Core.Bool.{true};
 ghost use Prim.Native.Nat.{_+_, _-_, _≤_, _<_, min};
@@ -156,7 +156,7 @@ fn header_at(input: &[u8], at: usize) -> Header
 {
     let mut header = Header::empty();
     let mut j: usize = 0;
-    while j < LENGTH {
+    while j < HEADER {
         header = header.add(input[at + j]);
         j += 1;
     }
@@ -175,7 +175,7 @@ fn header_whole(
     requires { ⌜ at + headerLength ≤ length (now input) ⌝ }
     ensures { λ r. ⌜ Settles w (admission side (now (caps .entry)) (now (held .entry)) (headerAt (now (input .entry)) at)) headerLength r ⌝ }
 {
-    settle(w, admit(side, caps, held, header_at(input, at)), LENGTH)
+    settle(w, admit(side, caps, held, header_at(input, at)), HEADER)
 }
 
 // Lays k bytes of input from place `at` on as byte n of the stream of instance i and those that follow it.
@@ -254,7 +254,7 @@ fn part(
         return payload(caps, starts, held, w, store, input, at);
     }
     let header = w.header;
-    if base::and(header.count == 0, LENGTH <= input.len() - at) {
+    if base::and(header.count == 0, HEADER <= input.len() - at) {
         return header_whole(side, caps, held, w, input, at);
     }
     header_byte(side, caps, held, w, input[at])
