@@ -4,12 +4,13 @@ use mathlib.Core.Path.{_≡_, refl, ap, _∙_}
 use mathlib.Core.Bool.{Bool, true, false}
 use mathlib.Core.List.{List, [], _∷_, _++_, map}
 use mathlib.Core.Option.{none, some}
-use Prim.Native.Nat.{ℕ, zero, suc, _+_, _-_, _<_, _≤_}
+use Prim.Native.Nat.{ℕ, suc, _+_, _-_, _<_, _≤_}
 use native.Mathlib.Omega.{arith}
 use native.Mathlib.Numerals.{add-one}
 use lib.Dec.{T, eqb, leb, leb→le}
 use lib.ListN.{length, getD, take, drop, length-map, List·getD-append}
 use lib.Seq.{drop-cons, getD-take}
+use Rattle.base.proofs.ListLaws.{getD-map}
 use Rattle.base.proofs.Table.{every, at}
 use Rattle.rows.specs.declared.Protocol.{Protocol}
 use Rattle.rows.specs.declared.Protocol.the-variants.{Handshake, ChainSync, BlockFetch, TxSubmission, KeepAlive}
@@ -34,11 +35,6 @@ forms-end ChainSync = omega arith
 forms-end BlockFetch = omega arith
 forms-end TxSubmission = omega arith
 forms-end KeepAlive = omega arith
-
-getD-map : {A B : Type 0} (f : A → B) (l : List A) (n : ℕ) (d : A) (e : B) → n < length l → getD (map f l) n e ≡ f (getD l n d)
-getD-map f [] n d e h = absurd (omega arith)
-getD-map f (x ∷ l) zero d e h = refl
-getD-map f (x ∷ l) (suc n) d e h = getD-map f l n d e (omega arith)
 
 -- the table's rows are document 01's forms, column by column
 pub row-at : (i : ℕ) → i < formCount → getD (map columns allForms) i [] ≡ columns (formAt i)

@@ -12,6 +12,7 @@ ghost use lib.Dec.{ltb, eqb};
 ghost use lib.ListN.{length, getD};
 ghost use Rattle.ring.specs.Ring.{around};
 ghost use Rattle.head.specs.Read.{headAt};
+ghost use Rattle.item.specs.Grammar.{nesting};
 ghost use Rattle.messages.specs.Matching.{inMessage, inList};
 ghost use Rattle.messages.specs.Reading.{onEnd, leads, ended, unsignedAt, opensAt, itemEnd, sizeEnd, sizedEnd, pairEnd, pairsEnd, keyAt, versionAt, versionsEnd, below, upTo, boolOf, partOf};
 
@@ -49,11 +50,11 @@ pub const IN_LIST: usize = 14;
 const IN_PAIR: usize = 13;
 
 // Versions and sizes are below 2^32, w is below 2^16.
-pub const VERSIONS: u64 = 4294967296;
+pub const VERSION_LIMIT: u64 = 4294967296;
 
-const SIZES: u64 = 4294967296;
+const SIZE_LIMIT: u64 = 4294967296;
 
-pub const WORDS: u64 = 65536;
+pub const WORD_LIMIT: u64 = 65536;
 
 // A bool is one byte.
 const FALSE: u8 = 0xf4;
@@ -114,6 +115,7 @@ pub fn opens_at(s: &[u8], from: usize, n: usize, major: u8, at: usize) -> Number
     leading(s, from, n, major, at)
 }
 
+// Where the item that a verdict is about ends.
 fn end_of(v: Verdict) -> End
     ensures { λ r. ⌜ r ≡ ended v ⌝ }
 {
@@ -126,7 +128,7 @@ fn end_of(v: Verdict) -> End
 
 // Where the item at a place ends, within the nesting d.
 pub fn item_end(s: &[u8], from: usize, n: usize, at: usize, d: usize) -> End
-    requires { ⌜ (from ≤ length (now s)) × (n ≤ length (now s)) × (d ≤ 16) ⌝ }
+    requires { ⌜ (from ≤ length (now s)) × (n ≤ length (now s)) × (d ≤ nesting) ⌝ }
     ensures { λ r. ⌜ r ≡ itemEnd (around (now (s .entry)) from n) d at ⌝ }
 {
     if n < at {
@@ -149,7 +151,7 @@ fn size_end(s: &[u8], from: usize, n: usize, at: usize) -> End
 {
     let size = unsigned_at(s, from, n, at);
     match size {
-        Number::Is(v, q) => end_if(v < SIZES, q),
+        Number::Is(v, q) => end_if(v < SIZE_LIMIT, q),
         Number::Not => End::Nowhere,
     }
 }
@@ -213,7 +215,7 @@ fn key_at(s: &[u8], from: usize, n: usize, low: u64, at: usize) -> Number
 {
     let key = unsigned_at(s, from, n, at);
     match key {
-        Number::Is(v, q) => number_if(base::and(low <= v, v < VERSIONS), v, q),
+        Number::Is(v, q) => number_if(base::and(low <= v, v < VERSION_LIMIT), v, q),
         Number::Not => Number::Not,
     }
 }
@@ -282,6 +284,7 @@ fn less(q: usize, a: usize) -> usize
     0
 }
 
+// What a field says that is a number which a test lets pass.
 fn part_if(test: bool, v: u64, q: usize) -> Part
     ensures { λ r. ⌜ r ≡ cond test (Part.Number v q) Part.Wrong ⌝ }
 {
@@ -301,6 +304,7 @@ fn limited(limit: u64, number: Number) -> Part
     }
 }
 
+// A bool: one byte.
 fn bool_at(s: &[u8], from: usize, n: usize, at: usize) -> Part
     requires { ⌜ (from ≤ length (now s)) × (n ≤ length (now s)) ⌝ }
     ensures { λ r. ⌜ r ≡ boolOf (getD (around (now (s .entry)) from n) at 0) at ⌝ }
@@ -375,8 +379,8 @@ pub fn part_at(s: &[u8], from: usize, n: usize, f: Field, at: usize, last: bool)
         Field::Items => items_at(s, from, n, at, last),
         Field::Pairs => pairs_at(s, from, n, at),
         Field::Versions => versions_at(s, from, n, at),
-        Field::Word => limited(WORDS, unsigned_at(s, from, n, at)),
+        Field::Word => limited(WORD_LIMIT, unsigned_at(s, from, n, at)),
         Field::Bool => bool_at(s, from, n, at),
-        Field::Version => limited(VERSIONS, unsigned_at(s, from, n, at)),
+        Field::Version => limited(VERSION_LIMIT, unsigned_at(s, from, n, at)),
     }
 }

@@ -1,4 +1,6 @@
 // The forms as one table, searched by protocol and kind.
+//
+// The table is document 01's: what is found is the form of this kind, and none is found exactly if the protocol has none.
 use rows::Protocol;
 ghost use mathlib.Core.Path.{_≡_};
 ghost use Prim.Native.Nat.{_<_, _≤_};
@@ -39,8 +41,18 @@ const BOOL: u8 = 5;
 
 const VERSION: u8 = 6;
 
-// Kind, number of fields, the fields; 0 where there is none.
-const FORMS: [[u8; 5]; 26] = [
+// No form has more fields.
+pub const MOST_FIELDS: usize = 3;
+
+// The columns: kind, number of fields, and from the third on the fields.
+const KIND: usize = 0;
+
+const FIELDS: usize = 1;
+
+const FIRST_FIELD: usize = 2;
+
+// A row for each form; 0 where there is no field.
+const FORMS: [[u8; FIRST_FIELD + MOST_FIELDS]; 26] = [
     // Handshake: Propose, Accept, Refuse
     [0, 1, VERSIONS, 0, 0],
     [1, 2, VERSION, ITEM, 0],
@@ -117,7 +129,7 @@ pub fn find(p: Protocol, kind: u64) -> Listed
     let end = i + count(p);
     while i < end {
         let row = table[i];
-        if row[0] as u64 == kind {
+        if row[KIND] as u64 == kind {
             return Listed::Row(i);
         }
         i += 1;
@@ -130,7 +142,7 @@ pub fn fields(i: usize) -> usize
     requires { ⌜ i < formCount ⌝ }
     ensures { λ r. ⌜ (r ≡ length (formAt i .fields)) × (r ≤ 3) ⌝ }
 {
-    at(i, 1) as usize
+    at(i, FIELDS) as usize
 }
 
 // The field that a number in the table stands for.
@@ -163,5 +175,5 @@ pub fn field_at(i: usize, j: usize) -> Field
     requires { ⌜ (i < formCount) × (j < length (formAt i .fields)) ⌝ }
     ensures { λ r. ⌜ r ≡ getD (formAt i .fields) j Item ⌝ }
 {
-    field_of(at(i, 2 + j))
+    field_of(at(i, FIRST_FIELD + j))
 }
