@@ -79,7 +79,7 @@ made-call s w calls.status real k = tt
 
 pub all-made : {s : Settings} {receive send : List ℕ} → Opened s receive send → (cs : List Call) → AllReal cs
     → AllMade (s .side) (segments (trace step (first s receive send) cs))
-unfolding segments
+unfolding segments flatMap
 all-made {s} opened cs real =
     along opened (λ past w. AllMade (s .side) (segments past))
     (λ past w c r k k′ t. rw (segments-next past (event step w c)) (made-append (s .side) (segments past) _ t (made-call s w c r k))) cs real tt
@@ -112,7 +112,7 @@ if-few true xs = omega arith
 if-few false xs = omega arith
 
 sent-few : (side : Side) (i : ℕ) (ss : List (List ℕ)) → length (sentBy side i ss) ≤ length (flatten ss)
-unfolding sentBy flatten
+unfolding sentBy flatMap flatten
 sent-few side i [] = omega arith
 sent-few side i (bs ∷ ss) =
     let now : List ℕ = cond (isOf side i bs) (payload bs) [] in
@@ -128,7 +128,7 @@ sent-few side i (bs ∷ ss) =
 -- with less than a header come, all that was sent is on the way
 none-come : (side : Side) (i : ℕ) (ss : List (List ℕ)) (xs zs : List ℕ) → AllMade side ss → length xs < headerLength → flatten ss ≡ xs ++ zs
     → length (sentBy side i ss) ≤ length zs
-unfolding sentBy flatten
+unfolding sentBy flatMap flatten
 none-come side i [] xs zs m h e = omega arith
 none-come side i (bs ∷ ss) xs zs (b, m) h e =
     let now : List ℕ = cond (isOf side i bs) (payload bs) [] in
@@ -209,7 +209,7 @@ module _ (side : Side) (i : ℕ) (l : i < instances) where
   came-whole : (bs h p ys way left : List ℕ) (ss : List (List ℕ)) (cs : List Carried) → Made side bs → length h ≡ headerLength
       → length p ≡ decoded h .len → bs ++ flatten ss ≡ (h ++ (p ++ ys)) ++ way → (flatten ss ≡ ys ++ way → Came side i ss cs left way)
       → Came side i (bs ∷ ss) (record { header = decoded h; payload = p } ∷ cs) left way
-  unfolding sentBy
+  unfolding sentBy flatMap
   came-whole bs h p ys way left ss cs m e n q others =
       let f = first-of bs h (flatten ss) (p ++ (ys ++ way)) (m .long) e
       (q ∙ append-assoc h (p ++ ys) way ∙ ap (λ (x : List ℕ). h ++ x) (append-assoc p ys way)) in
