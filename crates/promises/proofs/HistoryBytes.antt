@@ -17,6 +17,7 @@ use Rattle.wire.specs.declared.instances.Route.{Route}
 use Rattle.wire.specs.declared.instances.Route.the-variants.{Unknown, Wrong, To}
 use Rattle.wire.specs.Segments.{headerLength, empty, added, decoded, Carried, Divided, in-header, in-payload}
 use Rattle.wire.specs.Instances.{instances, routeOf}
+use Rattle.wire.proofs.SegmentLaws.{part, add-part, part-whole}
 use Rattle.connection.specs.declared.Receiving.{Receiving}
 use Rattle.connection.specs.Closings.{isOpen}
 use Rattle.feeding.specs.declared.Admission.{Admission}
@@ -25,8 +26,7 @@ use Rattle.feeding.proofs.Bytes.{step-headed, step-kept, fed-closed}
 use Rattle.feeding.proofs.Keeping.{Kept, kept-fed}
 use Rattle.promises.specs.History.{payloadFor, receivedIn}
 use Rattle.promises.proofs.Streams.{queue-laid}
-use Rattle.promises.proofs.HistoryLayout.{part, add-part, part-whole, divided-on, divided-whole, none-for, for-append, received-head}
-use Rattle.promises.proofs.HistoryLayout.{received-in, received-whole}
+use Rattle.promises.proofs.HistoryLayout.{divided-on, divided-whole, none-for, for-append, received-head, received-in, received-whole}
 
 -- the bytes held for instance i
 abbrev pub heldIn : List ℕ → State → ℕ → List ℕ

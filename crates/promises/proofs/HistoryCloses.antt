@@ -17,6 +17,7 @@ use Rattle.wire.specs.declared.instances.Side.{Side}
 use Rattle.wire.specs.declared.instances.Route.{Route}
 use Rattle.wire.specs.Segments.{headerLength, added, decoded, Carried, Divided, in-header, in-payload, whole}
 use Rattle.wire.specs.Instances.{instances, routeOf}
+use Rattle.wire.proofs.SegmentLaws.{part, add-part, part-whole}
 use Rattle.connection.specs.declared.Settings.{Settings}
 use Rattle.connection.specs.declared.Closing.{Closing}
 use Rattle.connection.specs.declared.Closing.the-variants.{Of}
@@ -41,7 +42,6 @@ use Rattle.promises.proofs.Ways.{Takes, refuses, faults, hands, Puts, q
 use Rattle.promises.proofs.ReachedFeed.{ends, uses, Feeds, shut, bytes}
 use Rattle.promises.proofs.Reached.{opens-fresh}
 use Rattle.promises.proofs.HistoryCalls.{Good, good, feeds, takes, puts, makes, afterFeed, afterTake, afterPut, afterNext}
-use Rattle.promises.proofs.HistoryLayout.{part, add-part, part-whole}
 use Rattle.promises.proofs.HistoryBytes.{Reading, in-head, in-pay, Tied, tied-fed}
 use Rattle.promises.proofs.HistoryReceives.{Held}
 
