@@ -88,7 +88,7 @@ module _ (s : Settings) (w : World) (k : Sound s w) where
   quiet-feed (bytes o) = record { turn = refl; grows = λ i l. still (queue w i); bound = omega arith }
 
   quiet-take : {i : ℕ} {buf : List ℕ} {t : taking.Told} → Takes c (w .receive) i buf t
-      → Quiet s w (record { connection = t .taken .connection; receive = w .receive; send = w .send })
+      → Quiet s w (record { connection = t .answer .connection; receive = w .receive; send = w .send })
   quiet-take (refuses n z ne f) = unmoved
   quiet-take (faults n low high l) = record { turn = refl; grows = λ i l. still (queue w i); bound = omega arith }
   quiet-take {i} (hands n m to l early held long reads row) =
@@ -164,8 +164,8 @@ module _ (s : Settings) (w : World) (k : Sound s w) where
         }
 
   moves-next : {time : ℕ} {buf : List ℕ} {t : sending.Told} → time < 2 ^ 32 → Nexts c (w .send) time buf t
-      → Moves s w (record { connection = t .made .connection; receive = w .receive; send = w .send })
-      (segmentOf (made (t .made .number) (t .made .len) (t .buffer)))
+      → Moves s w (record { connection = t .answer .connection; receive = w .receive; send = w .send })
+      (segmentOf (made (t .answer .number) (t .answer .len) (t .buffer)))
   moves-next short (refuses n z ne) = rw (ne-eqb n 0 z) (quiet unmoved)
   moves-next {time} {buf} short (serves j who room) = served j _ (serving time buf short j who room)
 

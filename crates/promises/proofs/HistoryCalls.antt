@@ -35,8 +35,8 @@ afterFeed w r =
 abbrev pub afterTake : World → taking.Told → Out World Answer
 afterTake w r =
     record {
-      world = record { connection = r .taken .connection; receive = w .receive; send = w .send };
-      answer = taken (r .taken .number) (r .taken .len) (r .taken .message) (r .buffer);
+      world = record { connection = r .answer .connection; receive = w .receive; send = w .send };
+      answer = taken (r .answer .number) (r .answer .len) (r .answer .message) (r .buffer);
     }
 
 abbrev pub afterPut : World → putting.Told → Out World Answer
@@ -49,8 +49,8 @@ afterPut w r =
 abbrev pub afterNext : World → sending.Told → Out World Answer
 afterNext w r =
     record {
-      world = record { connection = r .made .connection; receive = w .receive; send = w .send };
-      answer = made (r .made .number) (r .made .len) (r .buffer);
+      world = record { connection = r .answer .connection; receive = w .receive; send = w .send };
+      answer = made (r .answer .number) (r .answer .len) (r .buffer);
     }
 
 module _ (w : World) (g : Good w) where

@@ -18,6 +18,7 @@ use Rattle.rows.specs.Spoken.{speaks}
 use Rattle.messages.specs.declared.Message.{Message}
 use Rattle.messages.specs.Reading.{messageOf, read}
 use Rattle.messages.proofs.Theorem.{reads-forms, message-is-item}
+use Rattle.connection.specs.Parts.{firstHeld}
 use Rattle.taking.specs.Taking as taking
 use Rattle.promises.specs.Calls as calls
 use Rattle.promises.specs.Calls.{World, step, taken}
@@ -41,7 +42,7 @@ hands-of w i len m buf after (faults n low high h) e = absurd (let z : n ≡ 0 =
 hands-of w i len m buf after (hands n k to h z l b r q) e =
     let c = w .connection in
     let caps = c .settings .receive in
-    let xs : List ℕ = taking.bytesOf c (w .receive) i n in
+    let xs : List ℕ = firstHeld c (w .receive) i n in
     let long : length xs ≡ n = stream-length _ _ _ _ n in
     let el : n ≡ len = cc in
     let em : k ≡ m = cc in

@@ -28,6 +28,7 @@ use Rattle.connection.proofs.RangeLaws.{ranged}
 use Rattle.feeding.specs.Feeding as feeding
 use Rattle.feeding.specs.Feeding.{State, given, fed, used}
 use Rattle.feeding.proofs.Keeping.{kept-given, kept-fed}
+use Rattle.connection.specs.Parts.{firstHeld}
 use Rattle.taking.specs.Taking as taking
 use Rattle.putting.specs.Putting as putting
 use Rattle.sending.specs.NextSegment as sending
@@ -136,7 +137,7 @@ module _ (w : World) (g : Good w) (past : Past) (t : Held (w .connection .settin
       (λ q. absurd (not-open (c .gate) (Of n j) q))
   held-take j buf {x} (hands n m to h e l b r q) =
       let ev : Event Call Answer = record { call = take j buf; answer = (afterTake w x) .answer } in
-      let xs : List ℕ = taking.bytesOf c (w .receive) j n in
+      let xs : List ℕ = firstHeld c (w .receive) j n in
       let long : length xs ≡ n = stream-length _ _ _ _ n in
       let at-front : lists.take n (sets buf 0 xs) ≡ xs = front buf xs n long b in
       let now : (i : ℕ) → handedFor i (with (take j buf) ((afterTake w x) .answer)) ≡ handedFor i past ++ cond (eqb j i) xs [] =

@@ -24,6 +24,7 @@ use Rattle.rows.proofs.RowLaws.{thirty}
 use Rattle.messages.specs.Reading.{messageOf, read, flagOf}
 use Rattle.connection.specs.declared.Settings.{Settings}
 use Rattle.connection.proofs.RangeLaws.{ranged}
+use Rattle.connection.specs.Parts.{firstHeld}
 use Rattle.judging.proofs.Moving.{leads-low}
 use Rattle.judging.specs.Judging.{holds, stateOf, ours, movedBy}
 use Rattle.taking.specs.Taking as taking
@@ -34,7 +35,7 @@ use Rattle.promises.specs.Trace.{Out, event}
 use Rattle.promises.specs.Calls.{Call, feed, take, put, next, status, Answer, World, step, Opened, first}
 use Rattle.promises.specs.Reached.{Reached}
 use Rattle.promises.specs.History.{Past, Act, gave, got, messageIn, actsBy, acts, theirs, Moves, Walks, rests, moves, endsInAccept, Talks}
-use Rattle.promises.proofs.Ways.{early, Takes, refuses, faults, hands, Puts, queues, Nexts, serves}
+use Rattle.promises.proofs.Ways.{Takes, refuses, faults, hands, Puts, queues, Nexts, serves}
 use Rattle.promises.proofs.Streams.{at-set}
 use Rattle.promises.proofs.ReachedFeed.{Feeds, shut, bytes}
 use Rattle.promises.proofs.Reached.{opens-fresh}
@@ -69,7 +70,7 @@ module _ (s : Settings) (w : World) (k : Reached s w) where
   talked-take j buf (refuses n z y f) = quiet refl (λ i. no-act (eqb j i) n _ z)
   talked-take j buf (faults n low high h) = quiet refl (λ i. no-act (eqb j i) n _ (λ z. omega arith))
   talked-take j buf (hands n m to h e l b r q) =
-      let xs : List ℕ = taking.bytesOf (w .connection) (w .receive) j n in
+      let xs : List ℕ = firstHeld (w .connection) (w .receive) j n in
       let long : length xs ≡ n = stream-length _ _ _ _ n in
       let at-front : lists.take n (sets buf 0 xs) ≡ xs = front buf xs n long b in
       acted j (got xs) to h
@@ -78,7 +79,7 @@ module _ (s : Settings) (w : World) (k : Reached s w) where
         reads = r;
         agency =
             their-turn (s .side) j (stateOf (w .connection) j) (m .kind) (flagOf (speaks j) m) to
-            (rw (← k .settings) (early (w .connection) j .theirs e)) q;
+            (rw (← k .settings) e) q;
         row = q;
       })
       refl (λ i. rw at-front (an-act (eqb j i) (got xs)))

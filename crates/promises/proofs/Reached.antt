@@ -168,8 +168,8 @@ module _ (s : Settings) (w : World) (k : Sound s w) where
         bound = omega (arith, bound, k .bound);
       }
 
-  sound-took : {i : ℕ} {buf : List ℕ} {t : taking.Told} → Takes c (w .receive) i buf t → inRange (t .taken .connection) ≡ true
-      → Shaped (t .taken .connection) → Sound s (record { connection = t .taken .connection; receive = w .receive; send = w .send })
+  sound-took : {i : ℕ} {buf : List ℕ} {t : taking.Told} → Takes c (w .receive) i buf t → inRange (t .answer .connection) ≡ true
+      → Shaped (t .answer .connection) → Sound s (record { connection = t .answer .connection; receive = w .receive; send = w .send })
   sound-took (refuses n z ne f) ok shaped = k
   sound-took (faults n low high l) ok shaped = kept refl refl refl refl ok shaped refl (omega arith) (r .accepted)
   sound-took {i} (hands n m to l early held long reads row) ok shaped =
@@ -241,8 +241,8 @@ module _ (s : Settings) (w : World) (k : Sound s w) where
   fewer i n l j =
       at-set (λ j m. m ≤ waits w j) (c .sending .waiting) i (waits w i - n) (omega (arith, r .shaped .waiting)) (omega arith) (λ j ne. omega arith) j
 
-  sound-next-way : {time : ℕ} {buf : List ℕ} {t : sending.Told} → Nexts c (w .send) time buf t → inRange (t .made .connection) ≡ true
-      → Shaped (t .made .connection) → Sound s (record { connection = t .made .connection; receive = w .receive; send = w .send })
+  sound-next-way : {time : ℕ} {buf : List ℕ} {t : sending.Told} → Nexts c (w .send) time buf t → inRange (t .answer .connection) ≡ true
+      → Shaped (t .answer .connection) → Sound s (record { connection = t .answer .connection; receive = w .receive; send = w .send })
   sound-next-way (refuses n z ne) ok shaped = k
   sound-next-way (serves i who room) ok shaped =
       let less = fewer i (sending.much c i) (chosen-waiting r i who .0) in
@@ -304,7 +304,7 @@ sound-first s receive send o =
 
 -- ---- no call answers 23
 
-takes-known : {c : Connection} {store : List ℕ} {i : ℕ} {buf : List ℕ} {t : taking.Told} → Takes c store i buf t → t .taken .number ≡ 23 → ⊥
+takes-known : {c : Connection} {store : List ℕ} {i : ℕ} {buf : List ℕ} {t : taking.Told} → Takes c store i buf t → t .answer .number ≡ 23 → ⊥
 takes-known (refuses n z ne f) e = ne e
 takes-known (faults n low high l) e = omega arith
 takes-known (hands n m to l early held long reads row) e = omega arith
@@ -313,7 +313,7 @@ puts-known : {c : Connection} {store : List ℕ} {i : ℕ} {xs : List ℕ} {t : 
 puts-known (refuses n z ne) e = ne e
 puts-known (queues m to l listens free mine reads row short fits) e = omega arith
 
-nexts-known : {c : Connection} {store : List ℕ} {time : ℕ} {buf : List ℕ} {t : sending.Told} → Nexts c store time buf t → t .made .number ≡ 23 → ⊥
+nexts-known : {c : Connection} {store : List ℕ} {time : ℕ} {buf : List ℕ} {t : sending.Told} → Nexts c store time buf t → t .answer .number ≡ 23 → ⊥
 nexts-known (refuses n z ne) e = ne e
 nexts-known (serves i who room) e = omega arith
 

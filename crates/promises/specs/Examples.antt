@@ -55,8 +55,8 @@ unfoldable pub made : ℕ → Connection → Made
 made zero c = record { segments = []; number = 0 }
 made (suc k) c =
     let r = nextOf c store 0 (replicate 16 0) in
-    cond (eqb (r .made .number) 0) (after (decoded (take headerLength (r .buffer))) (made k (r .made .connection)))
-    (record { segments = []; number = r .made .number })
+    cond (eqb (r .answer .number) 0) (after (decoded (take headerLength (r .buffer))) (made k (r .answer .connection)))
+    (record { segments = []; number = r .answer .number })
 
 pub data Example : Type 0 where
   -- a segment's bytes, what its header says, the instance that it is for on either side, what that speaks, and the message in it

@@ -7,22 +7,20 @@ use mathlib.Core.Logic.{_↔_}
 use lib.Dec.{eqb}
 use lib.ListN.{length, getD, drop}
 use lib.ListN as list
-use Rattle.ring.specs.Ring.{baseOf, stream}
 use Rattle.wire.specs.declared.segment.Segment.{Segment}
 use Rattle.wire.specs.declared.instances.Side.{Side}
 use Rattle.wire.specs.Segments.{headerLength, decoded}
 use Rattle.wire.specs.Instances.{instances, protocolOf, modeOf}
 use Rattle.connection.specs.declared.Settings.{Settings}
 use Rattle.connection.specs.Closings.{isOpen}
+use Rattle.connection.specs.Parts.{waitingOf}
 use Rattle.promises.specs.Trace.{Event, run, trace}
 use Rattle.promises.specs.Calls.{Call, next, Answer, fed, taken, queued, made, told, World, step, AllReal, Opened, first}
 use Rattle.promises.specs.Reached.{waits, numberOf}
 
 -- the bytes of instance i that wait: those of its stream from its start place on
 abbrev pub queue : World → ℕ → List ℕ
-queue w i =
-    let caps = w .connection .settings .send in
-    stream (w .send) (baseOf caps i) (getD caps i 0) (getD (w .connection .sending .starts) i 0) (waits w i)
+queue w i = waitingOf (w .connection) (w .send) i
 
 -- ---- segments
 

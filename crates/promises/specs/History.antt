@@ -24,7 +24,8 @@ use Rattle.connection.specs.declared.Settings.{Settings}
 use Rattle.connection.specs.declared.telling.Report.{Report}
 use Rattle.connection.specs.Closings.{closingOf}
 use Rattle.judging.specs.Judging.{holds, ours}
-use Rattle.taking.specs.Taking.{heldOf, faulty}
+use Rattle.taking.specs.Taking.{faulty}
+use Rattle.connection.specs.Parts.{heldOf}
 use Rattle.promises.specs.Trace.{Event, run, trace}
 use Rattle.promises.specs.Calls as calls
 use Rattle.promises.specs.Calls.{Call, Answer, World, step, Real, AllReal, Opened, first}

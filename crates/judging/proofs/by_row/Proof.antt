@@ -1,10 +1,8 @@
--- `judging::leads` meets its contract: each case of the answer is a case of the definition.
+-- `judging::by_row` meets its contract: each case of the answer is a case of the definition.
 -- Assumes nothing.
-use mathlib.Core.Path.{sym, ap, _∙_}
-use Rattle.judging.specs.Judging.{byRow}
 use borrow.Author.Needs.{needs}
-use Rattle.judging.proofs.leads.Statement.{statement}
-use Rattle.judging.proofs.leads.Tie as tie
+use Rattle.judging.proofs.by_row.Statement.{statement}
+use Rattle.judging.proofs.by_row.Tie as tie
 
 returns : tie.Need-returns
 returns c = cc
@@ -12,8 +10,8 @@ returns c = cc
 returns-2 : tie.Need-returns-2
 returns-2 c = cc
 
-pub leads-spec : {M : Type 1} → statement M
-leads-spec =
+pub by-row-spec : {M : Type 1} → statement M
+by-row-spec =
     tie.close
     (tie.spec
     (λ c. search needs)

@@ -12,7 +12,7 @@ returns : tie.Need-returns
 returns c =
     let s = c .before .before .before .before .before .before in
     let a = s .args in
-    c .refused .ensures
+    c .unjudged .ensures
     ∙ judged-wrong (a .p) (a .state) (around (a .s .now) (a .from) (a .n)) (c .before .before .before .before .read .result) (c .before .before .number-of .result)
     (c .before .before .before .before .read .ensures) (c .before .before .number-of .ensures) (c .before .if1 .taken)
 
@@ -20,7 +20,7 @@ returns-2 : tie.Need-returns-2
 returns-2 c =
     let s = c .before .before .before .before .before .before .before .before in
     let a = s .args in
-    c .leads .ensures
+    c .by-row .ensures
     ∙ judged-read (a .p) (a .state) (around (a .s .now) (a .from) (a .n)) (c .before .before .before .before .before .before .read .result)
     (c .before .before .before .before .number-of .result) (a .n) (c .before .before .flag .result) (c .before .find .result)
     (c .before .before .before .before .before .before .read .ensures) (c .before .before .before .before .number-of .ensures) (c .before .before .before .if1 .left)

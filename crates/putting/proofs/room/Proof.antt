@@ -1,8 +1,8 @@
--- `putting::space` meets its contract: the tests are those of the definition.
+-- `putting::room` meets its contract: the tests are those of the definition.
 -- Assumes nothing.
 use borrow.Author.Needs.{needs}
-use Rattle.putting.proofs.space.Statement.{statement}
-use Rattle.putting.proofs.space.Tie as tie
+use Rattle.putting.proofs.room.Statement.{statement}
+use Rattle.putting.proofs.room.Tie as tie
 
 returns : tie.Need-returns
 returns c =
@@ -15,8 +15,8 @@ returns c =
       c .before .before .before .before .before .before .at .ensures,
     )
 
-pub space-spec : {M : Type 1} → statement M
-space-spec =
+pub room-spec : {M : Type 1} → statement M
+room-spec =
     tie.close
     (tie.spec
     (λ c κs. search needs)

@@ -1,11 +1,10 @@
--- `sending::turn_after` meets its contract: the test decides.
+-- `ready::turn_after` meets its contract: the test decides.
 -- Assumes nothing.
-use mathlib.Core.Path.{_∙_}
 use Rattle.base.proofs.Conds.{tests}
 use borrow.Author.Tests.{ne-eqb}
 use borrow.Author.Needs.{needs}
-use Rattle.sending.proofs.turn_after.Statement.{statement}
-use Rattle.sending.proofs.turn_after.Tie as tie
+use Rattle.ready.proofs.turn_after.Statement.{statement}
+use Rattle.ready.proofs.turn_after.Tie as tie
 
 returns : tie.Need-returns
 returns c = search tests

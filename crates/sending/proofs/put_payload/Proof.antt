@@ -1,6 +1,6 @@
 -- `sending::put_payload` meets its contract: the area is in the store, and its bytes are read as the ring says.
 -- Assumes nothing.
-use mathlib.Core.Path.{_≡_, ap, _∙_}
+use mathlib.Core.Path.{_≡_, _∙_}
 use native.Mathlib.Omega.{arith}
 use lib.ListN.{length}
 use Rattle.wire.specs.Instances.{instances}

@@ -1,83 +1,74 @@
--- `sending::serve_instance` meets its contract: what is sent is the smaller of S and the bytes waiting, and there is room for it or not.
+-- `sending::serve` meets its contract: what is sent is the smaller of S and the bytes waiting, and there is room for it or not.
 -- Assumes nothing.
-use mathlib.Core.Path.{_≡_, sym, ap, _∙_}
-use Prim.Native.Nat.{_+_, min}
+use mathlib.Core.Path.{_≡_, ap, _∙_}
+use Prim.Native.Nat.{min}
 use native.Mathlib.Omega.{arith}
-use lib.Seq.{sets}
-use Rattle.ring.specs.Ring.{baseOf, stream}
-use Rattle.wire.specs.Segments.{headerLength, encoded}
-use Rattle.connection.proofs.RangeLaws.{ranged}
-use Rattle.sending.specs.NextSegment.{told, much, headed}
+use lib.ListN.{length}
+use Rattle.connection.proofs.RangeLaws.{ranged, sends-both}
+use Rattle.sending.specs.NextSegment.{much}
 use Rattle.sending.proofs.SendingLaws.{waits-area, much-small, serve-short, serve-made}
 use borrow.Author.Needs.{needs}
-use Rattle.sending.proofs.serve_instance.Statement.{statement}
-use Rattle.sending.proofs.serve_instance.Tie as tie
+use Rattle.sending.proofs.serve.Statement.{statement}
+use Rattle.sending.proofs.serve.Tie as tie
+
+-- once it is known how much is sent: where the call began, and that this is what the definition says
+abbrev start : tie.After-smaller → tie.Start
+start c = c .before .before .before .before .before .before .before .before .before
+
+sends-much : (c : tie.After-smaller) → c .smaller .result ≡ much (start c .args .c) (start c .args .i)
+sends-much c = c .smaller .ensures ∙ ap (min (start c .args .c .settings .limit)) (c .before .at .ensures)
 
 add-len : tie.Need-add-len
 add-len c =
-    let s = c .before .before .before .before .before .before .before .before .before in
-    let a = s .args in
-    let w = s .pre in
-    let e : c .smaller .result ≡ much (a .c) (a .i) =
-    c .smaller .ensures ∙ ap (min (a .c .settings .limit)) (c .before .at .ensures) in
-    record { fits = omega (arith, much-small (a .c) (a .store .now) (a .i) w) }
+    let a = start c .args in
+    let e = sends-much c in
+    record { fits = omega (arith, much-small (a .c) (a .store .now) (a .i) (start c .pre)) }
 
 returns : tie.Need-returns
 returns c =
-    let s = c .before .before .before .before .before .before .before .before .before .before .before in
-    let a = s .args in
-    let w = s .pre in
-    let e : c .before .before .smaller .result ≡ much (a .c) (a .i) =
-    c .before .before .smaller .ensures ∙ ap (min (a .c .settings .limit)) (c .before .before .before .at .ensures) in
-    rw (c .unmade .ensures) (serve-short (a .c) (a .store .now) (a .time) (a .buf .now) (a .i) (c .before .before .smaller .result) e (c .before .if1 .taken))
+    let b = c .before .before in
+    let a = start b .args in
+    rw (c .refused .ensures)
+    (serve-short (a .c) (a .store .now) (a .time) (a .buf .now) (a .i) (b .smaller .result) (sends-much b) (c .before .if1 .taken))
 
 put-header-requires : tie.Need-put-header-requires
 put-header-requires c κs =
-    let s = c .before .before .before .before .before .before .before .before .before .before .before in
-    let a = s .args in
-    let w = s .pre in
-    let e : c .before .before .smaller .result ≡ much (a .c) (a .i) =
-    c .before .before .smaller .ensures ∙ ap (min (a .c .settings .limit)) (c .before .before .before .at .ensures) in
-    let m = much-small (a .c) (a .store .now) (a .i) w in
-    (w .instance, omega arith, omega arith)
+    let b = c .before .before in
+    let a = start b .args in
+    let e = sends-much b in
+    let m = much-small (a .c) (a .store .now) (a .i) (start b .pre) in
+    (start b .pre .1, omega arith, omega arith)
 
 put-payload-requires : tie.Need-put-payload-requires
 put-payload-requires c κs =
-    let s = c .before .before .before .before .before .before .before .before .before .before .before .before .before .before .before .before in
-    let a = s .args in
-    let w = s .pre in
-    let e : c .before .before .before .before .before .before .before .smaller .result ≡ much (a .c) (a .i) =
-    c .before .before .before .before .before .before .before .smaller .ensures ∙ ap (min (a .c .settings .limit)) (c .before .before .before .before .before .before .before .before .at .ensures) in
-    (rw e (waits-area (a .c) (a .store .now) (a .i) w), search needs)
+    let b = c .before .before .before .before .before .before .before in
+    let a = start b .args in
+    (rw (sends-much b) (waits-area (a .c) (a .store .now) (a .i) (start b .pre)), search needs)
 
 sent-requires : tie.Need-sent-requires
 sent-requires c κs =
-    let s = c .before .before .before .before .before .before .before .before .before .before .before .before .before .before .before .before .before .before .before in
-    let a = s .args in
-    let w = s .pre in
-    let e : c .before .before .before .before .before .before .before .before .before .before .smaller .result ≡ much (a .c) (a .i) =
-    c .before .before .before .before .before .before .before .before .before .before .smaller .ensures ∙ ap (min (a .c .settings .limit)) (c .before .before .before .before .before .before .before .before .before .before .before .at .ensures) in
-    let m = much-small (a .c) (a .store .now) (a .i) w in
-    let r = ranged (a .c) (w .ranged) in
-    let q = r .sending (a .i) (w .instance) in
-    let l = r .set .send (a .i) (w .instance) in
-    (w .instance, omega arith, omega arith, omega arith)
+    let b = c .before .before .before .before .before .before .before .before .before .before in
+    let a = start b .args in
+    let (ok, h) = start b .pre in
+    let e = sends-much b in
+    let m = much-small (a .c) (a .store .now) (a .i) (ok, h) in
+    let r = ranged (a .c) (sends-both (a .c) (length (a .store .now)) ok .0) in
+    let q = r .sending (a .i) h in
+    let l = r .set .send (a .i) h in
+    (h, omega arith, omega arith, omega arith)
 
 returns-2 : tie.Need-returns-2
 returns-2 c =
-    let s = c .before .before .before .before .before .before .before .before .before .before .before .before .before .before .before .before .before .before .before .before .before in
-    let a = s .args in
-    let w = s .pre in
-    let e : c .before .before .before .before .before .before .before .before .before .before .before .before .smaller .result ≡ much (a .c) (a .i) =
-    c .before .before .before .before .before .before .before .before .before .before .before .before .smaller .ensures ∙ ap (min (a .c .settings .limit)) (c .before .before .before .before .before .before .before .before .before .before .before .before .before .at .ensures) in
-    serve-made (a .c) (a .store .now) (a .time) (a .buf .now) (a .i) (c .before .before .before .before .before .before .before .before .before .before .before .before .smaller .result) e (c .with-sending .result) (c .before .sent .result) _
-    (c .before .before .before .before .before .before .before .before .before .before .before .if1 .left)
-    (c .before .sent .ensures)
-    (c .with-sending .ensures)
-    (c .before .before .before .before .put-payload .ensures ∙ rw (c .before .before .before .before .before .at2 .ensures, c .before .before .before .before .before .before .before .before .before .put-header .ensures))
+    let past = c .before .before .before .before .before .before .before .before .before .before .before in
+    let b = past .before in
+    let a = start b .args in
+    serve-made (a .c) (a .store .now) (a .time) (a .buf .now) (a .i) (b .smaller .result) (sends-much b) (c .with-sending .result) (c .before .sent .result)
+    _ (past .if1 .left) (c .before .sent .ensures) (c .with-sending .ensures)
+    (c .before .before .before .before .put-payload .ensures
+    ∙ rw (c .before .before .before .before .before .at2 .ensures, c .before .before .before .before .before .before .before .before .before .put-header .ensures))
 
-pub serve-instance-spec : {M : Type 1} → statement M
-serve-instance-spec =
+pub serve-spec : {M : Type 1} → statement M
+serve-spec =
     tie.close
     (tie.spec
     (λ c κs. search needs)

@@ -1,6 +1,6 @@
 -- `taking::copy` meets its contract: the area is in the store, and its bytes are read as the ring says.
 -- Assumes nothing.
-use mathlib.Core.Path.{_≡_, sym, ap, _∙_}
+use mathlib.Core.Path.{_∙_}
 use native.Mathlib.Omega.{arith}
 use Rattle.taking.proofs.TakingLaws.{area}
 use borrow.Author.Needs.{needs}

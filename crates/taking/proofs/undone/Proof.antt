@@ -1,23 +1,22 @@
--- `taking::refuse` meets its contract: a fault closes, and another number does not.
+-- `taking::undone` meets its contract: a fault closes, and another number does not.
 -- Assumes nothing.
 use mathlib.Core.Path.{sym, _∙_}
-use borrow.Author.Tests.{not-true, not-false}
 use borrow.Author.Needs.{needs}
-use Rattle.taking.proofs.refuse.Statement.{statement}
-use Rattle.taking.proofs.refuse.Tie as tie
+use Rattle.taking.proofs.undone.Statement.{statement}
+use Rattle.taking.proofs.undone.Tie as tie
 
 returns : tie.Need-returns
 returns c =
-    let e = sym (c .before .before .before .before .is-fault .ensures) ∙ c .before .before .before .if1 .taken in
-    rw (e, c .left .ensures, c .before .with-gate .ensures, c .before .before .close .ensures)
+    let e = sym (c .before .before .before .before .faulty .ensures) ∙ c .before .before .before .if1 .taken in
+    rw (e, c .refused .ensures, c .before .with-gate .ensures, c .before .before .close .ensures)
 
 returns-2 : tie.Need-returns-2
 returns-2 c =
-    let e = sym (c .before .before .is-fault .ensures) ∙ c .before .if1 .left in
-    rw (e, c .left2 .ensures)
+    let e = sym (c .before .before .faulty .ensures) ∙ c .before .if1 .left in
+    rw (e, c .refused2 .ensures)
 
-pub refuse-spec : {M : Type 1} → statement M
-refuse-spec =
+pub undone-spec : {M : Type 1} → statement M
+undone-spec =
     tie.close
     (tie.spec
     (λ c κs. search needs)
