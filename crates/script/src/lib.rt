@@ -82,17 +82,22 @@ pub fn last(line: &[u8], w: Word) -> bool {
     w.to == line.len()
 }
 
-// Whether a word is a word that is known.
-pub fn is(line: &[u8], w: Word, name: &[u8]) -> bool {
+// The bytes of a word; none of what is no part of the line.
+pub fn text<'a>(line: &'a [u8], w: Word) -> &'a [u8] {
     let from = w.from;
     let to = w.to;
     if to < from {
-        return false;
+        return &line[0..0];
     }
     if line.len() < to {
-        return false;
+        return &line[0..0];
     }
-    same(&line[from..to], name)
+    &line[from..to]
+}
+
+// Whether a word is a word that is known.
+pub fn is(line: &[u8], w: Word, name: &[u8]) -> bool {
+    same(text(line, w), name)
 }
 
 // Whether two runs of bytes are the same.

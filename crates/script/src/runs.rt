@@ -38,6 +38,7 @@ pub fn read(text: &mut [u8]) -> Run {
     decode(text, n / 2)
 }
 
+// The empty run.
 fn point(b: u8) -> Run {
     if b == b'.' {
         return Run::Is(0);
