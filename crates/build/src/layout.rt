@@ -1,11 +1,12 @@
 // The bytes of a message: its own heads as short as can be, and the runs as they are.
 //
-// Each contract says how long they are, or every byte of the buffer behind them; nothing else is written.
+// Each contract says how long they are, or every byte that the buffer then holds: nothing else is written.
 use super::parts::after_run;
 use super::parts::is_number;
-use messages::elements::ARRAY;
-use messages::elements::MAP;
-use messages::elements::UNSIGNED;
+use head::ARRAY;
+use head::MAP;
+use head::SIMPLE;
+use head::UNSIGNED;
 use messages::forms::Field;
 use messages::forms::MOST_FIELDS;
 ghost use mathlib.Core.Path.{_≡_};
@@ -15,9 +16,6 @@ ghost use lib.ListN.{length};
 ghost use lib.Seq.{sets};
 ghost use Rattle.messages.specs.Inside.{formCount, formAt};
 ghost use Rattle.build.specs.Inside.{headless, majorOf, headOf, headLength, tailOf, runAt, Put, pieceOf, bodyOf, headsOf, allHeads, wholeOf};
-
-// The major type of a bool.
-const SIMPLE: u8 = 7;
 
 // An item has no head of ours.
 fn is_headless(f: Field) -> bool

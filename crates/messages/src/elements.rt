@@ -3,7 +3,11 @@
 // Nothing is walked twice that need not be: the bytes are known to be one item, so that its last element ends where
 // they end. Places past the end are met by no head and no item.
 use super::forms::Field;
+use head::ARRAY;
+use head::MAP;
+use head::UNSIGNED;
 use head::read::Head;
+use item::NESTING;
 use item::Verdict;
 ghost use mathlib.Core.Path.{_≡_};
 ghost use mathlib.Core.Bool.{true, cond};
@@ -35,19 +39,12 @@ pub enum Part {
     Wrong,
 }
 
-// Major types.
-pub const UNSIGNED: u8 = 0;
-
-pub const ARRAY: u8 = 4;
-
-pub const MAP: u8 = 5;
-
 // The message's own array counts in the nesting, and so do a list, a pair and a map.
-pub const IN_MESSAGE: usize = 15;
+pub const IN_MESSAGE: usize = NESTING - 1;
 
-pub const IN_LIST: usize = 14;
+pub const IN_LIST: usize = NESTING - 2;
 
-const IN_PAIR: usize = 13;
+const IN_PAIR: usize = NESTING - 3;
 
 // Versions and sizes are below 2^32, w is below 2^16.
 pub const VERSION_LIMIT: u64 = 4294967296;
@@ -269,19 +266,9 @@ fn up_to(a: usize, e: End) -> Part
     ensures { λ r. ⌜ r ≡ upTo a e ⌝ }
 {
     match e {
-        End::At(q) => Part::Place(a, less(q, a), q),
+        End::At(q) => Part::Place(a, base::less(q, a), q),
         End::Nowhere => Part::Wrong,
     }
-}
-
-// How far q is behind a.
-fn less(q: usize, a: usize) -> usize
-    ensures { λ r. ⌜ r ≡ q - a ⌝ }
-{
-    if a < q {
-        return q - a;
-    }
-    0
 }
 
 // What a field says that is a number which a test lets pass.

@@ -5,11 +5,11 @@
 pub mod elements;
 pub mod forms;
 
-use elements::ARRAY;
 use elements::End;
 use elements::Number;
 use elements::Part;
 use forms::Listed;
+use head::ARRAY;
 use rows::Protocol;
 ghost use mathlib.Core.Path.{_≡_};
 ghost use mathlib.Core.Bool.{cond};
