@@ -30,7 +30,7 @@ use Rattle.promises.specs.Reached.{waits, Reached}
 use Rattle.promises.specs.Fairness.{queue, segments, payload, Sent, enough, FairFrom, Serves, Fair}
 use Rattle.promises.proofs.ReachedHandshake.{spare, spare-none}
 use Rattle.promises.proofs.Reached.{toPut, handshake, Sound, sound-first, sound-step, sound-run}
-use Rattle.promises.proofs.Reached.{reached-sends, chosen-waiting}
+use Rattle.promises.proofs.Reached.{reached-sends}
 use Rattle.promises.proofs.FairRound.{rounds, reach, Found, it, nearer, chosen-found, chosen-zero}
 use Rattle.promises.proofs.FairCalls.{Quiet, Served, share, Moves, quiet, served, moves}
 use Rattle.promises.proofs.FairSent.{of-same, of-other, sent-now, sent-other, sent-later}
@@ -161,7 +161,7 @@ module _ (s : Settings) (w w′ : World) (i : ℕ) (some : 1 ≤ i) (inside : i 
       → Sent (s .side) i p (byteAt w i p) (bs ∷ list.take k ss)
   other-step j p k bs q ne D h =
       sent-other (s .side) i (byteAt w i p) bs (list.take k ss) p
-      (of-other (s .side) i j bs inside (chosen-waiting (sound .reached) j (q .who) .0) ne (q .mode) (q .protocol))
+      (of-other (s .side) i j bs inside (sending.chosen-waiting _ (sound .reached .shaped) j (q .who) .0) ne (q .mode) (q .protocol))
       (subst (λ (b : ℕ). Sent (s .side) i p b (list.take k ss)) (ap (λ (l : List ℕ). getD l p 0) (q .others i ne)) (rest p k D h))
 
   -- a segment of i's own

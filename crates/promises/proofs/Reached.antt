@@ -17,7 +17,6 @@ use Rattle.rows.specs.Spoken.{speaks}
 use Rattle.messages.specs.Reading.{flagOf}
 use Rattle.ready.specs.Ready.{chosen}
 use Rattle.ready.specs.declared.Choice.the-variants.{Instance}
-use Rattle.ready.proofs.ReadyLaws.{chosen-waits}
 use Rattle.connection.specs.declared.Settings.{Settings}
 use Rattle.connection.specs.declared.Connection.{Connection}
 use Rattle.connection.specs.declared.opening as opening
@@ -71,15 +70,6 @@ pub reached-sends : {s : Settings} {w : World} → Reached s w → sends (w .con
 reached-sends {w = w} r =
     let caps = w .connection .settings .send in
     rw (r .ranged, eq-eqb (length (w .send)) (together caps) (r .send ∙ ap (λ (x : Settings). together (x .send)) (sym (r .settings))))
-
--- whoever is chosen is an instance with bytes waiting
-pub chosen-waiting : {s : Settings} {w : World} → Reached s w → (i : ℕ)
-    → chosen (w .connection .sending .waiting) (w .connection .sending .turn) ≡ Instance i → (i < instances) × (0 < waits w i)
-chosen-waiting {w = w} r i e =
-    let n : length (w .connection .sending .waiting) ≡ instances = r .shaped .waiting in
-    let turn = ranged (w .connection) (r .ranged) .turn in
-    let p = chosen-waits (w .connection .sending .waiting) (w .connection .sending .turn) i (turn .0) (rw n (turn .1)) e in
-    (rw n at (p .0), p .1)
 
 module _ (s : Settings) (w : World) (k : Sound s w) where
   abbrev c : Connection
@@ -245,7 +235,7 @@ module _ (s : Settings) (w : World) (k : Sound s w) where
       → Shaped (t .answer .connection) → Sound s (record { connection = t .answer .connection; receive = w .receive; send = w .send })
   sound-next-way (refuses n z ne) ok shaped = k
   sound-next-way (serves i who room) ok shaped =
-      let less = fewer i (sending.much c i) (chosen-waiting r i who .0) in
+      let less = fewer i (sending.much c i) (sending-laws.chosen-waiting c (r .shaped) i who .0) in
       kept refl refl refl refl ok shaped refl (omega (arith, less 0)) (λ j some waiting. r .accepted j some (omega (arith, less j)))
 
   sound-next : (time : ℕ) (buf : List ℕ) → Sound s (step w (next time buf) .world)

@@ -22,7 +22,7 @@ use Rattle.sending.proofs.SendingLaws.{header-long, header-fits}
 use Rattle.promises.specs.Calls.{World}
 use Rattle.promises.specs.Reached.{waits, Reached}
 use Rattle.promises.specs.Fairness.{queue, header, payload}
-use Rattle.promises.proofs.Reached.{chosen-waiting}
+use Rattle.sending.proofs.NumberLaws.{chosen-waiting}
 use Rattle.promises.proofs.HistoryLaws.{front}
 
 -- bytes that are a segment of instance j
@@ -45,14 +45,14 @@ made-of {w = w} r time buf j small who room =
     let h : Segment = headed (c .settings .side) time j n in
     let xs : List ℕ = payloadOf c (w .send) j in
     let caps : List ℕ = c .settings .send in
-    let inside : j < instances = chosen-waiting r j who .0 in
+    let inside : j < instances = chosen-waiting c (r .shaped) j who .0 in
     let limit = ranged c (r .ranged) .set .limit in
     let long : length (encoded h ++ xs) ≡ headerLength + n = length-append (encoded h) xs ∙ rw (header-long h, stream-length) in
     let behind : payload (encoded h ++ xs) ≡ xs = drop-at (encoded h) xs headerLength (header-long h) in
     subst (Made w time j) (sym (front buf (encoded h ++ xs) (headerLength + n) long room))
     (record {
       within = inside;
-      some = chosen-waiting r j who .1;
+      some = chosen-waiting c (r .shaped) j who .1;
       reads =
           ap decoded (take-at (encoded h) xs headerLength (header-long h))
           ∙ round-trip .read-written h (header-fits (c .settings .side) j time n inside small (omega arith));

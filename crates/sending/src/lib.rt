@@ -101,7 +101,7 @@ fn serve(c: Connection, store: &[u8], time: u32, buf: &mut [u8], i: usize) -> Ma
     let starts = sending.starts;
     let waiting = sending.waiting;
     let n = smaller(settings.limit, at(waiting, i));
-    let len = LENGTH + n as usize;
+    let len = HEADER + n as usize;
     if buf.len() < len {
         return refused(c, 18);
     }
