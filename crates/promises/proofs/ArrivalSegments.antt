@@ -73,8 +73,8 @@ made-call s w (calls.take i buf) real k = tt
 made-call s w (calls.put i xs) real k = tt
 made-call s w (calls.next time buf) real k =
     let r = nextOf (w .connection) (w .send) time buf in
-    let bs : List ℕ = take (r .made .len) (r .buffer) in
-    cond-cases (AllMade (s .side)) (eqb (r .made .number) 0) (λ t. (made-of s w time bs (segmented s w time buf k real bs (rw t)), tt)) (λ t. tt)
+    let bs : List ℕ = take (r .answer .len) (r .buffer) in
+    cond-cases (AllMade (s .side)) (eqb (r .answer .number) 0) (λ t. (made-of s w time bs (segmented s w time buf k real bs (rw t)), tt)) (λ t. tt)
 made-call s w calls.status real k = tt
 
 pub all-made : {s : Settings} {receive send : List ℕ} → Opened s receive send → (cs : List Call) → AllReal cs

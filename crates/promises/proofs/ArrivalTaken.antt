@@ -2,17 +2,13 @@
 -- the row finds it at the front of what is held; and what the take says of it are the numbers and places of what was read.
 -- Assumes nothing.
 use mathlib.Core.Path.{_≡_, refl, sym, ap, _∙_, subst}
-use mathlib.Core.Bool.{Bool, true, _&&_}
 use mathlib.Core.List.{List, [], _∷_, _++_, append-nil, append-assoc}
-use mathlib.Core.Option.{Option, none, some}
+use mathlib.Core.Option.{some}
 use Prim.Native.Nat.{ℕ, zero, suc, _+_, _*_, _≤_}
 use native.Mathlib.Omega.{arith}
 use native.Mathlib.Numerals.{add-one}
-use borrow.Author.Tests.{eqb-true}
-use lib.Dec.{T, eqb, leb, leb→le}
 use lib.ListN.{length, getD, set, take, drop, length-set, length-take}
 use lib.Seq.{sets, sets-eq, take-suc-set, getD-set-same, getD-set-other}
-use Rattle.base.proofs.Conds.{by-test, and-left, and-right}
 use Rattle.ring.specs.Ring as ring
 use Rattle.ring.specs.Ring.{baseOf}
 use Rattle.ring.proofs.Stores.{stream-length, stream-take}
@@ -21,21 +17,20 @@ use Rattle.item.specs.Grammar.{Item, nesting}
 use Rattle.item.specs.Verdict.{verdict}
 use Rattle.item.proofs.Theorem.{exactly}
 use Rattle.rows.specs.declared.Protocol.{Protocol}
-use Rattle.rows.specs.declared.Protocol.the-variants.{Handshake, ChainSync, BlockFetch, TxSubmission, KeepAlive}
 use Rattle.rows.specs.declared.Next.the-variants.{To}
 use Rattle.rows.specs.Spoken.{speaks}
 use Rattle.messages.specs.declared.Message.{Message}
 use Rattle.messages.specs.declared.Answer.{Answer}
 use Rattle.messages.specs.declared.forms.Field.{Field}
-use Rattle.messages.specs.Forms.{Form, forms, formIn, formOf}
 use Rattle.messages.specs.Matching.{Value, number, place, FieldsAt, no-field, a-field, Matches, begun, withNumber, withPlace, told, messageFrom}
 use Rattle.messages.specs.Reading.{messageOf, read}
 use Rattle.messages.proofs.Theorem.{reads-forms, message-is-item}
-use Rattle.build.specs.Made.{onSome, encoded}
 use Rattle.build.specs.Theorem.{numbersOf, runsOf}
-use Rattle.build.specs.Building.{allGiven, given, bytesOf}
+use Rattle.build.specs.Building.{given}
 use Rattle.build.proofs.NumberLaws as build
+use Rattle.build.proofs.Few.{Few, form-few, runs-counted}
 use Rattle.connection.specs.declared.Connection.{Connection}
+use Rattle.connection.specs.Parts.{firstHeld}
 use Rattle.judging.specs.Judging.{leadsTo}
 use Rattle.taking.specs.Taking as taking
 use Rattle.taking.specs.Numbers.{Awaited, Spells, done}
@@ -101,35 +96,7 @@ told-runs bs (place a l ∷ xs) m h =
     ∙ ap (λ (rs : List (List ℕ)). rs ++ runsOf bs xs) (runs-next bs (m .places) n a l (omega arith))
     ∙ append-assoc (runsIn bs m) (ring.run bs a l ∷ []) (runsOf bs xs)
 
--- ---- forms
-
--- kinds are below eight, and no form has more than three fields
-small : List Form → Bool
-small [] = true
-small (f ∷ l) = (leb (f .kind) 7 && leb (length (f .fields)) 3) && small l
-
-all-small : (p : Protocol) → T (small (forms p))
-unfolding small
-all-small Handshake = tt
-all-small ChainSync = tt
-all-small BlockFetch = tt
-all-small TxSubmission = tt
-all-small KeepAlive = tt
-
-form-in : (kind : ℕ) (l : List Form) (fs : List Field) → T (small l) → formIn kind l ≡ some fs → (kind ≤ 7) × (length fs ≤ 3)
-unfolding small formIn
-form-in kind [] fs t e = absurd (let z : _≡_ {A = ℕ} 0 1 = cc in omega arith)
-form-in kind (f ∷ l) fs t e =
-    let here = and-left (leb (f .kind) 7 && leb (length (f .fields)) 3) (small l) t in
-    by-test (eqb (f .kind) kind)
-    (λ q.
-    let o : some (f .fields) ≡ some fs = rw q at e in
-    let same : f .fields ≡ fs = cc in
-    let k : f .kind ≡ kind = eqb-true (f .kind) kind q in (
-      omega (arith, leb→le (f .kind) 7 (and-left (leb (f .kind) 7) (leb (length (f .fields)) 3) here)),
-      omega (arith, ap length same, leb→le (length (f .fields)) 3 (and-right (leb (f .kind) 7) (leb (length (f .fields)) 3) here)),
-    ))
-    (λ q. form-in kind l fs (and-right (leb (f .kind) 7 && leb (length (f .fields)) 3) (small l) t) (rw q at e))
+-- ---- how many
 
 -- as many values as fields, and no more numbers
 values-many : {bs : List ℕ} {fs : List Field} {p q : ℕ} {xs : List Value} → FieldsAt bs fs p xs q → length xs ≡ length fs
@@ -140,30 +107,6 @@ numbers-few : (xs : List Value) → length (numbersOf xs) ≤ length xs
 numbers-few [] = omega arith
 numbers-few (number v ∷ xs) = omega (arith, numbers-few xs)
 numbers-few (place a l ∷ xs) = omega (arith, numbers-few xs)
-
--- what comes of something found was found
-was-found : {A B : Type 0} (o : Option A) (k : A → Option B) (b : B) → onSome o k ≡ some b → (a : A) × (o ≡ some a) × (k a ≡ some b)
-was-found none k b e = absurd (let z : _≡_ {A = ℕ} 0 1 = cc in omega arith)
-was-found (some a) k b e = (a, refl, e)
-
--- what can be built has a form, and so its kind is small
-built-kind : (i kind : ℕ) (ns : List ℕ) (runs : ℕ) (one two bs : List ℕ) → bytesOf i kind ns runs one two ≡ some bs → kind ≤ 7
-unfolding bytesOf encoded
-built-kind i kind ns runs one two bs e =
-    let r = was-found (given runs one two) (λ rs. encoded (speaks i) kind ns rs) bs e in
-    let f = was-found (formOf (speaks i) kind) _ bs (r .2) in
-    form-in kind (forms (speaks i)) (f .0) (all-small (speaks i)) (f .1) .0
-
--- at most two runs are given
-given-few : (runs : ℕ) (one two : List ℕ) (rs : List (List ℕ)) → given runs one two ≡ some rs → length rs ≤ 2
-unfolding given
-given-few runs one two rs e =
-    by-test (allGiven runs one two)
-    (λ t.
-    let o : some (take runs (one ∷ two ∷ [])) ≡ some rs = rw t at e in
-    let same : take runs (one ∷ two ∷ []) ≡ rs = cc in
-    omega (arith, ap length same, length-take runs (one ∷ two ∷ [])))
-    (λ t. absurd (let o : none ≡ some rs = rw t at e in let z : _≡_ {A = ℕ} 0 1 = cc in omega arith))
 
 -- ---- the take
 
@@ -176,12 +119,12 @@ spells-once : (c : Connection) (store : List ℕ) (i n n′ : ℕ) (m m′ : Mes
 spells-once c store i n n′ m m′ s s′ =
     let e : Whole n′ ≡ Whole n = sym (s′ .whole) ∙ s .whole in
     let same : n′ ≡ n = cc in
-    let says : read m′ ≡ read m = sym (s′ .read) ∙ ap (λ (k : ℕ). messageOf (speaks i) (taking.bytesOf c store i k)) same ∙ s .read in
+    let says : read m′ ≡ read m = sym (s′ .read) ∙ ap (λ (k : ℕ). messageOf (speaks i) (firstHeld c store i k)) same ∙ s .read in
     (same, ap (λ (a : Answer). a .message) says)
 
 tells-it : (c : Connection) (store : List ℕ) (i : ℕ) (lent : List ℕ) (n : ℕ) (m : Message) → Spells c store i n m
-    → taking.takeOf c store i lent .taken .number ≡ 0
-    → (taking.takeOf c store i lent .taken .len ≡ n) × (taking.takeOf c store i lent .taken .message ≡ m)
+    → taking.takeOf c store i lent .answer .number ≡ 0
+    → (taking.takeOf c store i lent .answer .len ≡ n) × (taking.takeOf c store i lent .answer .message ≡ m)
 tells-it c store i lent n m s z =
     let h = taking-laws.hands-out c store i lent z in
     let o = spells-once c store i n (h .0) m (h .1) s (h .3) in
@@ -200,34 +143,32 @@ takes-it w i bs lent m next awaited held it reads row room =
     let count : ℕ = getD (c .receiving .held) i 0 in
     let many : length (holding w i) ≡ count = stream-length _ _ _ _ count in
     let all : n ≤ count = omega (arith, ap length held, length-take n (holding w i)) in
-    let bytes : taking.bytesOf c store i n ≡ bs =
+    let bytes : firstHeld c store i n ≡ bs =
     sym (stream-take store (baseOf caps i) (getD caps i 0) (getD (c .receiving .starts) i 0) n count all) ∙ held in
     let whole : verdict (holding w i) ≡ Whole n = exactly nesting (holding w i) (Whole n) .1 (omega arith, rw held it) in
     let spells : Spells c store i n m = record { awaited = awaited; whole = whole; read = rw bytes reads } in
-    let number : taking.takeOf c store i lent .taken .number ≡ 0 = taking-laws.exactly c store i lent 0 .1 (done spells row room) in
+    let number : taking.takeOf c store i lent .answer .number ≡ 0 = taking-laws.exactly c store i lent 0 .1 (done spells row room) in
     let (len, message) = tells-it c store i lent n m spells number in
     let at : 0 + n ≡ n = omega arith in
     same-answer number len message
     (taking-laws.leaves c store i lent .front number
-    ∙ ap (λ (k : ℕ). sets lent 0 (taking.bytesOf c store i k)) len ∙ ap (sets lent 0) bytes
+    ∙ ap (λ (k : ℕ). sets lent 0 (firstHeld c store i k)) len ∙ ap (sets lent 0) bytes
     ∙ sets-eq bs lent 0 (omega arith) ∙ ap (λ (k : ℕ). bs ++ drop k lent) at)
 
 pub built-is-taken : BuiltIsTaken
 unfolding runsAt
 built-is-taken i p bs b w j same k lent room =
-    let made = build.exactly i (p .kind) (p .numbers) (p .runs) (p .one) (p .two) (b .lent) .n0 .0 (b .done) in
-    let low : p .kind ≤ 7 = built-kind i (p .kind) (p .numbers) (p .runs) (p .one) (p .two) (made .1 .0) (made .1 .1) in
     let r = buildWith i p (b .lent) in
-    let back = build.reads-back i (p .kind) (p .numbers) (p .runs) (p .one) (p .two) (b .lent) (r .built) (r .buffer) (omega arith)
-    (b .slices .0) (b .slices .1) refl (b .done) in
+    let back = build.reads-back i (p .kind) (p .numbers) (p .runs) (p .one) (p .two) (b .lent) (r .built) (r .buffer) (b .slices .0)
+    (b .slices .1) refl (b .done) in
     let xs : List Value = back .0 in
     let m : Matches (speaks j) bs (p .kind) xs =
     subst (λ (q : Protocol). Matches q bs (p .kind) xs) (sym same)
     (subst (λ (ys : List ℕ). Matches (speaks i) ys (p .kind) xs) (b .front) (back .1)) in
     let runs : given (p .runs) (p .one) (p .two) ≡ some (runsOf bs xs) = back .3 ∙ ap (λ (ys : List ℕ). some (runsOf ys xs)) (b .front) in
-    let few : length (numbersOf xs) ≤ 3 =
-    omega (arith, numbers-few xs, values-many (m .matched), form-in (p .kind) (forms (speaks j)) (m .fields) (all-small (speaks j)) (m .form) .1) in
-    let two : length (runsOf bs xs) ≤ 2 = given-few (p .runs) (p .one) (p .two) (runsOf bs xs) runs in
+    let small : Few (p .kind) (m .fields) = form-few (speaks j) (p .kind) (m .form) in
+    let few : length (numbersOf xs) ≤ 3 = omega (arith, numbers-few xs, values-many (m .matched), small .fields) in
+    let two : length (runsOf bs xs) ≤ 2 = omega (arith, runs-counted bs (m .matched), small .runs) in
     let reads : messageOf (speaks j) bs ≡ read (messageFrom (p .kind) xs) =
     reads-forms (speaks j) bs (messageFrom (p .kind) xs) .1 (p .kind, xs, m, refl) in
     record {

@@ -13,7 +13,7 @@ use Rattle.messages.specs.Reading.{messageOf}
 use Rattle.build.specs.Building.{Told, given, buildOf}
 use Rattle.connection.specs.declared.Settings.{Settings}
 use Rattle.judging.specs.Judging.{leadsTo}
-use Rattle.taking.specs.Taking.{heldOf}
+use Rattle.connection.specs.Parts.{heldOf}
 use Rattle.taking.specs.Numbers.{Awaited}
 use Rattle.promises.specs.Trace.{run, trace}
 use Rattle.promises.specs.Calls as calls
