@@ -23,7 +23,7 @@ ghost use Rattle.item.specs.Grammar.{nesting};
 ghost use Rattle.item.specs.Verdict.{judge, start, verdict};
 ghost use Rattle.ring.specs.Ring.{around};
 ghost use Rattle.cbor.specs.Walk.{frameOf, Good, Sound, Resumed, walkOf, firstAt};
-ghost use Rattle.cbor.specs.Inside.Frames.{breakable, roomFor, chunkOf, mayBegin, widthOf, smallOf};
+ghost use Rattle.cbor.specs.Inside.Frames.{breakable, roomFor, chunkOf, mayBegin, following, smallOf};
 ghost use Rattle.cbor.specs.Inside.Moves.{Moves, Leaves, Strings, Follows, Doubles, Answers, Broken, Endless, Opened, Quickly, Usually, UsualString};
 ghost use Rattle.cbor.specs.Inside.Pieces.{Spot, PieceAt};
 
@@ -373,8 +373,8 @@ fn any(s: &[u8], from: usize, n: usize, at: usize, kind: u8, count: u64, depth: 
 }
 
 // How many bytes follow an initial byte, by its additional information.
-fn width(i: u8) -> u8
-    ensures { λ r. ⌜ r ≡ widthOf i ⌝ }
+fn following(i: u8) -> u8
+    ensures { λ r. ⌜ r ≡ following i ⌝ }
 {
     match i {
         24 => 1,
@@ -398,7 +398,7 @@ fn small(i: u8, x: u8) -> u64
 
 fn extra(i: u8) -> usize
     requires { ⌜ i ≤ 24 ⌝ }
-    ensures { λ r. ⌜ r ≡ widthOf i ⌝ }
+    ensures { λ r. ⌜ r ≡ following i ⌝ }
 {
     if i < 24 {
         return 0;
@@ -458,7 +458,7 @@ fn tag(b: u8, at: usize, depth: usize) -> Quick
     if 28 <= i {
         return Quick::Unusual;
     }
-    Quick::Asks(at + 1 + size(width(i)), 1)
+    Quick::Asks(at + 1 + size(following(i)), 1)
 }
 
 // A usual head at the place `at`, at a level of items, where nine bytes lie in one piece from the place p of the slice
@@ -476,7 +476,7 @@ fn usual(s: &[u8], from: usize, n: usize, at: usize, p: usize, depth: usize) -> 
         if 28 <= i {
             return Quick::Unusual;
         }
-        return Quick::Past(at + 1 + size(width(i)));
+        return Quick::Past(at + 1 + size(following(i)));
     }
     if b < 128 {
         return short_string(n, at, i, s[p + 1]);
@@ -493,7 +493,7 @@ fn usual(s: &[u8], from: usize, n: usize, at: usize, p: usize, depth: usize) -> 
     if 28 <= i {
         return Quick::Unusual;
     }
-    Quick::Past(at + 1 + size(width(i)))
+    Quick::Past(at + 1 + size(following(i)))
 }
 
 // The piece that a place is in.

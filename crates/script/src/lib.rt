@@ -3,13 +3,12 @@
 // A line is a slice without its line feed. A word is a part of it, up to a space or the end; where there is no word any
 // more, it is the empty one at the end, which is nothing that a call takes. Runs are made bytes in place: two digits of
 // the line become the byte at the front of them, so that a line needs no second buffer.
-ghost use mathlib.Core.Path.{_≡_};
-ghost use Prim.Native.Nat.{_+_, _<_, _≤_};
-ghost use lib.ListN.{length};
-
 pub mod lists;
 pub mod numbers;
 pub mod runs;
+
+ghost use Prim.Native.Nat.{_≤_};
+ghost use lib.ListN.{length};
 
 // A part of a line: from a place on, up to another.
 pub struct Word {

@@ -247,6 +247,7 @@ fn agree(v: Verdict, w: Verdict) -> bool {
     }
 }
 
+// The three cases, each with its number.
 fn whole(v: Verdict, n: usize) -> bool {
     match v {
         Verdict::Whole(m) => m == n,

@@ -5,7 +5,7 @@ use native.Mathlib.Omega.{arith}
 use Prim.Native.Nat.{ℕ, _+_, _%_}
 use lib.ListN.{getD}
 use borrow.Author.Needs.{needs}
-use Rattle.cbor.specs.Inside.Frames.{widthOf, smallOf}
+use Rattle.cbor.specs.Inside.Frames.{following, smallOf}
 use Rattle.cbor.proofs.UsualHeads.{width-most, pass-string}
 use Rattle.cbor.proofs.short_string.Statement.{statement}
 use Rattle.cbor.proofs.short_string.Tie as tie
@@ -34,7 +34,7 @@ returns-2 c =
     let h = c .if2 .taken in
     λ xs d b e q x i k l.
     let m = width-most (a .i) in
-    let z : a .at + 1 + c .before .extra .result ≡ a .at + 1 + widthOf (b % 32) = ap (λ (j : ℕ). a .at + 1 + j) (w ∙ ap widthOf i) in
+    let z : a .at + 1 + c .before .extra .result ≡ a .at + 1 + following (b % 32) = ap (λ (j : ℕ). a .at + 1 + j) (w ∙ ap following i) in
     let v : c .before .before .small .result ≡ smallOf (b % 32) (getD xs (a .at + 1) 0) = c .before .before .small .ensures ∙ cc in
     pass-string xs (a .at) d b (omega arith) q (a .at + 1 + c .before .extra .result) (c .before .before .small .result) z (omega arith) k l v
     (omega arith)

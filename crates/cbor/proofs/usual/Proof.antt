@@ -73,7 +73,7 @@ returns-3 c =
     let b = getD (a .s .now) (a .p) 0 in
     let e : b ≡ getD xs (a .at) 0 = spot-here (a .s .now) (a .from) (a .n) (a .at) (a .p) (p .1) q in
     pass-number xs (a .at) (a .depth) b (omega arith) e (a .at + 1 + c .size .result)
-    (ap (λ (w : ℕ). a .at + 1 + w) (c .size .ensures ∙ c .before .width .ensures)) (omega arith) (omega arith)
+    (ap (λ (w : ℕ). a .at + 1 + w) (c .size .ensures ∙ c .before .following .ensures)) (omega arith) (omega arith)
 
 add-short-string : tie.Need-add-short-string
 add-short-string c =
@@ -190,7 +190,7 @@ returns-9 c =
     let b = getD (a .s .now) (a .p) 0 in
     let e : b ≡ getD xs (a .at) 0 = spot-here (a .s .now) (a .from) (a .n) (a .at) (a .p) (p .1) q in
     pass-simple xs (a .at) (a .depth) b (omega arith) e (a .at + 1 + c .size2 .result)
-    (ap (λ (w : ℕ). a .at + 1 + w) (c .size2 .ensures ∙ c .before .width2 .ensures)) (omega arith) (omega arith)
+    (ap (λ (w : ℕ). a .at + 1 + w) (c .size2 .ensures ∙ c .before .following2 .ensures)) (omega arith) (omega arith)
     (omega (arith, c .before .before .before .before .before .before .before .before .before .shared-slice-known2 .given (a .p)))
     (c .before .before .before .if7 .left)
 

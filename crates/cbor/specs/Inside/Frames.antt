@@ -101,8 +101,8 @@ abbrev pub mayBegin : ℕ → ℕ → Major → Bool
 mayBegin k d m = cond (ltb k 4) (roomFor m d) (chunkOf m k)
 
 -- how many bytes follow an initial byte, by its additional information
-abbrev pub widthOf : ℕ → ℕ
-widthOf i = cond (eqb i 24) 1 (cond (eqb i 25) 2 (cond (eqb i 26) 4 (cond (eqb i 27) 8 0)))
+abbrev pub following : ℕ → ℕ
+following i = cond (eqb i 24) 1 (cond (eqb i 25) 2 (cond (eqb i 26) 4 (cond (eqb i 27) 8 0)))
 
 -- an argument in the additional information or in one byte
 abbrev pub smallOf : ℕ → ℕ → ℕ

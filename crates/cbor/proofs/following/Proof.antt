@@ -1,8 +1,8 @@
--- `cbor::width` meets its contract: the definition goes by the same numbers.
+-- `cbor::following` meets its contract: the definition goes by the same numbers.
 -- Assumes nothing.
 use Rattle.cbor.proofs.UsualHeads.{width-24, width-25, width-26, width-27, width-other}
-use Rattle.cbor.proofs.width.Statement.{statement}
-use Rattle.cbor.proofs.width.Tie as tie
+use Rattle.cbor.proofs.following.Statement.{statement}
+use Rattle.cbor.proofs.following.Tie as tie
 
 returns : tie.Need-returns
 returns c =
@@ -24,8 +24,8 @@ returns-5 : tie.Need-returns-5
 returns-5 c =
     width-other _ (c .match .rest .0 .0 .0 .1) (c .match .rest .0 .0 .1) (c .match .rest .0 .1) (c .match .rest .1)
 
-pub width-spec : {M : Type 1} → statement M
-width-spec =
+pub following-spec : {M : Type 1} → statement M
+following-spec =
     tie.close
     (tie.spec
     returns
