@@ -88,7 +88,7 @@ due : Due dialler accepter [] 0 propose message
 unfolding least dialler accepter allBelow spelled octets baseOf laid stream headAt headBy longAt simpleAt initial shortest nest indefinite enter
     alike enterChunk item.step item.met item.judge added decoded encoded find routeOf pairOf placeIn nextIn agencyIn speaks formIn unsignedAt
     opensAt itemEnd versionsEnd partOf fieldsOf numberedOf messageOf flagOf build.howMany build.made build.encoded given bytesOf buildOf
-    wordOf countOf lowestFrom seek settingsOk inRange openOf ours judgedOf putting.judgeOf putting.room putting.putOf serve nextOf
+    wordOf countOf lowestFrom seek settingsOk inRange openOf ours judgedOf putting.judgeOf putting.queue putting.putOf serve nextOf
     feeding.feedOf feeding.taken feeding.used feeding.fed feeding.step feeding.kept feeding.headed feeding.admission
     run trace step segments bytesIn acts handedFor flatMap flatten
 due =
