@@ -11,7 +11,7 @@ use lib.ListN.{length, getD}
 use borrow.Author.Tests.{eq-eqb, ne-eqb, lt-ltb, le-ltb, leb-true}
 use Rattle.base.proofs.Conds.{by-test}
 use Rattle.ring.specs.Ring.{baseOf}
-use Rattle.ring.proofs.Areas.{base-small, area-in-store}
+use Rattle.ring.proofs.Areas.{area-in-store}
 use Rattle.wire.specs.Instances.{instances}
 use Rattle.rows.specs.Spoken.{speaks}
 use Rattle.connection.specs.declared.Connection.{Connection}
@@ -40,11 +40,6 @@ module _ (c : Connection) (store : List ℕ) (i : ℕ) (l : InSend c store i) wh
   -- it is in the store
   pub area-lent : length (c .settings .send) ≡ instances → baseOf (c .settings .send) i + getD (c .settings .send) i 0 ≤ length store
   area-lent long = area-in-store store (c .settings .send) i (sends-both c (length store) (l .0) .1) (omega (arith, l .1))
-
-  pub base-fits : length (c .settings .send) ≡ instances → baseOf (c .settings .send) i < 2 ^ 64
-  base-fits long =
-      let r = ranged c (sends-both c (length store) (l .0) .0) in
-      omega (arith, base-small (c .settings .send) 131072 (λ j h. r .set .send j (omega arith) .1) i (omega (arith, l .1)), l .1)
 
   -- where its bytes begin, and how many wait, are small numbers
   pub area-small : (getD (c .sending .starts) i 0 < 2 ^ 32) × (getD (c .sending .waiting) i 0 < 2 ^ 32)

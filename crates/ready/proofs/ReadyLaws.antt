@@ -42,7 +42,8 @@ unfolding wordOf
 bit-by-bit [] i h = absurd (omega arith)
 bit-by-bit (w ∷ ws) zero h = rw div-one (odd (wordOf ws) (bitOf w) (bit-le w))
 bit-by-bit (w ∷ ws) (suc i) h =
-    rw (pow-succ' 2 i, ← div-div-eq-div-mul (2 * wordOf ws + bitOf w) 2 (2 ^ i), half (wordOf ws) (bitOf w) (bit-le w)) (bit-by-bit ws i (omega arith))
+    rw (pow-succ' 2 i, ← div-div-eq-div-mul (2 * wordOf ws + bitOf w) 2 (2 ^ i), half (wordOf ws) (bitOf w) (bit-le w))
+    (bit-by-bit ws i (omega arith))
 
 -- a turn of the loop that makes the word
 turn : (ws : List ℕ) (j : ℕ) → j < length ws → wordOf (drop (suc j) ws) * 2 + bitOf (getD ws j 0) ≡ wordOf (drop j ws)
@@ -56,7 +57,9 @@ word-turn ws i p h =
 
 -- a word of the last counts is small
 pub word-small : (ws : List ℕ) (i n : ℕ) → length ws ≡ n → wordOf (drop i ws) < 2 ^ n
-word-small ws i n e = omega (arith, no-more (drop i ws), pow-le-pow-right {n = 2} (omega arith) {i = length (drop i ws)} {j = n} (omega (arith, length-drop i ws)))
+word-small ws i n e =
+    let l : length (drop i ws) ≤ n = omega (arith, length-drop i ws) in
+    omega (arith, no-more (drop i ws), pow-le-pow-right {n = 2} (omega arith) {i = length (drop i ws)} {j = n} l)
 
 -- ---- ones, and the lowest
 

@@ -12,7 +12,7 @@ use borrow.Author.Tests.{lt-ltb, le-ltb}
 use Rattle.base.proofs.ListLaws.{sets-append}
 use Rattle.base.proofs.NumberLaws.{length-octets}
 use Rattle.ring.specs.Ring.{baseOf}
-use Rattle.ring.proofs.Areas.{base-small, area-in-store}
+use Rattle.ring.proofs.Areas.{area-in-store}
 use Rattle.wire.specs.declared.segment.Segment.{Segment}
 use Rattle.wire.specs.declared.instances.Side.{Side}
 use Rattle.wire.specs.Segments.{headerLength, encoded, Fits}
@@ -49,10 +49,6 @@ header-fits side i time n h t l = record { time = t; mode = mode-low side i; pro
 pub in-store : (caps store : List ℕ) (i n : ℕ) → length caps ≡ instances → Area caps store i n → baseOf caps i + getD caps i 0 ≤ length store
 in-store caps store i n long a = area-in-store store caps i (a .stored) (omega (arith, a .instance))
 
-pub base-fits : (caps store : List ℕ) (i n : ℕ) → length caps ≡ instances → Area caps store i n → baseOf caps i < 2 ^ 64
-base-fits caps store i n long a =
-    omega (arith, base-small caps 131072 (λ j h. a .small j (omega arith)) i (omega (arith, a .instance)), a .instance)
-
 -- what is sent of an instance is in its area
 pub waits-area : (c : Connection) (store : List ℕ) (i : ℕ) → InSend c store i → Area (c .settings .send) store i (much c i)
 waits-area c store i w =
@@ -62,7 +58,6 @@ waits-area c store i w =
     let k = r .sending i (w .1) in
     record {
       instance = w .1;
-      small = λ j h. r .set .send j h .1;
       within = omega arith;
       some = omega arith;
       stored = p .1;
@@ -125,7 +120,8 @@ by-word c word x r long w e =
 pub is-chosen : (c : Connection) (store : List ℕ) (word : ℕ) (x : Choice) → sends c (length store) ≡ true
     → x ≡ chosenIn instances word (c .sending .turn) → Chosen c store x
 is-chosen c store word x r e =
-    of x (subst (Low instances) (sym e) (chosen-low instances word (c .sending .turn) (omega arith) (ranged c (sends-both c (length store) r .0) .turn .1)))
+    let t = ranged c (sends-both c (length store) r .0) .turn in
+    of x (subst (Low instances) (sym e) (chosen-low instances word (c .sending .turn) (omega arith) (t .1)))
   where
     of : (x : Choice) → Low instances x → Chosen c store x
     of Nobody l = tt

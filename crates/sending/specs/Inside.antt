@@ -13,7 +13,6 @@ use Rattle.connection.specs.Parts.{InSend}
 -- n bytes of the area of instance i, in a store as long as its capacities together
 pub record Area (caps store : List ℕ) (i n : ℕ) : Type 0 where
   pub instance : i < instances
-  pub small : (j : ℕ) → j < instances → getD caps j 0 ≤ 131072
   pub within : n ≤ getD caps i 0
   pub some : 0 < getD caps i 0
   pub stored : length store ≡ together caps

@@ -125,7 +125,8 @@ part-area store b k base cap e f =
     ap (λ (m : ℕ). take m (drop b store)) q ∙ rw (e, f)
 
 -- judging where the bytes lie is judging the bytes held
-pub judged-there : (c : Connection) (store : List ℕ) (i : ℕ) → Area c store i → (part : List ℕ) (start n : ℕ) (p : Protocol) (state : ℕ) (open′ : Bool)
+pub judged-there : (c : Connection) (store : List ℕ) (i : ℕ) → Area c store i
+    → (part : List ℕ) (start n : ℕ) (p : Protocol) (state : ℕ) (open′ : Bool)
     → part ≡ run store (baseOf (c .settings .receive) i) (getD (c .settings .receive) i 0) → start ≡ getD (c .receiving .starts) i 0
     → n ≡ getD (c .receiving .held) i 0 → p ≡ speaks i → state ≡ stateOf c i → open′ ≡ isOpen (c .gate)
     → heardAs part start p state open′ (verdict (around part start n)) ≡ byVerdict c store i (verdict (heldOf c store i))

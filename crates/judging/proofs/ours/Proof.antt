@@ -11,7 +11,13 @@ returns : tie.Need-returns
 unfolding ours
 returns c =
     let a = c .before .before .before .before .args in
-    rw (c .holds .ensures, c .before .mode .ensures, initiator-mode (initiates (a .side) (at (a .i) .role)), c .before .before .agent .ensures, c .before .before .before .protocol .ensures)
+    rw (
+      c .holds .ensures,
+      c .before .mode .ensures,
+      initiator-mode (initiates (a .side) (at (a .i) .role)),
+      c .before .before .agent .ensures,
+      c .before .before .before .protocol .ensures,
+    )
 
 pub ours-spec : {M : Type 1} → statement M
 ours-spec = tie.close (tie.spec (λ c κs. search needs) (λ c κs. search needs) (λ c κs. search needs) (λ c κs. search needs) returns)

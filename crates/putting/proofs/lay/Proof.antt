@@ -6,7 +6,7 @@ use lib.ListN.{length, length-map}
 use lib.Seq.{take-length}
 use Rattle.wire.specs.Instances.{instances}
 use Rattle.connection.proofs.RangeLaws.{ranged, sends-both}
-use Rattle.putting.proofs.PuttingLaws.{area-lent, base-fits, area-small}
+use Rattle.putting.proofs.PuttingLaws.{area-lent, area-small}
 use borrow.Author.Needs.{needs}
 use Rattle.putting.proofs.lay.Statement.{statement}
 use Rattle.putting.proofs.lay.Tie as tie
@@ -17,7 +17,7 @@ base-of-requires c κs =
     let a = s .args in
     let l = s .pre .0 in
     let long : length (a .c .settings .send) ≡ instances = simp length-map at (s .good .0 .1 .1 .0 .1 .1 .1 .1 .1 .0 .1 .0 .1) in
-    (omega (arith, l .1), base-fits (a .c) (a .store .now) (a .i) l long)
+    (omega (arith, l .1), omega (arith, area-lent (a .c) (a .store .now) (a .i) l long))
 
 add-end : tie.Need-add-end
 add-end c =

@@ -17,8 +17,9 @@ returns c = rw (c .before .enum-told .given .1, c .refused .ensures)
 
 returns-2 : tie.Need-returns-2
 returns-2 c =
-    let a = c .before .before .before .before .before .before .before .before .before .args in
-    c .before .before .serve .ensures ∙ sym (ap (byChoice (a .c) (a .store .now) (a .time) (a .buf .now)) (c .before .before .before .before .before .choice .given .1))
+    let chosen = c .before .before .before .before .before in
+    let a = chosen .before .before .before .before .args in
+    c .before .before .serve .ensures ∙ sym (ap (byChoice (a .c) (a .store .now) (a .time) (a .buf .now)) (chosen .choice .given .1))
 
 pub by-choice-spec : {M : Type 1} → statement M
 by-choice-spec =

@@ -16,7 +16,9 @@ write-requires c κs =
     )
 
 returns : tie.Need-returns
-returns c = c .before .before .write .ensures ∙ rw (c .before .before .before .before .before .mode .ensures, c .before .before .before .before .protocol .ensures)
+returns c =
+    c .before .before .write .ensures
+    ∙ rw (c .before .before .before .before .before .mode .ensures, c .before .before .before .before .protocol .ensures)
 
 pub put-header-spec : {M : Type 1} → statement M
 put-header-spec =

@@ -62,10 +62,10 @@ returns-2 c =
     let past = c .before .before .before .before .before .before .before .before .before .before .before in
     let b = past .before in
     let a = start b .args in
-    serve-made (a .c) (a .store .now) (a .time) (a .buf .now) (a .i) (b .smaller .result) (sends-much b) (c .with-sending .result) (c .before .sent .result)
-    _ (past .if1 .left) (c .before .sent .ensures) (c .with-sending .ensures)
-    (c .before .before .before .before .put-payload .ensures
-    ∙ rw (c .before .before .before .before .before .at2 .ensures, c .before .before .before .before .before .before .before .before .before .put-header .ensures))
+    let laid = c .before .before .before .before in
+    serve-made (a .c) (a .store .now) (a .time) (a .buf .now) (a .i) (b .smaller .result) (sends-much b)
+    (c .with-sending .result) (c .before .sent .result) _ (past .if1 .left) (c .before .sent .ensures) (c .with-sending .ensures)
+    (laid .put-payload .ensures ∙ rw (laid .before .at2 .ensures, laid .before .before .before .before .before .put-header .ensures))
 
 pub serve-spec : {M : Type 1} → statement M
 serve-spec =

@@ -24,7 +24,11 @@ read-requires c κs =
 returns : tie.Need-returns
 returns c =
     c .before .before .read .ensures
-    ∙ rw (c .before .before .before .at2 .ensures, c .before .before .before .before .at .ensures, c .before .before .before .before .before .before .base-of .ensures)
+    ∙ rw (
+      c .before .before .before .at2 .ensures,
+      c .before .before .before .before .at .ensures,
+      c .before .before .before .before .before .before .base-of .ensures,
+    )
 
 pub copy-spec : {M : Type 1} → statement M
 copy-spec =

@@ -20,8 +20,9 @@ handed-requires c κs =
 
 returns-2 : tie.Need-returns-2
 returns-2 c =
-    let a = c .before .before .before .before .before .before .before .before .before .before .args in
-    hand-made (a .c) (a .store .now) (a .i) (a .buf .now) (a .j) (c .handed .result) _ (c .before .before .before .before .before .before .if1 .left) (c .handed .ensures)
+    let past = c .before .before .before .before .before .before in
+    let a = past .before .before .before .before .args in
+    hand-made (a .c) (a .store .now) (a .i) (a .buf .now) (a .j) (c .handed .result) _ (past .if1 .left) (c .handed .ensures)
     (c .before .before .before .before .copy .ensures)
 
 pub hand-spec : {M : Type 1} → statement M
