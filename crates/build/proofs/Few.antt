@@ -56,7 +56,8 @@ few-in k (f ∷ l) {fs} t =
     (λ q e.
     let same : f .fields ≡ fs = cc in
     subst (Few k) same
-    (subst (λ (n : ℕ). Few n (f .fields)) (eqb-true (f .kind) k q) (is-few (f .kind) (f .fields) (and-left (few (f .kind) (f .fields)) (all-few l) t))))
+    (subst (λ (n : ℕ). Few n (f .fields)) (eqb-true (f .kind) k q)
+    (is-few (f .kind) (f .fields) (and-left (few (f .kind) (f .fields)) (all-few l) t))))
     (λ _. few-in k l (and-right (few (f .kind) (f .fields)) (all-few l) t))
 
 each-few : (p : Protocol) → T (all-few (forms p))

@@ -137,7 +137,8 @@ module _ (i kind : ℕ) (ns : List ℕ) (runs : ℕ) (first second buf : List �
   -- no bytes are a message that says these parts
   abbrev Nothing : Type 0
   Nothing =
-      (bs : List ℕ) (xs : List Value) → Bytes bs → Matches (speaks i) bs kind xs → numbersOf xs ≡ ns → given runs first second ≡ some (runsOf bs xs) → ⊥
+      (bs : List ℕ) (xs : List Value) → Bytes bs → Matches (speaks i) bs kind xs → numbersOf xs ≡ ns
+      → given runs first second ≡ some (runsOf bs xs) → ⊥
 
   none-made : message ≡ none → Nothing
   unfolding bytesOf
@@ -203,7 +204,8 @@ module _ (i kind : ℕ) (ns : List ℕ) (runs : ℕ) (first second buf : List �
         let n : b .len ≡ length cs = ap (λ (x : Told). x .built .len) q in (
           ap (λ (x : Told). x .built .number) q,
           n,
-          ap (take (b .len)) (ap (λ (x : Told). x .buffer) q ∙ sets-eq cs buf 0 (omega arith)) ∙ take-at cs (drop (0 + length cs) buf) (b .len) (sym n),
+          ap (take (b .len)) (ap (λ (x : Told). x .buffer) q ∙ sets-eq cs buf 0 (omega arith))
+              ∙ take-at cs (drop (0 + length cs) buf) (b .len) (sym n),
         )
 
 pub exactly : Exactly

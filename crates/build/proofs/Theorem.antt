@@ -91,7 +91,8 @@ of-numbers : (f : Field) (fs : List Field) (ns : List ℕ) (rs : List (List ℕ)
 of-numbers f fs [] rs rest = tt
 of-numbers f fs (v ∷ ns) rs rest = number-step f fs v ns rs (rest ns)
 
-of-runs : (f : Field) (fs : List Field) (ns : List ℕ) (rs : List (List ℕ)) → Slices rs → ((rs : List (List ℕ)) → Slices rs → Found (Say fs ns rs) (made fs ns rs))
+of-runs : (f : Field) (fs : List Field) (ns : List ℕ) (rs : List (List ℕ)) → Slices rs
+    → ((rs : List (List ℕ)) → Slices rs → Found (Say fs ns rs) (made fs ns rs))
     → Found (Say (f ∷ fs) ns rs) (firstOf rs (λ r rs. onSome (ofRun f r) (λ xs. onSome (made fs ns rs) (λ ys. some (xs ++ ys)))))
 of-runs f fs ns [] fit rest = tt
 of-runs f fs ns (r ∷ rs) (small, fit) rest = run-step f fs r ns rs small (rest rs fit)

@@ -87,7 +87,8 @@ Holds f r cs =
 
 item-holds : (r : List ℕ) → Found (Holds field.Item r) (oneItem r)
 item-holds r =
-    end-cases (Found (Holds field.Item r)) (λ q. cond (eqb q (length r)) (some r) none) (itemEnd r inMessage 0) (item-sound r inMessage 0 (omega arith)) tt
+    end-cases (Found (Holds field.Item r)) (λ q. cond (eqb q (length r)) (some r) none) (itemEnd r inMessage 0)
+    (item-sound r inMessage 0 (omega arith)) tt
     (λ q i.
     cond-cases (Found (Holds field.Item r)) (eqb q (length r))
     (λ t xs ys.
@@ -111,7 +112,8 @@ headed-holds f major r k low small here xs ys =
     let front : length (xs ++ h) ≡ length xs + length h = length-append xs h in
     let both : length (h ++ r) ≡ length h + length r = length-append h r in
     let opens : Opens bs major (length xs) k (length (xs ++ h)) =
-    ap (λ (l : List ℕ). headAt l (length xs)) (append-assoc xs h (r ++ ys)) ∙ reads-back major k xs (r ++ ys) low small ∙ ap (Definite major k) (sym front) in
+    ap (λ (l : List ℕ). headAt l (length xs)) (append-assoc xs h (r ++ ys)) ∙ reads-back major k xs (r ++ ys) low small
+    ∙ ap (Definite major k) (sym front) in
     let a : ℕ = length (xs ++ h) in
     let l : ℕ = a + length r - a in
     let least : Least bs major k (length xs) a =
@@ -129,7 +131,8 @@ found-both R S none r s = tt
 found-both R S (some a) r s = (r, s)
 
 -- a list or map whose elements stand in the run: R says so, and then the field stands behind its head
-list-holds : (f : Field) (major : ℕ) (r : List ℕ) (R : ℕ → Type 0) (o : Option ℕ) → major < 7 → length r < 2 ^ 64 → Found R o → Found (λ k. k ≤ length r) o
+list-holds : (f : Field) (major : ℕ) (r : List ℕ) (R : ℕ → Type 0) (o : Option ℕ) → major < 7 → length r < 2 ^ 64
+    → Found R o → Found (λ k. k ≤ length r) o
     → ((k : ℕ) (xs ys : List ℕ) (p : ℕ) → R k → Opens (xs ++ (r ++ ys)) major p k (length xs) → Least (xs ++ (r ++ ys)) major k p (length xs)
     → LeastAt (xs ++ (r ++ ys)) f p (place (length xs) (length xs + length r - length xs)) (length xs + length r))
     → Found (Holds f r) (headed major r o)
