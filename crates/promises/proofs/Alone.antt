@@ -34,7 +34,6 @@ use Rattle.connection.specs.declared.Connection.{Connection}
 use Rattle.connection.specs.declared.Gate.{Gate}
 use Rattle.connection.specs.declared.Gate.the-variants.{Open, Closed}
 use Rattle.connection.specs.Closings.{isOpen, closingOf}
-use Rattle.connection.specs.Ranges.{receives}
 use Rattle.connection.specs.Parts.{firstHeld, heldOf}
 use Rattle.judging.specs.declared.Judged.{Judged}
 use Rattle.judging.specs.Judging.{stateOf, ours, unjudged, byRow, byReading, judgedOf}

@@ -15,8 +15,6 @@ use Rattle.ring.specs.Ring.{together}
 use Rattle.wire.specs.Instances.{instances}
 use Rattle.rows.specs.Spoken.{speaks}
 use Rattle.messages.specs.Reading.{flagOf}
-use Rattle.ready.specs.Ready.{chosen}
-use Rattle.ready.specs.declared.Choice.the-variants.{Instance}
 use Rattle.connection.specs.declared.Settings.{Settings}
 use Rattle.connection.specs.declared.Connection.{Connection}
 use Rattle.connection.specs.declared.opening as opening
