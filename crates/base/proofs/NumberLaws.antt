@@ -39,6 +39,17 @@ unfolding octets
 length-octets zero n = refl
 length-octets (suc k) n = rw (length-append, length-octets k (n / 256)) (add-one k)
 
+-- bytes joined are bytes, and those of a number are
+pub bytes-append : (xs ys : List ℕ) → Bytes xs → Bytes ys → Bytes (xs ++ ys)
+unfolding Bytes
+bytes-append [] ys b c = c
+bytes-append (x ∷ xs) ys (h, b) c = (h, bytes-append xs ys b c)
+
+pub octets-bytes : (k n : ℕ) → Bytes (octets k n)
+unfolding octets Bytes
+octets-bytes zero n = tt
+octets-bytes (suc k) n = bytes-append (octets k (n / 256)) (n % 256 ∷ []) (octets-bytes k (n / 256)) (mod-lt n {m = 256} (omega arith), tt)
+
 -- storing the bytes of a number, the last first
 pub store-last : (s : List ℕ) (at j rest : ℕ) → 0 < j
     → sets (set s (at + (j - 1)) (rest % 256)) at (octets (j - 1) (rest / 256)) ≡ sets s at (octets j rest)

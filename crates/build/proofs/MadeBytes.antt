@@ -1,18 +1,16 @@
 -- What is made of runs of bytes is bytes: heads are, and all else is the runs.
 -- Assumes nothing.
-use Prim.Native.Nat.{ℕ, zero, suc, _+_, _/_, _%_, _^_, _<_}
+use Prim.Native.Nat.{ℕ, _+_, _<_}
 use mathlib.Core.Bool.{cond}
 use mathlib.Core.List.{List, [], _∷_, _++_}
 use mathlib.Core.Option.{Option, none, some}
 use native.Mathlib.Omega.{arith}
-use native.Mathlib.Nat.{mod-lt}
 use lib.Dec.{eqb, ltb}
 use lib.ListN.{length}
-use borrow.Author.Tests.{ltb-true}
-use Rattle.base.specs.Numbers.{Bytes, octets}
+use Rattle.base.specs.Numbers.{Bytes}
 use Rattle.base.proofs.Conds.{cond-cases}
-use Rattle.head.specs.declared.write.Width.{Width}
-use Rattle.head.specs.Write.{width, widthOf, shortest}
+use Rattle.base.proofs.NumberLaws.{bytes-append}
+use Rattle.head.proofs.WriteLaws.{shortest-bytes}
 use Rattle.rows.specs.declared.Protocol.{Protocol}
 use Rattle.messages.specs.declared.forms.Field.{Field}
 use Rattle.messages.specs.declared.forms.Field.the-variants as field
@@ -23,30 +21,6 @@ use Rattle.messages.specs.Matching.{array, map, words, versions, inMessage}
 use Rattle.messages.specs.Reading.{onEnd, itemEnd}
 use Rattle.build.specs.Made.{onSome, elementsOf, nextItem, nextPair, nextVersion, headed, limited, truth, oneItem, ofNumber, ofRun, numeric, firstOf, allUsed, made, encoded}
 use Rattle.build.proofs.Counting.{Found, some-cases}
-
--- ---- heads
-
-bytes-append : (xs ys : List ℕ) → Bytes xs → Bytes ys → Bytes (xs ++ ys)
-unfolding Bytes
-bytes-append [] ys b c = c
-bytes-append (x ∷ xs) ys (h, b) c = (h, bytes-append xs ys b c)
-
-octets-bytes : (k n : ℕ) → Bytes (octets k n)
-unfolding octets Bytes
-octets-bytes zero n = tt
-octets-bytes (suc k) n = bytes-append (octets k (n / 256)) (n % 256 ∷ []) (octets-bytes k (n / 256)) (mod-lt n {m = 256} (omega arith), tt)
-
-info-low : (v : ℕ) → widthOf v .info < 32
-info-low v =
-    let Low : Width → Type 0 = λ w. w .info < 32 in
-    cond-cases Low (ltb v 24) (λ t. omega (arith, ltb-true v 24 t))
-    (λ _.
-    cond-cases Low (ltb v (2 ^ 8)) (λ _. omega arith)
-    (λ _. cond-cases Low (ltb v (2 ^ 16)) (λ _. omega arith) (λ _. cond-cases Low (ltb v (2 ^ 32)) (λ _. omega arith) (λ _. omega arith))))
-
-shortest-bytes : (m v : ℕ) → m < 8 → Bytes (shortest m v)
-unfolding shortest Bytes
-shortest-bytes m v h = (omega (arith, info-low v), octets-bytes (widthOf v .bytes) v)
 
 -- ---- fields
 

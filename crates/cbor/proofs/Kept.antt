@@ -5,6 +5,7 @@ use mathlib.Core.List.{List, [], _++_, append-nil, append-assoc}
 use mathlib.Core.Path.{_≡_, refl, sym, ap, ap₂, subst, subst⁻¹, _∙_}
 use lib.ListN.{drop, getD, replicate}
 use native.Mathlib.Omega.{arith}
+use Rattle.base.proofs.ListLaws.{zeros}
 use Rattle.item.specs.declared.Verdict.{Verdict}
 use Rattle.item.specs.Grammar.{One, Items, no-more, nesting}
 use Rattle.item.specs.Verdict.{Stack, nil, push, judge, start, verdict, headsOf}
@@ -14,18 +15,13 @@ use Rattle.cbor.specs.declared.Walk.{Walk}
 use Rattle.cbor.specs.Walk.{frameOf, levels, stackOf, tell, comes, Sound, Resumed, firstAt}
 use Rattle.cbor.proofs.Tell.{pair, tell-one, tell-empty}
 
-noughts : (n i : ℕ) → _≡_ {A = ℕ} (getD (replicate n 0) i 0) 0
-noughts zero i = refl
-noughts (suc n) zero = refl
-noughts (suc n) (suc i) = noughts n i
-
 pub first-sound : (at d : ℕ) → Sound (firstAt at d)
 unfolding firstAt
 first-sound at d =
     record {
       few = omega arith;
       good = record { tall = omega arith; low = λ a b. omega arith; none = λ a. absurd (omega arith) };
-      outer = record { kinds-size = refl; counts-size = refl; each = λ i h. rw (noughts (nesting + 1) i) (omega arith) };
+      outer = record { kinds-size = refl; counts-size = refl; each = λ i h. rw (zeros (nesting + 1) i) (omega arith) };
     }
 
 -- the levels around a walk that begins want nothing
@@ -34,7 +30,7 @@ empty n = levels (replicate (nesting + 1) 0) (replicate (nesting + 1) 0) n
 
 empty-top : (n : ℕ) → empty (suc n) ≡ push (nesting - n) (Items zero) (empty n)
 unfolding levels
-empty-top n = ap₂ (λ (i j : ℕ). push (nesting - n) (frameOf i j) (empty n)) (noughts (nesting + 1) n) (noughts (nesting + 1) n)
+empty-top n = ap₂ (λ (i j : ℕ). push (nesting - n) (frameOf i j) (empty n)) (zeros (nesting + 1) n) (zeros (nesting + 1) n)
 
 spent-rest : {d : ℕ} {fs : Stack} {bs : List ℕ} → Rest (push d (Items zero) fs) bs → Rest fs bs
 spent-rest (then no-more q) = q

@@ -36,7 +36,7 @@ use Rattle.promises.specs.Calls.{Call, feed, take, put, next, status, An
 use Rattle.promises.specs.Reached.{Reached}
 use Rattle.promises.specs.History.{Past, Act, gave, got, messageIn, actsBy, acts, theirs, Moves, Walks, rests, moves, endsInAccept, Talks}
 use Rattle.promises.proofs.Ways.{Takes, refuses, faults, hands, Puts, queues, Nexts, serves}
-use Rattle.promises.proofs.Streams.{at-set}
+use Rattle.base.proofs.ListLaws.{at-set}
 use Rattle.promises.proofs.ReachedFeed.{Feeds, shut, bytes}
 use Rattle.promises.proofs.Reached.{opens-fresh}
 use Rattle.promises.proofs.HistoryCalls.{good, feeds, takes, puts, makes, afterFeed, afterTake, afterPut, afterNext}

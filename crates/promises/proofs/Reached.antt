@@ -43,7 +43,7 @@ use Rattle.promises.proofs.ReachedHandshake.{shakes, spare, spare-put, 
 use Rattle.promises.proofs.Ways.{Row, Takes, Puts, Nexts, refuses, faults, hands, queues, serves, take-way, put-way, next-way}
 use Rattle.promises.proofs.ReachedFeed as tidy
 use Rattle.promises.proofs.ReachedFeed.{Blank, Tidy, tidy-fed, ends, Feeds, shut, bytes, feed-way}
-use Rattle.promises.proofs.Streams.{at-set}
+use Rattle.base.proofs.ListLaws.{at-set}
 
 -- ---- what every call keeps
 

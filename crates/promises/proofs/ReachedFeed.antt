@@ -3,13 +3,14 @@
 use mathlib.Core.Path.{_≡_, refl, _∙_}
 use mathlib.Core.Bool.{true, false, cond}
 use mathlib.Core.List.{List, [], _∷_}
-use Prim.Native.Nat.{ℕ, zero, suc, _+_, _-_, _≤_}
+use Prim.Native.Nat.{ℕ, _+_, _-_, _≤_}
 use native.Mathlib.Omega.{arith}
 use lib.Dec.{eqb, leb, ltb}
-use lib.ListN.{length, getD, replicate, length-set}
+use lib.ListN.{length, getD, length-set}
 use lib.Seq.{getD-set-other}
 use borrow.Author.Tests.{eq-eqb}
 use Rattle.base.proofs.Conds.{cond-cases}
+use Rattle.base.proofs.ListLaws.{zeros}
 use Rattle.wire.specs.declared.segment.Header.{Header}
 use Rattle.wire.specs.declared.instances.Side.{Side}
 use Rattle.wire.specs.Segments.{headerLength, empty, added}
@@ -30,12 +31,6 @@ pub record Tidy (starts : List ℕ) (s : State) : Type 0 where
   pub many : length (s .receiving .held) ≡ instances
   pub blank : Blank (s .receiving .header)
   pub idle : s .receiving .rest ≡ 0 → s .receiving .instance ≡ 0
-
--- an array of zeros has zeros
-pub zeros : (n k : ℕ) → _≡_ {A = ℕ} (getD (replicate n 0) k 0) 0
-zeros zero k = refl
-zeros (suc n) zero = refl
-zeros (suc n) (suc k) = zeros n k
 
 pub blank-empty : Blank empty
 blank-empty k h = zeros headerLength k

@@ -12,7 +12,7 @@ use borrow.Author.Tests.{eq-eqb, ne-eqb, eqb-true, eqb-false}
 use lib.Dec.{eqb}
 use lib.ListN.{length, getD, set, length-append}
 use lib.Seq.{getD-append-add, getD-set-same, getD-set-other}
-use Rattle.base.proofs.Conds.{by-test}
+use Rattle.base.proofs.ListLaws.{at-set}
 use Rattle.ring.specs.Ring.{baseOf, together, place, laid, stream}
 use Rattle.ring.proofs.Stores.{stream-length, stream-append, stream-same, stream-at, stream-behind}
 use Rattle.ring.proofs.Areas.{area-in-store, stream-stays}
@@ -50,13 +50,6 @@ module _ (store : List ℕ) (base cap start count : ℕ) where
         ∙ ap (λ (m : ℕ). getD store (base + m) 0) here)
 
 -- ---- of every instance
-
--- what holds of the value that is set, and of the others, holds at each place
-pub at-set : (P : ℕ → ℕ → Type 0) (l : List ℕ) (i v : ℕ) → i < length l → P i v → ((j : ℕ) → j ≢ i → P j (getD l j 0)) → (j : ℕ)
-    → P j (getD (set l i v) j 0)
-at-set P l i v h here there j =
-    by-test (eqb j i) (λ q. rw (eqb-true j i q, getD-set-same l i v 0 h) here)
-    (λ q. rw (getD-set-other l i j v 0 (eqb-false j i q)) (there j (eqb-false j i q)))
 
 -- the bytes of instance i in a store, by capacities, start places and counts
 abbrev pub queueAt : List ℕ → List ℕ → List ℕ → List ℕ → ℕ → List ℕ

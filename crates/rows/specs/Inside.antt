@@ -1,4 +1,4 @@
--- What only this crate's own functions cite: how the table is laid out.
+-- What only functions below the operations cite: how the table is laid out.
 use Prim.Native.Nat.{ℕ, zero, suc, _+_}
 use mathlib.Core.Bool.{Bool, cond, _&&_}
 use mathlib.Core.List.{List, [], _∷_, _++_, map}
