@@ -22,7 +22,7 @@ use Rattle.connection.specs.declared.Gate.the-variants.{Closed}
 use Rattle.connection.specs.Closings.{numberOf, isOpen}
 use Rattle.feeding.specs.declared.Admission.{Admission}
 use Rattle.feeding.specs.declared.Admission.the-variants.{Fault, Payload}
-use Rattle.feeding.specs.Feeding.{State, admitted, admission, settled, headed, kept, step, fed, used}
+use Rattle.feeding.specs.Feeding.{Reception, admitted, admission, settled, headed, kept, step, fed, used}
 use Rattle.feeding.specs.Feeds.{Eighth}
 use Rattle.feeding.proofs.Bytes.{step-headed, fed-closed, used-closed, fed-append, used-append}
 
@@ -62,7 +62,7 @@ cause-number (overflow i h) = (omega arith, omega arith)
 
 -- ---- which byte
 
-module _ {side : Side} {caps : List ℕ} {s : State} {xs : List ℕ} {P : List ℕ → ℕ → Route → Type 0} where
+module _ {side : Side} {caps : List ℕ} {s : Reception} {xs : List ℕ} {P : List ℕ → ℕ → Route → Type 0} where
   -- Q holds of the counts, the length and the route of an eighth byte
   abbrev pub Holds : Eighth side caps s xs P → (List ℕ → ℕ → Route → Type 0) → Type 0
   Holds k Q =
@@ -94,12 +94,12 @@ module _ (side : Side) (caps : List ℕ) where
   abbrev pub Refuses : Closing → List ℕ → ℕ → Route → Type 0
   Refuses x held n to = admitted caps held n to ≡ Fault x
 
-  settled-closes : (s : State) (a : Admission) (x : Closing) → isOpen (s .gate) ≡ true → settled s a .gate ≡ Closed x → a ≡ Fault x
+  settled-closes : (s : Reception) (a : Admission) (x : Closing) → isOpen (s .gate) ≡ true → settled s a .gate ≡ Closed x → a ≡ Fault x
   settled-closes s (Fault y) x o e = let q : y ≡ x = cc in ap Fault q
   settled-closes s (Payload i n) x o e = never (s .gate) x o e
 
   -- a byte that closes is the eighth of a header that is a fault
-  step-closes : (s : State) (b : ℕ) (x : Closing) → isOpen (s .gate) ≡ true → step side caps s b .gate ≡ Closed x
+  step-closes : (s : Reception) (b : ℕ) (x : Closing) → isOpen (s .gate) ≡ true → step side caps s b .gate ≡ Closed x
       → (s .receiving .rest ≡ 0) × (headerLength ≤ added (s .receiving .header) b .count)
       × (admission side caps (s .receiving .held) (added (s .receiving .header) b) ≡ Fault x)
   unfolding step headed kept
@@ -116,7 +116,7 @@ module _ (side : Side) (caps : List ℕ) where
       (λ q. never (s .gate) x o (rw (o, t, q) at e)))
       (λ t. never (s .gate) x o (rw (o, t) at e))
 
-  pub fault-found : (s : State) (xs : List ℕ) (x : Closing) → isOpen (s .gate) ≡ true → fed side caps s xs .gate ≡ Closed x
+  pub fault-found : (s : Reception) (xs : List ℕ) (x : Closing) → isOpen (s .gate) ≡ true → fed side caps s xs .gate ≡ Closed x
       → Eighth side caps s xs (Refuses x)
   unfolding fed admission
   fault-found s [] x o e = never (s .gate) x o e
@@ -135,35 +135,35 @@ module _ (side : Side) (caps : List ℕ) where
         says = k .says;
       })
       (λ t.
-      let k = step-closes s b x o (ap (λ (q : State). q .gate) (sym (fed-closed side caps (step side caps s b) bs t)) ∙ e) in
+      let k = step-closes s b x o (ap (λ (q : Reception). q .gate) (sym (fed-closed side caps (step side caps s b) bs t)) ∙ e) in
       record { front = []; byte = b; back = bs; run = refl; reached = o; idle = k .0; whole = k .1; says = k .2 })
 
   -- ---- what it leaves
 
   -- while the connection stays open, all bytes are used
-  pub used-all : (s : State) (xs : List ℕ) → isOpen (fed side caps s xs .gate) ≡ true → used side caps s xs ≡ length xs
+  pub used-all : (s : Reception) (xs : List ℕ) → isOpen (fed side caps s xs .gate) ≡ true → used side caps s xs ≡ length xs
   unfolding fed used
   used-all s [] o = refl
   used-all s (x ∷ xs) o =
       by-test (isOpen (s .gate)) (λ t. rw t (ap suc (used-all (step side caps s x) xs o)))
       (λ t.
       let stays : fed side caps s (x ∷ xs) ≡ s = fed-closed side caps s (x ∷ xs) t in
-      absurd (true≢false (sym o ∙ ap (λ (q : State). isOpen (q .gate)) stays ∙ t)))
+      absurd (true≢false (sym o ∙ ap (λ (q : Reception). isOpen (q .gate)) stays ∙ t)))
 
-  pub fault-leaves : (s : State) (xs : List ℕ) (x : Closing) (e : Eighth side caps s xs (Refuses x))
+  pub fault-leaves : (s : Reception) (xs : List ℕ) (x : Closing) (e : Eighth side caps s xs (Refuses x))
       → (fed side caps s xs ≡ settled (fed side caps s (e .front)) (Fault x)) × (used side caps s xs ≡ suc (length (e .front)))
   unfolding fed used headed admission
   fault-leaves s xs x e =
-      let m : State = fed side caps s (e .front) in
-      let n : State = settled m (Fault x) in
+      let m : Reception = fed side caps s (e .front) in
+      let n : Reception = settled m (Fault x) in
       let h : Header = added (m .receiving .header) (e .byte) in
       let leads : step side caps m (e .byte) ≡ n =
       step-headed side caps m (e .byte) (e .reached) (e .idle)
       ∙ rw (le-leb headerLength (h .count) (e .whole), e .says) in
       let on : fed side caps m (e .byte ∷ e .back) ≡ n =
-      ap (λ (q : State). fed side caps q (e .back)) leads ∙ fed-closed side caps n (e .back) refl in
+      ap (λ (q : Reception). fed side caps q (e .back)) leads ∙ fed-closed side caps n (e .back) refl in
       let last : used side caps (step side caps m (e .byte)) (e .back) ≡ 0 =
-      ap (λ (q : State). used side caps q (e .back)) leads ∙ used-closed side caps n (e .back) refl in
+      ap (λ (q : Reception). used side caps q (e .back)) leads ∙ used-closed side caps n (e .back) refl in
       let some : used side caps m (e .byte ∷ e .back) ≡ 1 = rw (e .reached) (ap suc last) in (
         ap (λ (l : List ℕ). fed side caps s l) (e .run) ∙ fed-append side caps s (e .front) (e .byte ∷ e .back) ∙ on,
         ap (λ (l : List ℕ). used side caps s l) (e .run) ∙ used-append side caps s (e .front) (e .byte ∷ e .back)
@@ -171,12 +171,12 @@ module _ (side : Side) (caps : List ℕ) where
       )
 
   -- what was open at a byte was open before
-  pub open-before : (s : State) (xs : List ℕ) → isOpen (fed side caps s xs .gate) ≡ true → isOpen (s .gate) ≡ true
+  pub open-before : (s : Reception) (xs : List ℕ) → isOpen (fed side caps s xs .gate) ≡ true → isOpen (s .gate) ≡ true
   open-before s xs o =
       by-test (isOpen (s .gate)) (λ t. t)
-      (λ t. absurd (true≢false (sym o ∙ ap (λ (q : State). isOpen (q .gate)) (fed-closed side caps s xs t) ∙ t)))
+      (λ t. absurd (true≢false (sym o ∙ ap (λ (q : Reception). isOpen (q .gate)) (fed-closed side caps s xs t) ∙ t)))
 
-  pub fault-why : (s : State) (xs : List ℕ) (x : Closing) → isOpen (s .gate) ≡ true → fed side caps s xs .gate ≡ Closed x
+  pub fault-why : (s : Reception) (xs : List ℕ) (x : Closing) → isOpen (s .gate) ≡ true → fed side caps s xs .gate ≡ Closed x
       → Eighth side caps s xs (λ held n to. Cause caps held n to x)
   fault-why s xs x o e =
       eighth-so {P = Refuses x} {Q = λ held n to. Cause caps held n to x} (λ held n to f. cause caps held n to x f) (fault-found s xs x o e)

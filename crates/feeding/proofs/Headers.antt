@@ -1,5 +1,5 @@
--- Whole headers: what a run means goes byte by byte, and feed settles a header whose eight bytes are there in one turn.
--- So bytes that make the header record whole lead, one after the other, to the state that the whole record leads to.
+-- Whole headers: what a run means goes byte by byte, and feed settles a header whose eight bytes are there in one step.
+-- So bytes that make the header record whole lead, one after the other, to the reception that the whole record leads to.
 -- Assumes nothing.
 use mathlib.Core.Path.{_≡_, refl, sym, ap, _∙_}
 use mathlib.Core.Bool.{true}
@@ -20,10 +20,10 @@ use Rattle.connection.specs.Closings.{isOpen}
 use Rattle.feeding.specs.declared.Admission.{Admission}
 use Rattle.feeding.specs.declared.Admission.the-variants.{Fault, Payload}
 use Rattle.feeding.specs.declared.Way.{Way}
-use Rattle.feeding.specs.declared.Turn.{Turn}
-use Rattle.feeding.specs.Feeding.{State, admission, withHeader, settled, headed, step, fed, used}
-use Rattle.feeding.specs.Inside.{state, Ready, filled, headerAt, Settles, Turns}
-use Rattle.feeding.proofs.Bytes.{step-headed, ready-admission, turn-run}
+use Rattle.feeding.specs.declared.Step.{Step}
+use Rattle.feeding.specs.Feeding.{Reception, admission, withHeader, settled, headed, step, fed, used}
+use Rattle.feeding.specs.Inside.{reception, Sound, filled, headerAt, Settles, Steps}
+use Rattle.feeding.proofs.Bytes.{step-headed, sound-admission, steps-run}
 
 -- ---- the record
 
@@ -64,7 +64,7 @@ filled-whole h xs none wide long = alone h none wide ∙ sym (alone empty refl r
 -- ---- the bytes of a header
 
 -- a whole header leads on whatever was in the record before
-settled-anew : (s : State) (h : Header) (a : Admission)
+settled-anew : (s : Reception) (h : Header) (a : Admission)
     → settled (record { receiving = withHeader (s .receiving) h; gate = s .gate; store = s .store }) a ≡ settled s a
 settled-anew s h (Fault x) = refl
 settled-anew s h (Payload i n) = refl
@@ -75,7 +75,7 @@ added-count h b l = rw (lt-ltb (h .count) headerLength l) (omega arith)
 
 module _ (side : Side) (caps : List ℕ) where
   -- bytes that make the record whole, fed one after the other
-  fed-filled : (s : State) (xs ys : List ℕ) → isOpen (s .gate) ≡ true → s .receiving .rest ≡ 0 → 0 < length xs
+  fed-filled : (s : Reception) (xs ys : List ℕ) → isOpen (s .gate) ≡ true → s .receiving .rest ≡ 0 → 0 < length xs
       → s .receiving .header .count + length xs ≡ headerLength
       → let n = settled s (admission side caps (s .receiving .held) (filled (s .receiving .header) xs)) in
       (fed side caps s (xs ++ ys) ≡ fed side caps n ys) × (used side caps s (xs ++ ys) ≡ length xs + used side caps n ys)
@@ -83,38 +83,38 @@ module _ (side : Side) (caps : List ℕ) where
   fed-filled s [] ys g z more l = absurd (omega arith)
   fed-filled s (x ∷ []) ys g z more l =
       let h : Header = added (s .receiving .header) x in
-      let n : State = settled s (admission side caps (s .receiving .held) h) in
+      let n : Reception = settled s (admission side caps (s .receiving .held) h) in
       let c : h .count ≡ suc (s .receiving .header .count) = added-count (s .receiving .header) x (omega arith) in
       let one : step side caps s x ≡ n = step-headed side caps s x g z ∙ rw (le-leb headerLength (h .count) (omega arith)) in
-      (ap (λ (t : State). fed side caps t ys) one, rw (g, one) (omega arith))
+      (ap (λ (t : Reception). fed side caps t ys) one, rw (g, one) (omega arith))
   fed-filled s (x ∷ y ∷ xs) ys g z more l =
       let h : Header = added (s .receiving .header) x in
-      let m : State = record { receiving = withHeader (s .receiving) h; gate = s .gate; store = s .store } in
+      let m : Reception = record { receiving = withHeader (s .receiving) h; gate = s .gate; store = s .store } in
       let a : Admission = admission side caps (s .receiving .held) (filled h (y ∷ xs)) in
       let c : h .count ≡ suc (s .receiving .header .count) = added-count (s .receiving .header) x (omega arith) in
       let one : step side caps s x ≡ m = step-headed side caps s x g z ∙ rw (lt-leb headerLength (h .count) (omega arith)) in
       let rest = fed-filled m (y ∷ xs) ys g z (omega arith) (omega arith) in
       let same : settled m a ≡ settled s a = settled-anew s h a in
-      let after : used side caps (settled m a) ys ≡ used side caps (settled s a) ys = ap (λ (t : State). used side caps t ys) same in (
-        ap (λ (t : State). fed side caps t (y ∷ xs ++ ys)) one ∙ rest .0 ∙ ap (λ (t : State). fed side caps t ys) same,
+      let after : used side caps (settled m a) ys ≡ used side caps (settled s a) ys = ap (λ (t : Reception). used side caps t ys) same in (
+        ap (λ (t : Reception). fed side caps t (y ∷ xs ++ ys)) one ∙ rest .0 ∙ ap (λ (t : Reception). fed side caps t ys) same,
         rw (g, one) (omega (arith, rest .1, after)),
       )
 
--- ---- a turn of feed's loop
+-- ---- a step of feed's loop
 
-pub turn-whole : (side : Side) (caps starts held : List ℕ) (w : Way) (store xs : List ℕ) (at : ℕ) (t : Turn)
-    → Ready caps (state starts held w Open store)
+pub steps-whole : {side : Side} {caps starts held : List ℕ} {w : Way} {store xs : List ℕ} {at : ℕ} {t : Step}
+    → Sound caps (reception starts held w Open store)
     → at + headerLength ≤ length xs → w .rest ≡ 0 → w .header .count ≡ 0 → length (w .header .bytes) ≡ headerLength
     → Settles w (admission side caps held (headerAt xs at)) headerLength t
-    → Turns side caps starts held held w store store xs at t
-turn-whole side caps starts held w store xs at t r h z none wide k =
-    let s : State = state starts held w Open store in
+    → Steps side caps starts held held w store store xs at t
+steps-whole {side} {caps} {starts} {held} {w} {store} {xs} {at} r h z none wide k =
+    let s : Reception = reception starts held w Open store in
     let p : List ℕ = run xs at headerLength in
     let long : length p ≡ headerLength = run-length xs at headerLength h in
     let all : filled (w .header) p ≡ filled empty p = filled-whole (w .header) p none wide long in
-    turn-run side caps starts held w store xs at t r held store (settled s (admission side caps held (headerAt xs at)))
+    steps-run {w = w} r (settled s (admission side caps held (headerAt xs at)))
     (omega (arith, k .uses))
     (omega (arith, k .uses))
     (k .leaves starts held store)
-    (ready-admission side caps s (headerAt xs at) r)
+    (sound-admission side caps s (headerAt xs at) r)
     (λ ys. rw (k .uses, ← all) (fed-filled side caps s p ys refl z (omega arith) (omega arith)))

@@ -10,7 +10,7 @@ use native.Mathlib.Nat.{add-zero}
 use borrow.Author.Tests.{ne-eqb, lt-leb}
 use lib.Dec.{eqb}
 use lib.ListN.{length, getD}
-use Rattle.base.proofs.Conds.{by-test}
+use Rattle.base.proofs.Conds.{by-test, both-true}
 use Rattle.wire.specs.declared.instances.Side.{Side}
 use Rattle.wire.specs.declared.instances.Route.{Route}
 use Rattle.wire.specs.declared.instances.Route.the-variants.{Unknown, Wrong, To}
@@ -24,19 +24,20 @@ use Rattle.connection.specs.Parts.{withReceiving}
 use Rattle.connection.specs.Ranges.{inRange, receiveStoreOk, receives}
 use Rattle.connection.proofs.RangeLaws.{ranged}
 use Rattle.feeding.specs.declared.Admission.the-variants.{Fault}
-use Rattle.feeding.specs.Feeding.{State, admitted, fed, used, left, Told, refused, given, accepted, taken, feedOf}
-use Rattle.feeding.specs.Feeds.{Once, Taking, Comes, When, Leaves, Answers, Keeps, Joins, WholeOrCut}
-use Rattle.feeding.proofs.Bytes.{open-is, both-true, fed-closed, used-closed, fed-append, used-append, feed-range, feed-closed, feed-taken}
-use Rattle.feeding.proofs.Keeping.{kept-given, kept-fed, range-with, sound-fed}
-use Rattle.feeding.proofs.Faults.{Cause, unknown, wrong, overflow, cause, cause-number, eighth-with, eighth-so, Refuses, fault-found, fault-why, fault-leaves, used-all, open-before}
+use Rattle.feeding.specs.Feeding.{Reception, admitted, fed, used, left, Told, told, refused, given, answered, feedOpen, feedOf}
+use Rattle.feeding.specs.Feeds.{Once, Listens, Comes, When, Leaves, Answers, Keeps, Joins, WholeOrCut}
+use Rattle.feeding.proofs.Bytes.{fed-closed, used-closed, fed-append, used-append, feed-range, feed-closed, feed-open}
+use Rattle.feeding.proofs.Keeping.{kept-given, kept-fed, range-with, proper-fed}
+use Rattle.feeding.proofs.Faults.{Cause, unknown, wrong, overflow, cause, cause-number, eighth-with, eighth-so, Refuses}
+use Rattle.feeding.proofs.Faults.{fault-found, fault-why, fault-leaves, used-all, open-before}
 
 -- T1
 pub once : Once
 once c st xs r q e f = e ∙ sym f
 
--- ---- the state that a call leaves
+-- ---- what a call leaves
 
-abbrev ends : Connection → List ℕ → List ℕ → State
+abbrev ends : Connection → List ℕ → List ℕ → Reception
 ends c st xs = fed (c .settings .side) (c .settings .receive) (given c st) xs
 
 abbrev uses : Connection → List ℕ → List ℕ → ℕ
@@ -48,9 +49,9 @@ gate-is Open p q = p refl refl
 gate-is (Closed x) p q = q x refl refl
 
 module _ (c : Connection) (st xs : List ℕ) (ok : receives c (length st) ≡ true) (o : isOpen (c .gate) ≡ true) where
-  answer : feedOf c st xs ≡ accepted c (uses c st xs) (ends c st xs)
-  unfolding taken
-  answer = feed-taken c st xs ok o
+  answer : feedOf c st xs ≡ answered c (uses c st xs) (ends c st xs)
+  unfolding feedOpen
+  answer = feed-open c st xs ok o
 
   answer-number : feedOf c st xs .answer .number ≡ left (ends c st xs .gate)
   answer-number = ap (λ (t : Told). t .answer .number) answer
@@ -67,8 +68,8 @@ module _ (c : Connection) (st xs : List ℕ) (ok : receives c (length st) ≡ tr
 
 -- the three ways of a call, by its number
 module _ (c : Connection) (st xs : List ℕ) {P : Type 0} where
-  ways : (receives c (length st) ≡ false → feedOf c st xs ≡ refused 23 c st → P)
-      → (receives c (length st) ≡ true → isOpen (c .gate) ≡ false → feedOf c st xs ≡ refused 20 c st → P)
+  ways : (receives c (length st) ≡ false → feedOf c st xs ≡ told (refused c 23) st → P)
+      → (receives c (length st) ≡ true → isOpen (c .gate) ≡ false → feedOf c st xs ≡ told (refused c 20) st → P)
       → (receives c (length st) ≡ true → isOpen (c .gate) ≡ true → P) → P
   ways p q r =
       by-test (receives c (length st))
@@ -81,10 +82,10 @@ module _ (c : Connection) (st xs : List ℕ) where
   abbrev number : ℕ
   number = feedOf c st xs .answer .number
 
-  at-23 : feedOf c st xs ≡ refused 23 c st → number ≡ 23
+  at-23 : feedOf c st xs ≡ told (refused c 23) st → number ≡ 23
   at-23 e = ap (λ (t : Told). t .answer .number) e
 
-  at-20 : feedOf c st xs ≡ refused 20 c st → number ≡ 20
+  at-20 : feedOf c st xs ≡ told (refused c 20) st → number ≡ 20
   at-20 e = ap (λ (t : Told). t .answer .number) e
 
   out-of-range : (number ≡ 23) ↔ (receives c (length st) ≡ false)
@@ -100,7 +101,7 @@ module _ (c : Connection) (st xs : List ℕ) where
   )
 
   -- 0 is answered where the connection stays open
-  stays : number ≡ 0 → Taking c st × (isOpen (ends c st xs .gate) ≡ true)
+  stays : number ≡ 0 → Listens c st × (isOpen (ends c st xs .gate) ≡ true)
   stays n =
       ways c st xs (λ out e. absurd (omega (arith, at-23 e))) (λ ok o e. absurd (omega (arith, at-20 e)))
       (λ ok o.
@@ -109,15 +110,15 @@ module _ (c : Connection) (st xs : List ℕ) where
 
   -- a header that is a fault closes, and gives its number
   fault-closes : (x : Closing) → Comes c st xs (Refuses (c .settings .side) (c .settings .receive) x) → ends c st xs .gate ≡ Closed x
-  fault-closes x k = ap (λ (s : State). s .gate) (fault-leaves (c .settings .side) (c .settings .receive) (given c st) xs x k .0)
+  fault-closes x k = ap (λ (s : Reception). s .gate) (fault-leaves (c .settings .side) (c .settings .receive) (given c st) xs x k .0)
 
-  fault-number : Taking c st → (x : Closing) → Comes c st xs (Refuses (c .settings .side) (c .settings .receive) x) → number ≡ numberOf x
+  fault-number : Listens c st → (x : Closing) → Comes c st xs (Refuses (c .settings .side) (c .settings .receive) x) → number ≡ numberOf x
   fault-number p x k = answer-number c st xs (p .0) (p .1) ∙ ap left (fault-closes x k)
 
   abbrev Faulty : List ℕ → ℕ → Route → Type 0
   Faulty held n to = (x : Closing) × (admitted (c .settings .receive) held n to ≡ Fault x)
 
-  done : (number ≡ 0) ↔ (Taking c st × (Comes c st xs Faulty → ⊥))
+  done : (number ≡ 0) ↔ (Listens c st × (Comes c st xs Faulty → ⊥))
   done = (
     λ n. (
       stays n .0,
@@ -139,8 +140,9 @@ module _ (c : Connection) (st xs : List ℕ) where
   -- a fault, by what it says of the header
   fault-when : (n : ℕ) (P : List ℕ → ℕ → Route → Type 0) → 11 ≤ n → n ≤ 13
       → ((held : List ℕ) (m : ℕ) (to : Route) (x : Closing) → Cause (c .settings .receive) held m to x → numberOf x ≡ n → P held m to)
-      → ((held : List ℕ) (m : ℕ) (to : Route) → P held m to → (x : Closing) × (admitted (c .settings .receive) held m to ≡ Fault x) × (numberOf x ≡ n))
-      → (number ≡ n) ↔ (Taking c st × Comes c st xs P)
+      → ((held : List ℕ) (m : ℕ) (to : Route) → P held m to
+      → (x : Closing) × (admitted (c .settings .receive) held m to ≡ Fault x) × (numberOf x ≡ n))
+      → (number ≡ n) ↔ (Listens c st × Comes c st xs P)
   fault-when n P low high forth back = (
     λ e.
         ways c st xs (λ out f. absurd (omega (arith, at-23 f))) (λ ok o f. absurd (omega (arith, at-20 f)))
@@ -228,8 +230,8 @@ leaves c st xs =
     let caps = c .settings .receive in
     record {
       nothing = λ n e h.
-          ways c st xs (λ out f. f ∙ ap (λ (m : ℕ). refused m c st) (sym (at-23 c st xs f) ∙ e))
-          (λ ok o f. f ∙ ap (λ (m : ℕ). refused m c st) (sym (at-20 c st xs f) ∙ e))
+          ways c st xs (λ out f. f ∙ ap (λ (m : ℕ). told (refused c m) st) (sym (at-23 c st xs f) ∙ e))
+          (λ ok o f. f ∙ ap (λ (m : ℕ). told (refused c m) st) (sym (at-20 c st xs f) ∙ e))
           (λ ok o. absurd (omega (arith, number-low c st xs ok o)));
       all = λ e.
           let p = stays c st xs e in
@@ -237,8 +239,8 @@ leaves c st xs =
       fault = λ x ok e.
           let k = fault-leaves side caps (given c st) xs x e in
           answer c st xs ok (open-before side caps (given c st) (e .front) (e .reached))
-          ∙ ap (λ (n : ℕ). accepted c n (ends c st xs)) (k .1)
-          ∙ ap (λ (s : State). accepted c (suc (length (e .front))) s) (k .0);
+          ∙ ap (λ (n : ℕ). answered c n (ends c st xs)) (k .1)
+          ∙ ap (λ (s : Reception). answered c (suc (length (e .front))) s) (k .0);
     }
 
 -- T2 and T3
@@ -260,7 +262,7 @@ keeps c st xs spelt bytes ok =
     ways c st xs (λ out e. absurd (true≢false (sym ok ∙ out))) (λ _ o e. rw e (ok, spelt))
     (λ _ o.
     let p = both-true (inRange c) (receiveStoreOk (c .settings) (length st)) ok in
-    let s = sound-fed (c .settings .side) (c .settings .receive) (given c st) xs (spelt, ranged c (p .0) .closing) bytes in
+    let s = proper-fed (c .settings .side) (c .settings .receive) (given c st) xs (spelt, ranged c (p .0) .closing) bytes in
     rw (answer c st xs ok o) (receives-after c st xs ok (s .1), s .0))
 
 -- ---- T4'
@@ -269,8 +271,8 @@ abbrev Cut : Connection → List ℕ → List ℕ → List ℕ → Told → Type
 Cut c st xs ys first = Joins first (feedOf (first .answer .connection) (first .store) ys) (feedOf c st (xs ++ ys))
 
 module _ (c : Connection) (st xs ys : List ℕ) where
-  -- where nothing is taken, nothing is taken
-  cut-refused : (n : ℕ) → 0 < n → ((zs : List ℕ) → feedOf c st zs ≡ refused n c st) → Cut c st xs ys (feedOf c st xs)
+  -- where no byte is used, none is used
+  cut-refused : (n : ℕ) → 0 < n → ((zs : List ℕ) → feedOf c st zs ≡ told (refused c n) st) → Cut c st xs ys (feedOf c st xs)
   cut-refused n h e =
       subst (Cut c st xs ys) (sym (e xs))
       (record {
@@ -287,7 +289,7 @@ module _ (c : Connection) (st xs ys : List ℕ) where
     abbrev caps : List ℕ
     caps = c .settings .receive
 
-    abbrev s : State
+    abbrev s : Reception
     s = ends c st xs
 
     abbrev next : Connection
@@ -299,16 +301,16 @@ module _ (c : Connection) (st xs ys : List ℕ) where
     count : uses c st (xs ++ ys) ≡ uses c st xs + used side caps s ys
     count = used-append side caps (given c st) xs ys
 
-    whole : feedOf c st (xs ++ ys) ≡ accepted c (uses c st xs + used side caps s ys) (fed side caps s ys)
+    whole : feedOf c st (xs ++ ys) ≡ answered c (uses c st xs + used side caps s ys) (fed side caps s ys)
     whole =
-        answer c st (xs ++ ys) ok o ∙ ap (λ (n : ℕ). accepted c n (ends c st (xs ++ ys))) count
-        ∙ ap (λ (t : State). accepted c (uses c st xs + used side caps s ys) t) on
+        answer c st (xs ++ ys) ok o ∙ ap (λ (n : ℕ). answered c n (ends c st (xs ++ ys))) count
+        ∙ ap (λ (t : Reception). answered c (uses c st xs + used side caps s ys) t) on
 
     -- the first leaves it open: the second goes on
-    cut-open : isOpen (s .gate) ≡ true → s .gate ≡ Open → Cut c st xs ys (accepted c (uses c st xs) s)
+    cut-open : isOpen (s .gate) ≡ true → s .gate ≡ Open → Cut c st xs ys (answered c (uses c st xs) s)
     cut-open t g =
         let ok′ : receives next (length (s .store)) ≡ true = receives-after c st xs ok (ap gateOk g) in
-        let second : feedOf next (s .store) ys ≡ accepted next (used side caps s ys) (fed side caps s ys) = answer next (s .store) ys ok′ t in
+        let second : feedOf next (s .store) ys ≡ answered next (used side caps s ys) (fed side caps s ys) = answer next (s .store) ys ok′ t in
         record {
           connection = ap (λ (r : Told). r .answer .connection) whole ∙ sym (ap (λ (r : Told). r .answer .connection) second);
           store = ap (λ (r : Told). r .store) whole ∙ sym (ap (λ (r : Told). r .store) second);
@@ -318,16 +320,16 @@ module _ (c : Connection) (st xs ys : List ℕ) where
           used = ap (λ (r : Told). r .answer .used) whole ∙ ap (λ (r : Told). uses c st xs + r .answer .used) (sym second);
         }
 
-    -- the first closes it: nothing more is taken
-    cut-closed : (x : Closing) → isOpen (s .gate) ≡ false → s .gate ≡ Closed x → Cut c st xs ys (accepted c (uses c st xs) s)
+    -- the first closes it: no byte more is used
+    cut-closed : (x : Closing) → isOpen (s .gate) ≡ false → s .gate ≡ Closed x → Cut c st xs ys (answered c (uses c st xs) s)
     cut-closed x t g =
         let stays : fed side caps s ys ≡ s = fed-closed side caps s ys t in
         let none : used side caps s ys ≡ 0 = used-closed side caps s ys t in
-        let all : feedOf c st (xs ++ ys) ≡ accepted c (uses c st xs) s =
-        whole ∙ ap (λ (q : State). accepted c (uses c st xs + used side caps s ys) q) stays
-        ∙ ap (λ (n : ℕ). accepted c (uses c st xs + n) s) none
-        ∙ ap (λ (n : ℕ). accepted c n s) (add-zero (uses c st xs)) in
-        let second : (m : ℕ) × (feedOf next (s .store) ys ≡ refused m next (s .store)) =
+        let all : feedOf c st (xs ++ ys) ≡ answered c (uses c st xs) s =
+        whole ∙ ap (λ (q : Reception). answered c (uses c st xs + used side caps s ys) q) stays
+        ∙ ap (λ (n : ℕ). answered c (uses c st xs + n) s) none
+        ∙ ap (λ (n : ℕ). answered c n s) (add-zero (uses c st xs)) in
+        let second : (m : ℕ) × (feedOf next (s .store) ys ≡ told (refused next m) (s .store)) =
         ways next (s .store) ys (λ out e. (23, e)) (λ _ _ e. (20, e)) (λ _ o′. absurd (true≢false (sym o′ ∙ t))) in
         let some = closing-number c st xs ok o x g .0 in
         let number : left (s .gate) ≡ numberOf x = ap left g in

@@ -20,7 +20,7 @@ use Rattle.connection.specs.Closings.{numberOf, isOpen}
 use Rattle.connection.specs.Parts.{withReceiving}
 use Rattle.connection.specs.Ranges.{receives}
 use Rattle.feeding.specs.declared.Admission.the-variants.{Fault}
-use Rattle.feeding.specs.Feeding.{State, admitted, withHeader, fed, Told, told, refused, given, feedOf}
+use Rattle.feeding.specs.Feeding.{Reception, admitted, withHeader, fed, Told, told, refused, given, feedOf}
 
 -- T1: the contract leaves one outcome
 abbrev pub Once : Type 0
@@ -28,7 +28,7 @@ Once = (c : Connection) (st xs : List ℕ) (r q : Told) → r ≡ feedOf c st xs
 
 -- A byte of the run, reached while the connection is open and no payload under way, makes a header whole; of the held counts there, and of
 -- the header's length and route, P holds.
-pub record Eighth (side : Side) (caps : List ℕ) (s : State) (xs : List ℕ) (P : List ℕ → ℕ → Route → Type 0) : Type 0 where
+pub record Eighth (side : Side) (caps : List ℕ) (s : Reception) (xs : List ℕ) (P : List ℕ → ℕ → Route → Type 0) : Type 0 where
   pub front : List ℕ
   pub byte : ℕ
   pub back : List ℕ
@@ -41,8 +41,8 @@ pub record Eighth (side : Side) (caps : List ℕ) (s : State) (xs : List ℕ) (P
       P (fed side caps s front .receiving .held) (d .len) (routeOf side (d .protocol) (d .mode))
 
 -- a call that takes bytes, and a header in them
-abbrev pub Taking : Connection → List ℕ → Type 0
-Taking c st = (receives c (length st) ≡ true) × (isOpen (c .gate) ≡ true)
+abbrev pub Listens : Connection → List ℕ → Type 0
+Listens c st = (receives c (length st) ≡ true) × (isOpen (c .gate) ≡ true)
 
 abbrev pub Comes : Connection → List ℕ → List ℕ → (List ℕ → ℕ → Route → Type 0) → Type 0
 Comes c st xs P = Eighth (c .settings .side) (c .settings .receive) (given c st) xs P
@@ -51,17 +51,17 @@ Comes c st xs P = Eighth (c .settings .side) (c .settings .receive) (given c st)
 pub record When (c : Connection) (st xs : List ℕ) (r : Told) : Type 0 where
   pub out-of-range : (r .answer .number ≡ 23) ↔ (receives c (length st) ≡ false)
   pub closed : (r .answer .number ≡ 20) ↔ ((receives c (length st) ≡ true) × (isOpen (c .gate) ≡ false))
-  pub unknown : (r .answer .number ≡ 11) ↔ (Taking c st × Comes c st xs (λ held n to. to ≡ Unknown))
-  pub wrong : (r .answer .number ≡ 12) ↔ (Taking c st × Comes c st xs (λ held n to. (i : ℕ) × (to ≡ Wrong i)))
+  pub unknown : (r .answer .number ≡ 11) ↔ (Listens c st × Comes c st xs (λ held n to. to ≡ Unknown))
+  pub wrong : (r .answer .number ≡ 12) ↔ (Listens c st × Comes c st xs (λ held n to. (i : ℕ) × (to ≡ Wrong i)))
   pub overflow : (r .answer .number ≡ 13)
-      ↔ (Taking c st × Comes c st xs (λ held n to. (i : ℕ) × (to ≡ To i) × (getD (c .settings .receive) i 0 < getD held i 0 + n)))
+      ↔ (Listens c st × Comes c st xs (λ held n to. (i : ℕ) × (to ≡ To i) × (getD (c .settings .receive) i 0 < getD held i 0 + n)))
   pub done : (r .answer .number ≡ 0)
-      ↔ (Taking c st × (Comes c st xs (λ held n to. (x : Closing) × (admitted (c .settings .receive) held n to ≡ Fault x)) → ⊥))
+      ↔ (Listens c st × (Comes c st xs (λ held n to. (x : Closing) × (admitted (c .settings .receive) held n to ≡ Fault x)) → ⊥))
 
 -- T3: 20 and 23 change nothing; 0 uses all bytes; and at a fault the bytes in front of that header are kept, the header record is empty, the
 -- closing is written, and no byte behind it is used.
 pub record Leaves (c : Connection) (st xs : List ℕ) (r : Told) : Type 0 where
-  pub nothing : (n : ℕ) → r .answer .number ≡ n → 20 ≤ n → r ≡ refused n c st
+  pub nothing : (n : ℕ) → r .answer .number ≡ n → 20 ≤ n → r ≡ told (refused c n) st
   pub all : r .answer .number ≡ 0 → r .answer .used ≡ length xs
   pub fault : (x : Closing) → receives c (length st) ≡ true
       → (e : Comes c st xs (λ held n to. admitted (c .settings .receive) held n to ≡ Fault x))

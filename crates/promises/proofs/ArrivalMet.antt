@@ -89,7 +89,7 @@ unfolding least dialler accepter allBelow spelled octets baseOf laid stream head
     alike enterChunk item.step item.met item.judge added decoded encoded find routeOf pairOf placeIn nextIn agencyIn speaks formIn unsignedAt
     opensAt itemEnd versionsEnd partOf fieldsOf numberedOf messageOf flagOf build.howMany build.made build.encoded given bytesOf buildOf
     wordOf countOf lowestFrom seek settingsOk inRange openOf ours judgedOf putting.judgeOf putting.queue putting.putOf serve nextOf
-    feeding.feedOf feeding.taken feeding.used feeding.fed feeding.step feeding.kept feeding.headed feeding.admission
+    feeding.feedOf feeding.feedOpen feeding.used feeding.fed feeding.step feeding.kept feeding.headed feeding.admission
     run trace step segments bytesIn acts handedFor flatMap flatten
 due =
     record {

@@ -10,8 +10,7 @@ use native.Mathlib.Nat.{sub-zero}
 use lib.Dec.{eqb}
 use lib.ListN.{length, getD, length-append}
 use borrow.Author.Tests.{eq-eqb, eqb-true}
-use Rattle.base.proofs.Conds.{by-test}
-use Rattle.feeding.proofs.Bytes.{both-true}
+use Rattle.base.proofs.Conds.{by-test, both-true}
 use Rattle.wire.specs.declared.instances.Side.{Side}
 use Rattle.wire.specs.declared.instances.Route.the-variants.{To}
 use Rattle.wire.specs.Instances.{instances, routeOf, protocolOf, modeOf}

@@ -27,7 +27,7 @@ use Rattle.connection.specs.Closings as closings
 use Rattle.connection.specs.Closings.{closingOf, isOpen, closedBy}
 use Rattle.connection.proofs.RangeLaws.{ranged}
 use Rattle.feeding.specs.Feeding as feeding
-use Rattle.feeding.specs.Feeding.{State, used, left, given}
+use Rattle.feeding.specs.Feeding.{Reception, used, left, given}
 use Rattle.feeding.specs.Feeds.{Eighth}
 use Rattle.feeding.proofs.Keeping.{Kept, kept-given}
 use Rattle.feeding.proofs.Faults.{Cause, unknown, wrong, overflow, cause, Refuses, fault-found, fault-leaves, used-all}
@@ -65,7 +65,7 @@ last-at side front h e =
 module _ (side : Side) (caps : List ℕ) (handed : ℕ → List ℕ) (wide : length caps ≡ instances)
     (some : (i : ℕ) → i < instances → 0 < getD caps i 0) where
   -- a byte that makes a header whole
-  header-last : (bs : List ℕ) (b : ℕ) (m : State) (t : Tied side caps handed bs m) → Reading side (m .receiving) (t .left) → m .receiving .rest ≡ 0
+  header-last : (bs : List ℕ) (b : ℕ) (m : Reception) (t : Tied side caps handed bs m) → Reading side (m .receiving) (t .left) → m .receiving .rest ≡ 0
       → headerLength ≤ added (m .receiving .header) b .count
       → let d = decoded (added (m .receiving .header) b .bytes) in lastRoute side (bs ++ (b ∷ [])) ≡ routeOf side (d .protocol) (d .mode)
   header-last bs b m t (in-head z short e) idle enough =
@@ -79,14 +79,14 @@ module _ (side : Side) (caps : List ℕ) (handed : ℕ → List ℕ) (wide : len
   header-last bs b m t (in-pay h p e eight more n z to) idle enough = absurd (omega arith)
 
   -- it stands at the end of the bytes that were used
-  refused-last : (xs bs : List ℕ) (s : State) (starts : List ℕ) (n : ℕ) (x : Closing) → Tied side caps handed bs s
+  refused-last : (xs bs : List ℕ) (s : Reception) (starts : List ℕ) (n : ℕ) (x : Closing) → Tied side caps handed bs s
       → Kept caps starts n s → n ≡ together caps
       → isOpen (s .gate) ≡ true → feeding.fed side caps s xs .gate ≡ Closed x
       → (held : List ℕ) × (m : ℕ) × Cause caps held m (lastRoute side (bs ++ lists.take (used side caps s xs) xs)) x
   refused-last xs bs s starts n x t k long o e =
       let f : Eighth side caps s xs (Refuses side caps x) = fault-found side caps s xs x o e in
       let front : List ℕ = f .front in
-      let m : State = feeding.fed side caps s front in
+      let m : Reception = feeding.fed side caps s front in
       let all : used side caps s front ≡ length front = used-all side caps s front (f .reached) in
       let t′ : Tied side caps handed (bs ++ front) m =
       rw (all, take-length) at (tied-fed side caps handed wide some front bs s starts n t k long) in

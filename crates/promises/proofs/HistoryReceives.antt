@@ -26,7 +26,7 @@ use Rattle.connection.specs.Closings.{isOpen, closedBy}
 use Rattle.connection.specs.Statuses.{statusOf}
 use Rattle.connection.proofs.RangeLaws.{ranged}
 use Rattle.feeding.specs.Feeding as feeding
-use Rattle.feeding.specs.Feeding.{State, given, fed, used}
+use Rattle.feeding.specs.Feeding.{Reception, given, fed, used}
 use Rattle.feeding.proofs.Keeping.{kept-given, kept-fed}
 use Rattle.connection.specs.Parts.{firstHeld}
 use Rattle.taking.specs.Taking as taking
@@ -53,7 +53,7 @@ pub record Held (s : Settings) (past : Past) (w : World) : Type 0 where
 -- ---- ties that stay
 
 -- with what is then handed out and held, and a record that stands as it stood
-tied-to : {side : Side} {caps : List ℕ} {handed handed′ : ℕ → List ℕ} {bs bs′ : List ℕ} {s : State} (s′ : State)
+tied-to : {side : Side} {caps : List ℕ} {handed handed′ : ℕ → List ℕ} {bs bs′ : List ℕ} {s : Reception} (s′ : Reception)
     → (t : Tied side caps handed bs s) → bs′ ≡ bs → ((i : ℕ) → i < instances → handed i ++ heldIn caps s i ≡ handed′ i ++ heldIn caps s′ i)
     → (isOpen (s′ .gate) ≡ true → Reading side (s′ .receiving) (t .left)) → length (s′ .receiving .held) ≡ instances → Tied side caps handed′ bs′ s′
 tied-to s′ t e f g n =
@@ -119,7 +119,7 @@ module _ (w : World) (g : Good w) (past : Past) (t : Held (w .connection .settin
       let ev : Event Call Answer = record { call = feed xs; answer = (afterFeed w x) .answer } in
       let same : (i : ℕ) → handedFor i past ≡ handedFor i (with (feed xs) ((afterFeed w x) .answer)) =
       λ i. sym (handed-next past ev i ∙ append-nil (handedFor i past)) in
-      let st : State = given c (w .receive) in
+      let st : Reception = given c (w .receive) in
       let n : ℕ = used (s .side) (s .receive) st xs in
       let q : Tied (s .side) (s .receive) (λ i. handedFor i past) (bytesIn past ++ lists.take n xs) (fed (s .side) (s .receive) st xs) =
       tied-fed (s .side) (s .receive) (λ i. handedFor i past) wide some xs (bytesIn past) st (c .receiving .starts) (length (w .receive)) (t .tied)

@@ -10,7 +10,7 @@ use lib.ListN.{length, getD, set}
 use lib.Seq.{getD-set-same, getD-set-other}
 use borrow.Author.Tests.{eq-eqb, ne-eqb, eqb-true, eqb-false}
 use Rattle.base.specs.Numbers.{Bytes}
-use Rattle.base.proofs.Conds.{by-test, cond-cases}
+use Rattle.base.proofs.Conds.{by-test, cond-cases, both-true}
 use Rattle.ring.specs.Ring.{together}
 use Rattle.wire.specs.Instances.{instances}
 use Rattle.rows.specs.Spoken.{speaks}
@@ -27,7 +27,6 @@ use Rattle.connection.proofs.NumberLaws as connection
 use Rattle.judging.specs.Judging.{ours, barred}
 use Rattle.feeding.specs.Feeding as feeding
 use Rattle.feeding.specs.Feeds.{Spelt}
-use Rattle.feeding.proofs.Bytes.{both-true}
 use Rattle.feeding.proofs.Keeping.{spelt-empty}
 use Rattle.feeding.proofs.Theorems as feeding-laws
 use Rattle.taking.specs.Taking as taking
@@ -83,7 +82,7 @@ module _ (s : Settings) (w : World) (k : Sound s w) where
       → Sound s (record { connection = t .answer .connection; receive = t .store; send = w .send })
   sound-fed (shut o) ok spelt = k
   sound-fed {xs} (bytes o) ok spelt =
-      let st : feeding.State = ends c (w .receive) xs in
+      let st : feeding.Reception = ends c (w .receive) xs in
       let t : Tidy (c .receiving .starts) st =
       tidy-fed (c .settings .side) (c .settings .receive) (c .receiving .starts) (feeding.given c (w .receive)) xs
       (record { places = refl; many = r .shaped .held; blank = r .blank; idle = r .idle }) in

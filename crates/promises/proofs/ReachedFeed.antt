@@ -20,13 +20,13 @@ use Rattle.connection.specs.Closings.{isOpen}
 use Rattle.connection.specs.Ranges.{receives}
 use Rattle.feeding.specs.declared.Admission.{Admission}
 use Rattle.feeding.specs.declared.Admission.the-variants.{Fault, Payload}
-use Rattle.feeding.specs.Feeding.{State, admission, settled, headed, kept, step, fed, used, Told, given, accepted, refused, taken, feedOf}
+use Rattle.feeding.specs.Feeding.{Reception, admission, settled, headed, kept, step, fed, used, Told, told, given, answered, refused, feedOpen, feedOf}
 
 abbrev pub Blank : Header → Type 0
 Blank h = (k : ℕ) → h .count ≤ k → getD (h .bytes) k 0 ≡ 0
 
 -- what feeding keeps
-pub record Tidy (starts : List ℕ) (s : State) : Type 0 where
+pub record Tidy (starts : List ℕ) (s : Reception) : Type 0 where
   pub places : s .receiving .starts ≡ starts
   pub many : length (s .receiving .held) ≡ instances
   pub blank : Blank (s .receiving .header)
@@ -46,11 +46,11 @@ idle-for : (n i : ℕ) → n ≡ 0 → cond (eqb n 0) 0 i ≡ 0
 idle-for n i z = rw (eq-eqb n 0 z)
 
 module _ (side : Side) (caps starts : List ℕ) where
-  tidy-settled : (s : State) (a : Admission) → Tidy starts s → Tidy starts (settled s a)
+  tidy-settled : (s : Reception) (a : Admission) → Tidy starts s → Tidy starts (settled s a)
   tidy-settled s (Fault x) t = record { places = t .places; many = t .many; blank = blank-empty; idle = t .idle }
   tidy-settled s (Payload i n) t = record { places = t .places; many = t .many; blank = blank-empty; idle = idle-for n i }
 
-  tidy-step : (s : State) (b : ℕ) → Tidy starts s → Tidy starts (step side caps s b)
+  tidy-step : (s : Reception) (b : ℕ) → Tidy starts s → Tidy starts (step side caps s b)
   unfolding step headed kept
   tidy-step s b t =
       let r = s .receiving in
@@ -70,7 +70,7 @@ module _ (side : Side) (caps starts : List ℕ) where
       }))
       (λ o. t)
 
-  pub tidy-fed : (s : State) (xs : List ℕ) → Tidy starts s → Tidy starts (fed side caps s xs)
+  pub tidy-fed : (s : Reception) (xs : List ℕ) → Tidy starts s → Tidy starts (fed side caps s xs)
   unfolding fed
   tidy-fed s [] t = t
   tidy-fed s (x ∷ xs) t = tidy-fed (step side caps s x) xs (tidy-step s x t)
@@ -78,7 +78,7 @@ module _ (side : Side) (caps starts : List ℕ) where
 -- ---- a call
 
 -- the state that a run leaves, and how many of its bytes are used
-abbrev pub ends : Connection → List ℕ → List ℕ → State
+abbrev pub ends : Connection → List ℕ → List ℕ → Reception
 ends c st xs = fed (c .settings .side) (c .settings .receive) (given c st) xs
 
 abbrev pub uses : Connection → List ℕ → List ℕ → ℕ
@@ -86,9 +86,9 @@ uses c st xs = used (c .settings .side) (c .settings .receive) (given c st) xs
 
 -- A feed to a record in range with its store: the gate is closed and nothing changes, or bytes are fed.
 pub data Feeds (c : Connection) (st xs : List ℕ) : Told → Type 0 where
-  shut : isOpen (c .gate) ≡ false → Feeds c st xs (refused 20 c st)
-  bytes : isOpen (c .gate) ≡ true → Feeds c st xs (accepted c (uses c st xs) (ends c st xs))
+  shut : isOpen (c .gate) ≡ false → Feeds c st xs (told (refused c 20) st)
+  bytes : isOpen (c .gate) ≡ true → Feeds c st xs (answered c (uses c st xs) (ends c st xs))
 
 pub feed-way : (c : Connection) (st xs : List ℕ) → receives c (length st) ≡ true → Feeds c st xs (feedOf c st xs)
-unfolding feedOf taken
+unfolding feedOf feedOpen
 feed-way c st xs r = rw r (cond-cases (Feeds c st xs) (isOpen (c .gate)) (λ o. bytes o) (λ o. shut o))

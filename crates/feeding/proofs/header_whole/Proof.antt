@@ -13,9 +13,9 @@ use Rattle.feeding.proofs.header_whole.Tie as tie
 returns : tie.Need-returns
 returns c =
     let a = c .before .before .before .before .args in
-    subst (λ (x : Admission). Settles (a .w) x headerLength (c .settle .result))
+    subst (λ (x : Admission). Settles (a .w) x headerLength (c .settled .result))
     (c .before .admit .ensures ∙ ap (admission (a .side) (now (a .caps)) (now (a .held))) (c .before .before .header-at .ensures))
-    (c .settle .ensures)
+    (c .settled .ensures)
 
 pub header-whole-spec : {M : Type 1} → statement M
 header-whole-spec =
