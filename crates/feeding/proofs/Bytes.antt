@@ -22,9 +22,8 @@ use Rattle.wire.specs.declared.instances.Side.{Side}
 use Rattle.wire.specs.declared.instances.Route.{Route}
 use Rattle.wire.specs.declared.instances.Route.the-variants.{Unknown, Wrong, To}
 use Rattle.wire.specs.Segments.{headerLength, added, decoded}
-use mathlib.Core.Option.{Option, none, some}
-use Rattle.wire.specs.Instances.{Instance, ofSide, bundle, instances, find, takes, orElse, routeOf, Within}
-use Rattle.wire.proofs.InstanceLaws.{find-some}
+use Rattle.wire.specs.Instances.{instances, routeOf, Within}
+use Rattle.wire.proofs.InstanceLaws.{route-within}
 use Rattle.connection.specs.declared.Closing.the-variants.{Of}
 use Rattle.connection.specs.declared.Gate.{Gate}
 use Rattle.connection.specs.declared.Gate.the-variants.{Open, Closed}
@@ -140,25 +139,6 @@ module _ (side : Side) (caps : List ℕ) where
         ap (λ (t : Reception). fed side caps t (y ∷ xs ++ ys)) one ∙ rest .0 ∙ ap (λ (t : Reception). fed side caps t ys) all,
         rw (g, one) (omega (arith, rest .1, after)),
       )
-
--- ---- the route
-
-within-or : (o : Option ℕ) (r : Route) → ((i : ℕ) → o ≡ some i → i < instances) → Within r → Within (orElse o Wrong r)
-within-or none r f h = h
-within-or (some i) r f h = f i refl
-
-found : (f : Instance → Bool) (i : ℕ) → find f 0 bundle ≡ some i → i < instances
-found f i e = let q = find-some f (record { protocol = 0; role = ofSide }) bundle 0 i e in omega (arith, q .1, q .2)
-
--- a route leads to an instance, if to any
-pub route-within : (side : Side) (p m : ℕ) → Within (routeOf side p m)
-unfolding routeOf
-route-within side p m = go (find (takes side p m) 0 bundle) refl
-  where
-    go : (o : Option ℕ) → find (takes side p m) 0 bundle ≡ o → Within (orElse o To (orElse (find (λ (x : Instance). eqb (x .protocol) p) 0 bundle) Wrong Unknown))
-    go (some i) e = found (takes side p m) i e
-    go none e =
-        within-or (find (λ (x : Instance). eqb (x .protocol) p) 0 bundle) Unknown (λ i q. found (λ (x : Instance). eqb (x .protocol) p) i q) tt
 
 -- ---- a header byte, as the code goes
 

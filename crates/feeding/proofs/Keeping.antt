@@ -20,7 +20,7 @@ use Rattle.wire.specs.declared.instances.Route.the-variants.{Unknown, Wrong, To
 use Rattle.wire.specs.Segments.{headerLength, empty, added, decoded}
 use Rattle.wire.specs.Instances.{instances, routeOf, Within}
 use Rattle.wire.proofs.SegmentLaws.{round-trip}
-use Rattle.wire.proofs.InstanceLaws.{one-way}
+use Rattle.wire.proofs.InstanceLaws.{one-way, route-within}
 use Rattle.connection.specs.declared.Connection.{Connection}
 use Rattle.connection.specs.Closings.{isOpen, gateOk}
 use Rattle.connection.specs.Parts.{withReceiving}
@@ -29,7 +29,6 @@ use Rattle.connection.proofs.RangeLaws.{Ranged, ranged, in-range}
 use Rattle.feeding.specs.declared.Admission.{Admission}
 use Rattle.feeding.specs.Feeding.{Reception, admitted, admission, instanceFor, settled, headed, kept, step, fed, given}
 use Rattle.feeding.specs.Feeds.{Spelt}
-use Rattle.feeding.proofs.Bytes.{route-within}
 
 -- what feeding can change of the range
 pub record Kept (caps starts : List ℕ) (n : ℕ) (s : Reception) : Type 0 where
