@@ -10,6 +10,7 @@ use lib.ListN.{length}
 use Rattle.base.specs.Numbers.{Bytes}
 use Rattle.base.proofs.Conds.{cond-cases}
 use Rattle.base.proofs.NumberLaws.{bytes-append}
+use Rattle.head.specs.Write.{shortest}
 use Rattle.head.proofs.WriteLaws.{shortest-bytes}
 use Rattle.rows.specs.declared.Protocol.{Protocol}
 use Rattle.messages.specs.declared.forms.Field.{Field}
