@@ -42,7 +42,7 @@ use Rattle.promises.proofs.ReachedHandshake.{shakes, spare, spare-put, 
 use Rattle.promises.proofs.Ways.{Row, Takes, Puts, Nexts, refuses, faults, hands, queues, serves, take-way, put-way, next-way}
 use Rattle.promises.proofs.ReachedFeed as tidy
 use Rattle.promises.proofs.ReachedFeed.{Blank, Tidy, tidy-fed, ends, Feeds, shut, bytes, feed-way}
-use Rattle.base.proofs.ListLaws.{at-set}
+use Rattle.base.proofs.ListLaws.{zeros, at-set}
 
 -- ---- what every call keeps
 
@@ -256,7 +256,7 @@ sound-fresh s receive send o =
     let n = length receive in
     let m = length send in
     let (set, long, wide) = connection.open-exactly s n m .n0 .0 (o .done) in
-    let zero-at = tidy.zeros instances in
+    let zero-at = zeros instances in
     record {
       reached =
           record {

@@ -12,6 +12,7 @@ use borrow.Author.Tests.{eq-eqb, ne-eqb, eqb-true, eqb-false}
 use lib.Dec.{eqb}
 use lib.ListN.{length, getD, set, length-append}
 use lib.Seq.{getD-append-add, getD-set-same, getD-set-other}
+use Rattle.base.proofs.Conds.{by-test}
 use Rattle.base.proofs.ListLaws.{at-set}
 use Rattle.ring.specs.Ring.{baseOf, together, place, laid, stream}
 use Rattle.ring.proofs.Stores.{stream-length, stream-append, stream-same, stream-at, stream-behind}
