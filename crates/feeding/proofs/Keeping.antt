@@ -28,7 +28,7 @@ use Rattle.connection.specs.Ranges.{restFor, inRange}
 use Rattle.connection.proofs.RangeLaws.{Ranged, ranged, in-range}
 use Rattle.feeding.specs.declared.Admission.{Admission}
 use Rattle.feeding.specs.Feeding.{Reception, admitted, admission, instanceFor, settled, headed, kept, step, fed, given}
-use Rattle.feeding.specs.Feeds.{Spelt}
+use Rattle.feeding.specs.Numbers.{Spelt}
 
 -- what feeding can change of the range
 pub record Kept (caps starts : List ℕ) (n : ℕ) (s : Reception) : Type 0 where

@@ -28,7 +28,7 @@ use Rattle.connection.specs.Closings.{closingOf, isOpen, closedBy}
 use Rattle.connection.proofs.RangeLaws.{ranged}
 use Rattle.feeding.specs.Feeding as feeding
 use Rattle.feeding.specs.Feeding.{Reception, used, left, given}
-use Rattle.feeding.specs.Feeds.{Eighth}
+use Rattle.feeding.specs.Numbers.{Eighth}
 use Rattle.feeding.proofs.Keeping.{Kept, kept-given}
 use Rattle.feeding.proofs.Faults.{Cause, unknown, wrong, overflow, cause, Refuses, fault-found, fault-leaves, used-all}
 use Rattle.taking.specs.Taking as taking

@@ -26,9 +26,9 @@ use Rattle.connection.proofs.RangeLaws.{ranged}
 use Rattle.connection.proofs.NumberLaws as connection
 use Rattle.judging.specs.Judging.{ours, barred}
 use Rattle.feeding.specs.Feeding as feeding
-use Rattle.feeding.specs.Feeds.{Spelt}
+use Rattle.feeding.specs.Numbers.{Spelt}
 use Rattle.feeding.proofs.Keeping.{spelt-empty}
-use Rattle.feeding.proofs.Theorems as feeding-laws
+use Rattle.feeding.proofs.NumberLaws as feeding-laws
 use Rattle.taking.specs.Taking as taking
 use Rattle.taking.proofs.NumberLaws as taking-laws
 use Rattle.putting.specs.Putting as putting

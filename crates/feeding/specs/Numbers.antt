@@ -1,4 +1,4 @@
--- What is proved of feed.
+-- Which number feed answers, exactly when, and what each leaves (document 01, "Segments" and "Numbers and their order"), as statements.
 use Prim.Native.Nat.{ℕ, suc, _+_, _≤_, _<_}
 use mathlib.Core.Path.{_≡_}
 use mathlib.Core.Bool.{true, false, cond}

@@ -25,7 +25,7 @@ use Rattle.connection.specs.Ranges.{inRange, receiveStoreOk, receives}
 use Rattle.connection.proofs.RangeLaws.{ranged}
 use Rattle.feeding.specs.declared.Admission.the-variants.{Fault}
 use Rattle.feeding.specs.Feeding.{Reception, admitted, fed, used, left, Told, told, refused, given, answered, feedOpen, feedOf}
-use Rattle.feeding.specs.Feeds.{Once, Listens, Comes, When, Leaves, Answers, Keeps, Joins, WholeOrCut}
+use Rattle.feeding.specs.Numbers.{Once, Listens, Comes, When, Leaves, Answers, Keeps, Joins, WholeOrCut}
 use Rattle.feeding.proofs.Bytes.{fed-closed, used-closed, fed-append, used-append, feed-range, feed-closed, feed-open}
 use Rattle.feeding.proofs.Keeping.{kept-given, kept-fed, range-with, proper-fed}
 use Rattle.feeding.proofs.Faults.{Cause, unknown, wrong, overflow, cause, cause-number, eighth-with, eighth-so, Refuses}
