@@ -7,10 +7,11 @@ use Prim.Native.Nat.{ℕ, zero, suc, _+_, _-_, _≤_, _<_}
 use native.Mathlib.Omega.{arith}
 use borrow.Author.Tests.{ne-eqb, eqb-true, eqb-false, lt-ltb, leb-true, leb-false}
 use lib.Dec.{eqb, leb, ltb}
-use lib.ListN.{length, getD, set, replicate, length-set}
+use lib.ListN.{length, getD, set, length-set}
 use lib.Seq.{getD-set-other}
 use Rattle.base.specs.Numbers.{Bytes}
 use Rattle.base.proofs.Conds.{by-test, cond-cases}
+use Rattle.base.proofs.NumberLaws.{bytes-set, bytes-zeros}
 use Rattle.ring.specs.Ring.{baseOf}
 use Rattle.ring.proofs.Stores.{laid-length}
 use Rattle.wire.specs.declared.segment.Header.{Header}
@@ -157,12 +158,6 @@ range-with c n s e k g =
 
 -- ---- bytes
 
-bytes-set : (l : List ℕ) (i x : ℕ) → Bytes l → x < 256 → Bytes (set l i x)
-unfolding Bytes
-bytes-set [] i x b h = b
-bytes-set (y ∷ l) zero x (_, b) h = (h, b)
-bytes-set (y ∷ l) (suc i) x (g, b) h = (g, bytes-set l i x b h)
-
 spelt-added : (h : Header) (b : ℕ) → Spelt h → b < 256 → Spelt (added h b)
 unfolding added
 spelt-added h b (l, s) t =
@@ -170,13 +165,8 @@ spelt-added h b (l, s) t =
     (λ q. (length-set (h .bytes) (h .count) b ∙ l, bytes-set (h .bytes) (h .count) b s t))
     (λ q. (l, s))
 
-pub zeros : (k : ℕ) → Bytes (replicate k 0)
-unfolding Bytes
-zeros zero = tt
-zeros (suc k) = (omega arith, zeros k)
-
 pub spelt-empty : Spelt empty
-spelt-empty = (refl, zeros headerLength)
+spelt-empty = (refl, bytes-zeros headerLength)
 
 module _ (side : Side) (caps : List ℕ) where
   -- the closing is one that a fault leaves

@@ -6,6 +6,7 @@ use mathlib.Core.Path.{refl}
 use mathlib.Core.List.{List, [], _∷_, flatMap, flatten}
 use native.Mathlib.Omega.{arith}
 use lib.ListN.{replicate}
+use Rattle.base.proofs.NumberLaws.{bytes-zeros}
 use Rattle.base.specs.Below.{allBelow}
 use Rattle.base.specs.Numbers.{Bytes, spelled, octets}
 use Rattle.ring.specs.Ring.{baseOf, laid, stream}
@@ -29,7 +30,6 @@ use Rattle.connection.specs.declared.Settings.{Settings}
 use Rattle.connection.specs.Ranges.{settingsOk, inRange}
 use Rattle.connection.specs.Openings.{openOf}
 use Rattle.feeding.specs.Feeding as feeding
-use Rattle.feeding.proofs.Keeping.{zeros}
 use Rattle.judging.specs.Judging.{ours, judgedOf}
 use Rattle.putting.specs.Putting as putting
 use Rattle.sending.specs.NextSegment.{serve, nextOf}
@@ -73,7 +73,7 @@ message-bytes = (omega arith, (omega arith, (omega arith, tt)))
 
 dialler : End
 unfolding AllReal
-dialler = end Dialler (put 0 message ∷ next 0 (replicate 11 0) ∷ []) (message-bytes, ((omega arith, zeros 11), tt))
+dialler = end Dialler (put 0 message ∷ next 0 (replicate 11 0) ∷ []) (message-bytes, ((omega arith, bytes-zeros 11), tt))
 
 segment-bytes : Bytes segment
 unfolding Bytes
