@@ -4,7 +4,7 @@ use Prim.Native.Nat.{ℕ, suc, _+_}
 use mathlib.Core.List.{List, [], _∷_, _++_}
 use mathlib.Core.Path.{_≡_, refl, sym, ap, subst, _∙_}
 use native.Mathlib.Omega.{arith}
-use lib.ListN.{length, take, drop, length-append}
+use lib.ListN.{length, take, drop, length-append, replicate}
 use lib.Seq.{take-at, drop-at}
 use Rattle.head.specs.Initial.{initial}
 use Rattle.item.specs.declared.Verdict.{Verdict}
@@ -77,8 +77,9 @@ one-end d f bs cs ds g h = of (cuts g) (cuts h)
         let l : length b ≡ length a = cc in
         sym (drop-at a cs (length a) refl) ∙ ap (drop (length a)) (sym p ∙ q) ∙ drop-at b ds (length a) l
 
--- Heads, which no program prints: a break and a chunk's head count, f820 is one, the bad one does not count, nor what follows the item.
+-- Heads, which no program prints: a break and a chunk's head count, f820 is one, a map of one pair has two items, the bad one does not count, be it
+-- a break or one nested too deep, nor what follows the item.
 counted : (headsOf (0x9f ∷ 0x18 ∷ 0x20 ∷ 0xff ∷ 0x00 ∷ []) ≡ 3) × (headsOf (0x5f ∷ 0x42 ∷ 0 ∷ 0 ∷ 0xff ∷ []) ≡ 3) × (headsOf (0xf8 ∷ 0x20 ∷ []) ≡ 1)
-    × (headsOf (0x82 ∷ 0x00 ∷ 0xff ∷ []) ≡ 2)
+    × (headsOf (0xa1 ∷ 0x00 ∷ 0x01 ∷ 0x02 ∷ []) ≡ 3) × (headsOf (0x82 ∷ 0x00 ∷ 0xff ∷ []) ≡ 2) × (headsOf (replicate 17 0x81) ≡ 16)
 unfolding heads tally step met initial enter nest indefinite alike enterChunk
-counted = (refl, refl, refl, refl)
+counted = (refl, refl, refl, refl, refl, refl)
