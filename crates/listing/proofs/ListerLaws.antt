@@ -1,7 +1,7 @@
 -- Laws of the lister. T17 is `lister`; that a step's contract leaves one answer is `once`.
 -- Assumes nothing.
 use mathlib.Core.Path.{_≡_, refl, sym, ap, subst, _∙_}
-use mathlib.Core.Bool.{true, false, cond}
+use mathlib.Core.Bool.{Bool, true, false, cond}
 use mathlib.Core.List.{List, [], _∷_, _++_, map, append-nil, append-assoc}
 use Prim.Native.Nat.{ℕ, zero, suc, _+_, _-_, _%_, _^_, _≤_, _<_, min}
 use native.Mathlib.Omega.{arith}
@@ -66,7 +66,9 @@ paid l b h = rw (lt-ltb 0 (l .rest) h)
 
 paid-more : (l : Listing) (b : ℕ) → 1 < l .rest → byte l b ≡ record { listing = shorter l; lines = [] }
 unfolding after
-paid-more l b h = paid l b (omega arith) ∙ rw (lt-ltb 0 (l .rest - 1) (omega arith))
+paid-more l b h =
+    paid l b (omega arith)
+    ∙ ap (λ (t : Bool). cond t (going l (l .header) (l .rest - 1) 1) (ending l (l .header) 1)) (lt-ltb 0 (l .rest - 1) (omega arith))
 
 -- some payload bytes, as many as are to come at the most
 pub fed-payload : (l : Listing) (xs : List ℕ) → 0 < length xs → length xs ≤ l .rest

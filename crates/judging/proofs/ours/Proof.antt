@@ -1,5 +1,7 @@
 -- `judging::ours` meets its contract: we are initiator exactly if we send with mode 0.
 -- Assumes nothing.
+use mathlib.Core.Path.{_≡_}
+use lib.Dec.{eqb}
 use Rattle.wire.specs.Instances.{at, initiates}
 use Rattle.judging.specs.Judging.{ours}
 use Rattle.judging.proofs.JudgingLaws.{initiator-mode}
@@ -11,10 +13,11 @@ returns : tie.Need-returns
 unfolding ours
 returns c =
     let a = c .before .before .before .before .args in
+    let initiator : eqb (c .before .mode .result) 0 ≡ initiates (a .side) (at (a .i) .role) =
+    rw (c .before .mode .ensures) (initiator-mode (initiates (a .side) (at (a .i) .role))) in
     rw (
       c .holds .ensures,
-      c .before .mode .ensures,
-      initiator-mode (initiates (a .side) (at (a .i) .role)),
+      initiator,
       c .before .before .agent .ensures,
       c .before .before .before .protocol .ensures,
     )
