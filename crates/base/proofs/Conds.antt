@@ -1,13 +1,14 @@
 -- Laws of tests as values: `&&` and `cond` of the kit, by what the test says.
 -- Assumes nothing.
-use mathlib.Core.Path.{_≡_, refl, subst}
+use mathlib.Core.Path.{_≡_, refl, sym, subst, _∙_}
 use mathlib.Core.Bool.{Bool, true, false, false≢true, _&&_, cond}
+use mathlib.Core.Logic.{_↔_}
 use Prim.Native.Nat.{ℕ, zero, suc, _+_, _<_}
 use native.Mathlib.Omega.{arith}
 use native.Mathlib.Numerals.{add-one}
-use lib.Dec.{T, ltb}
+use lib.Dec.{T, eqb, ltb}
 use borrow.Author.Needs.{needs}
-use borrow.Author.Tests.{eq-eqb, ne-eqb, lt-ltb, le-ltb, le-leb, lt-leb, ltb-true, ltb-false}
+use borrow.Author.Tests.{eq-eqb, ne-eqb, eqb-true, lt-ltb, le-ltb, le-leb, lt-leb, ltb-true, ltb-false}
 use Rattle.base.specs.Below.{allBelow}
 
 -- `search tests` closes a need whose `cond`s are decided by the branches on the way there
@@ -59,3 +60,19 @@ pub below-all : (f : ℕ → Bool) (n : ℕ) → ((i : ℕ) → i < n → f i �
 unfolding allBelow
 below-all f zero h = refl
 below-all f (suc n) h = rw (below-all f n (λ i l. h i (omega arith)), h n (omega arith))
+
+-- the same parts, of a test that is true
+pub both-true : (a b : Bool) → (a && b) ≡ true → (a ≡ true) × (b ≡ true)
+both-true true b e = (refl, e)
+both-true false b e = absurd (false≢true e)
+
+-- a test together with one that two numbers are equal: both ways
+pub and-equal : {a : Bool} {n m : ℕ} → (a && eqb n m) ≡ true → (a ≡ true) × (n ≡ m)
+and-equal {a} {n} {m} e = let p = both-true a (eqb n m) e in (p .0, eqb-true n m (p .1))
+
+pub equal-and : {a : Bool} {n m : ℕ} → a ≡ true → n ≡ m → (a && eqb n m) ≡ true
+equal-and {a} {n} {m} e q = rw (e, eq-eqb n m q)
+
+-- a number is answered exactly when its "when" holds: where it holds it is answered, and one that is answered is one whose "when" holds
+pub exactly-when : (When : ℕ → Type 0) {number k : ℕ} → number ≡ k → When k → {n : ℕ} → (When n → number ≡ n) → (number ≡ n) ↔ When n
+exactly-when When q w answered = (λ e. subst When (sym q ∙ e) w, answered)

@@ -1,12 +1,16 @@
--- Laws of lists that several rooms need and the kit has not.
+-- Laws of lists that several crates need and the kit has not.
 -- Assumes nothing.
 use mathlib.Core.Path.{_≡_, refl, sym, ap, _∙_}
 use mathlib.Core.List.{List, [], _∷_, _++_, map}
+use mathlib.Core.Logic.{_≢_}
 use Prim.Native.Nat.{ℕ, zero, suc, _+_, _≤_, _<_}
 use native.Mathlib.Omega.{arith}
 use native.Mathlib.Nat.{add-zero, add-suc, suc-add}
-use lib.ListN.{length, getD, set}
-use lib.Seq.{sets, set-comm}
+use borrow.Author.Tests.{eqb-true, eqb-false}
+use lib.Dec.{eqb}
+use lib.ListN.{length, getD, set, replicate}
+use lib.Seq.{sets, set-comm, getD-set-same, getD-set-other}
+use Rattle.base.proofs.Conds.{by-test}
 
 -- the values stored one after the other, and one more after them
 pub sets-snoc : (l : List ℕ) (i : ℕ) (vs : List ℕ) (a : ℕ) → sets l i (vs ++ (a ∷ [])) ≡ set (sets l i vs) (i + length vs) a
@@ -29,3 +33,16 @@ pub getD-map : {A B : Type 0} (f : A → B) (l : List A) (n : ℕ) (d : A) (e : 
 getD-map f [] n d e h = absurd (omega arith)
 getD-map f (x ∷ l) zero d e h = refl
 getD-map f (x ∷ l) (suc n) d e h = getD-map f l n d e (omega arith)
+
+-- an array of zeros has zeros, also past its end
+pub zeros : (n k : ℕ) → _≡_ {A = ℕ} (getD (replicate n 0) k 0) 0
+zeros zero k = refl
+zeros (suc n) zero = refl
+zeros (suc n) (suc k) = zeros n k
+
+-- what holds of the value that is set, and of the others, holds at each place
+pub at-set : (P : ℕ → ℕ → Type 0) (l : List ℕ) (i v : ℕ) → i < length l → P i v → ((j : ℕ) → j ≢ i → P j (getD l j 0)) → (j : ℕ)
+    → P j (getD (set l i v) j 0)
+at-set P l i v h here there j =
+    by-test (eqb j i) (λ q. rw (eqb-true j i q, getD-set-same l i v 0 h) here)
+    (λ q. rw (getD-set-other l i j v 0 (eqb-false j i q)) (there j (eqb-false j i q)))

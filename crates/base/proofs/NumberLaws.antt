@@ -6,7 +6,7 @@ use Prim.Native.Nat.{ℕ, zero, suc, _+_, _-_, _*_, _/_, _%_, _^_, _≤_, _<_}
 use native.Mathlib.Omega.{arith}
 use native.Mathlib.Numerals.{add-one, sub-one}
 use native.Mathlib.Nat.{add-zero, zero-add, add-suc, suc-add, mod-lt, div-add-mod', div-lt-iff-lt-mul, pow-succ', pow-le-pow-right}
-use lib.ListN.{length, getD, take, drop, set, length-append, length-drop}
+use lib.ListN.{length, getD, take, drop, set, replicate, length-append, length-drop}
 use lib.Seq.{sets, take-suc, getD-drop}
 use Rattle.base.specs.Numbers.{Bytes, spelled, number, octets}
 use Rattle.base.proofs.ListLaws.{sets-snoc, sets-set}
@@ -38,6 +38,17 @@ pub length-octets : (k n : ℕ) → length (octets k n) ≡ k
 unfolding octets
 length-octets zero n = refl
 length-octets (suc k) n = rw (length-append, length-octets k (n / 256)) (add-one k)
+
+-- bytes joined are bytes, and those of a number are
+pub bytes-append : (xs ys : List ℕ) → Bytes xs → Bytes ys → Bytes (xs ++ ys)
+unfolding Bytes
+bytes-append [] ys b c = c
+bytes-append (x ∷ xs) ys (h, b) c = (h, bytes-append xs ys b c)
+
+pub octets-bytes : (k n : ℕ) → Bytes (octets k n)
+unfolding octets Bytes
+octets-bytes zero n = tt
+octets-bytes (suc k) n = bytes-append (octets k (n / 256)) (n % 256 ∷ []) (octets-bytes k (n / 256)) (mod-lt n {m = 256} (omega arith), tt)
 
 -- storing the bytes of a number, the last first
 pub store-last : (s : List ℕ) (at j rest : ℕ) → 0 < j
@@ -87,6 +98,17 @@ unfolding Bytes
 bytes-drop zero xs b = b
 bytes-drop (suc k) [] b = tt
 bytes-drop (suc k) (x ∷ xs) (h, b) = bytes-drop k xs b
+
+pub bytes-set : (l : List ℕ) (i x : ℕ) → Bytes l → x < 256 → Bytes (set l i x)
+unfolding Bytes
+bytes-set [] i x b h = b
+bytes-set (y ∷ l) zero x (_, b) h = (h, b)
+bytes-set (y ∷ l) (suc i) x (g, b) h = (g, bytes-set l i x b h)
+
+pub bytes-zeros : (k : ℕ) → Bytes (replicate k 0)
+unfolding Bytes
+bytes-zeros zero = tt
+bytes-zeros (suc k) = (omega arith, bytes-zeros k)
 
 spelled-below : (j v : ℕ) (xs : List ℕ) → Bytes xs → v < 256 ^ j → spelled v xs < 256 ^ (j + length xs)
 unfolding Bytes spelled

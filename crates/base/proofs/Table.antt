@@ -4,9 +4,10 @@
 use mathlib.Core.Path.{_≡_, _∙_, subst, sym}
 use mathlib.Core.Bool.{Bool, true, false, _&&_}
 use mathlib.Core.List.{List, [], _∷_}
-use Prim.Native.Nat.{ℕ, zero, suc, _+_, _<_}
+use Prim.Native.Nat.{ℕ, zero, suc, _+_, _^_, _<_}
 use native.Mathlib.Nat.{add-zero, zero-add, add-suc, suc-add, le-of-suc-le-suc, not-suc-le-zero}
-use lib.Dec.{T, eqb, eqb→eq}
+use native.Mathlib.Omega.{arith}
+use lib.Dec.{T, eqb, ltb, eqb→eq, ltb→lt}
 use lib.ListN.{length, getD}
 use Rattle.base.proofs.Conds.{and-left, and-right}
 
@@ -38,3 +39,15 @@ rows f w t ok k m hk hm =
     let test : T (passes f w k row) = at [] (passes f w) t ok k hk in
     let long : length row ≡ w = eqb→eq (length row) w (and-left (eqb (length row) w) (every 0 (f k) 0 row) test) in
     at 0 (f k) row (and-right (eqb (length row) w) (every 0 (f k) 0 row) test) m (subst (λ (n : ℕ). m < n) (sym long) hm)
+
+-- ---- a table whose entries are bytes: each fits a wider number
+
+abbrev pub byte : ℕ → Bool
+byte n = ltb n 256
+
+pub entry-fits : (l : List ℕ) → T (every 0 (λ k. byte) 0 l) → (k : ℕ) → k < length l → getD l k 0 < 2 ^ 64
+entry-fits l ok k h = let low = ltb→lt (getD l k 0) 256 (at 0 (λ k. byte) l ok k h) in omega arith
+
+pub cell-fits : (w : ℕ) (t : List (List ℕ)) → T (every [] (passes (λ k m. byte) w) 0 t)
+    → (k m : ℕ) → k < length t → m < w → getD (getD t k []) m 0 < 2 ^ 64
+cell-fits w t ok k m hk hm = let low = ltb→lt (getD (getD t k []) m 0) 256 (rows (λ k m. byte) w t ok k m hk hm) in omega arith

@@ -1,6 +1,8 @@
 pub mod Shift
 pub mod Cut
 pub mod Counting
+pub mod Few
+pub mod MadeBytes
 pub mod Written
 pub mod Pieces
 pub mod Theorem

@@ -1,6 +1,7 @@
--- Which number build answers, and what it leaves: `exactly`, `untouched`, `once`, `stands` and `reads-back`.
+-- Which number build answers, and what it leaves: `exactly`, `no-message`, `untouched`, `once`, `stands`; what it makes reads back and is made
+-- again of its own parts: `reads-back`, `givable`, `rebuilds`.
 -- Assumes nothing.
-use Prim.Native.Nat.{ℕ, zero, suc, _+_, _^_, _<_, _≤_}
+use Prim.Native.Nat.{ℕ, zero, suc, _+_, _-_, _^_, _<_, _≤_}
 use mathlib.Core.Path.{_≡_, refl, sym, ap, subst, subst⁻¹, _∙_}
 use mathlib.Core.List.{List, [], _∷_, _++_}
 use mathlib.Core.Logic.{_↔_}
@@ -8,30 +9,51 @@ use mathlib.Core.Option.{Option, none, some}
 use native.Mathlib.Omega.{arith}
 use lib.Dec.{ltb}
 use lib.ListN.{length, take, drop}
-use lib.Seq.{sets, sets-eq, take-at}
-use borrow.Author.Tests.{ltb-true, ltb-false}
+use lib.Seq.{sets, sets-eq, take-at, take-all}
+use borrow.Author.Tests.{lt-ltb, le-ltb, ltb-true, ltb-false}
+use Rattle.base.specs.Numbers.{Bytes}
 use Rattle.base.proofs.Conds.{by-test, cond-cases}
+use Rattle.ring.specs.Ring.{run}
 use Rattle.wire.specs.Instances.{instances}
 use Rattle.rows.specs.Spoken.{speaks}
 use Rattle.messages.specs.Matching.{Value, Matches}
 use Rattle.build.specs.declared.Built.{Built}
 use Rattle.build.specs.Made.{onSome, encoded}
 use Rattle.build.specs.Building.{Told, told, refused, allGiven, given, bytesOf, handed, buildOf}
-use Rattle.build.specs.Theorem.{numbersOf, runsOf, Slices}
-use Rattle.build.specs.Numbers.{Exactly, Untouched, Once, Stands, ReadsBack}
+use Rattle.build.specs.Theorem.{numbersOf, runsOf, Slices, OwnLeast}
+use Rattle.build.specs.Numbers.{Exactly, NoMessage, Untouched, Once, Stands, ReadsBack, Givable, Rebuilds}
 use Rattle.build.proofs.Counting.{Found}
+use Rattle.build.proofs.Few.{form-few, runs-counted}
+use Rattle.build.proofs.MadeBytes.{AllBytes, encoded-bytes}
+use Rattle.build.proofs.Pieces.{message-made}
 use Rattle.build.proofs.Theorem.{read-back}
 
--- a lent slice is as long as a number of 64 bits says
-slices : (runs : ℕ) (first second : List ℕ) → length first < 2 ^ 64 → length second < 2 ^ 64 → Slices (take runs (first ∷ second ∷ []))
-slices zero first second h l = tt
-slices (suc zero) first second h l = (h, tt)
-slices (suc (suc zero)) first second h l = (h, (l, tt))
-slices (suc (suc (suc n))) first second h l = (h, (l, tt))
-
-given-slices : (runs : ℕ) (first second : List ℕ) → length first < 2 ^ 64 → length second < 2 ^ 64 → Found Slices (given runs first second)
+-- what holds of no runs, of the first and of both holds of those given
+given-each : (P : List (List ℕ) → Type 0) (runs : ℕ) (first second : List ℕ) → P [] → P (first ∷ []) → P (first ∷ second ∷ [])
+    → Found P (given runs first second)
 unfolding given
-given-slices runs first second h l = cond-cases (Found Slices) (allGiven runs first second) (λ _. slices runs first second h l) (λ _. tt)
+given-each P runs first second x y z = cond-cases (Found P) (allGiven runs first second) (λ _. of runs) (λ _. tt)
+  where
+    of : (n : ℕ) → P (take n (first ∷ second ∷ []))
+    of zero = x
+    of (suc zero) = y
+    of (suc (suc zero)) = z
+    of (suc (suc (suc n))) = z
+
+-- a lent slice is as long as a number of 64 bits says
+given-slices : (runs : ℕ) (first second : List ℕ) → length first < 2 ^ 64 → length second < 2 ^ 64 → Found Slices (given runs first second)
+given-slices runs first second h l = given-each Slices runs first second tt (h, tt) (h, (l, tt))
+
+given-bytes : (runs : ℕ) (first second : List ℕ) → Bytes first → Bytes second → Found AllBytes (given runs first second)
+given-bytes runs first second h l = given-each AllBytes runs first second tt (h, tt) (h, (l, tt))
+
+-- two runs can be given
+two-given : (rs : List (List ℕ)) → length rs ≤ 2 → (runs : ℕ) × (first : List ℕ) × (second : List ℕ) × (given runs first second ≡ some rs)
+unfolding given
+two-given [] h = (0, [], [], refl)
+two-given (r ∷ []) h = (1, r, [], refl)
+two-given (r ∷ (s ∷ [])) h = (2, r, s, refl)
+two-given (r ∷ (s ∷ (t ∷ rs))) h = absurd (omega arith)
 
 module _ (i kind : ℕ) (ns : List ℕ) (runs : ℕ) (first second buf : List ℕ) where
   abbrev out : Told
@@ -99,6 +121,45 @@ module _ (i kind : ℕ) (ns : List ℕ) (runs : ℕ) (first second buf : List �
   n0 (short h bs m l e) = (λ q. absurd (omega (arith, numbered 18 e)), λ (_, (cs, w, k)). absurd (omega (arith, same bs cs m w)))
   n0 (made h bs m l e) = (λ q. (h, (bs, m, l)), λ q. zeroed bs e)
 
+  -- the bytes are a message that says these parts, with own heads as short as can be
+  abbrev Back : List ℕ → Option (List (List ℕ)) → Type 0
+  Back bs o = (xs : List Value) × (m : Matches (speaks i) bs kind xs) × (numbersOf xs ≡ ns) × (o ≡ some (runsOf bs xs)) × OwnLeast m
+
+  -- the message that was made of these runs
+  back-by : (o : Option (List (List ℕ))) (bs : List ℕ) → Found Slices o → onSome o (λ rs. encoded (speaks i) kind ns rs) ≡ some bs → Back bs o
+  back-by none bs fit e = absurd (let z : _≡_ {A = ℕ} 0 1 = cc in omega arith)
+  back-by (some rs) bs fit e = let r = read-back (speaks i) kind ns rs bs fit e in (r .0, r .1, r .2, ap some (sym (r .3)), r .4)
+
+  bytes-by : (o : Option (List (List ℕ))) (bs : List ℕ) → Found AllBytes o → onSome o (λ rs. encoded (speaks i) kind ns rs) ≡ some bs → Bytes bs
+  bytes-by none bs fit e = absurd (let z : _≡_ {A = ℕ} 0 1 = cc in omega arith)
+  bytes-by (some rs) bs fit e = subst (Found Bytes) e (encoded-bytes (speaks i) kind ns rs fit)
+
+  -- no bytes are a message that says these parts
+  abbrev Nothing : Type 0
+  Nothing =
+      (bs : List ℕ) (xs : List Value) → Bytes bs → Matches (speaks i) bs kind xs → numbersOf xs ≡ ns
+      → given runs first second ≡ some (runsOf bs xs) → ⊥
+
+  none-made : message ≡ none → Nothing
+  unfolding bytesOf
+  none-made e bs xs bytes m n g =
+      let again = message-made bs (speaks i) bytes m in
+      let same : message ≡ some (again .0) = rw (g, ← n) (again .1) in
+      apart (again .0) same e
+
+  module _ (bf : Bytes first) (bs : Bytes second) (h : length first < 2 ^ 64) (l : length second < 2 ^ 64) where
+    something : (cs : List ℕ) → message ≡ some cs → Nothing → ⊥
+    unfolding bytesOf
+    something cs e nowhere =
+        let r = back-by (given runs first second) cs (given-slices runs first second h l) e in
+        nowhere cs (r .0) (bytes-by (given runs first second) cs (given-bytes runs first second bf bs) e) (r .1) (r .2) (r .3)
+
+    fifteen : Way → (number ≡ 15) ↔ ((i < instances) × Nothing)
+    fifteen (above h e) = (λ q. absurd (omega (arith, numbered 10 e)), λ q. absurd (omega (arith, q .0)))
+    fifteen (unmade h m e) = (λ q. (h, none-made m), λ q. numbered 15 e)
+    fifteen (short h cs m l e) = (λ q. absurd (omega (arith, numbered 18 e)), λ q. absurd (something cs m (q .1)))
+    fifteen (made h cs m l e) = (λ q. absurd (omega (arith, zeroed cs e)), λ q. absurd (something cs m (q .1)))
+
   module _ (b : Built) (after : List ℕ) (is : told b after ≡ out) where
     as-was : (n : ℕ) → out ≡ refused buf n → (b .len ≡ 0) × (after ≡ buf)
     as-was n e = (ap (λ (x : Told). x .built .len) (is ∙ e), ap (λ (x : Told). x .buffer) (is ∙ e))
@@ -124,24 +185,28 @@ module _ (i kind : ℕ) (ns : List ℕ) (runs : ℕ) (first second buf : List �
           ap (λ (x : Told). x .buffer) (is ∙ e) ∙ sets-eq bs buf 0 (omega arith) ∙ ap (λ (n : ℕ). bs ++ drop n buf) at,
         )
 
-    -- the message that was made of these runs
-    back-by : (o : Option (List (List ℕ))) (bs : List ℕ) → kind < 2 ^ 64 → Found Slices o → onSome o (λ rs. encoded (speaks i) kind ns rs) ≡ some bs
-        → (xs : List Value) × Matches (speaks i) bs kind xs × (numbersOf xs ≡ ns) × (o ≡ some (runsOf bs xs))
-    back-by none bs small fit e = absurd (let z : _≡_ {A = ℕ} 0 1 = cc in omega arith)
-    back-by (some rs) bs small fit e = let r = read-back (speaks i) kind ns rs bs small fit e in (r .0, r .1, r .2, ap some (sym (r .3)))
-
-    reads-by : kind < 2 ^ 64 → length first < 2 ^ 64 → length second < 2 ^ 64 → b .number ≡ 0
-        → (xs : List Value) × Matches (speaks i) (take (b .len) after) kind xs × (numbersOf xs ≡ ns)
-        × (given runs first second ≡ some (runsOf (take (b .len) after) xs))
+    reads-by : length first < 2 ^ 64 → length second < 2 ^ 64 → b .number ≡ 0 → Back (take (b .len) after) (given runs first second)
     unfolding bytesOf
-    reads-by small h l z =
+    reads-by h l z =
         let s = stands-by way z in
         let bs : List ℕ = s .0 in
         let front : take (b .len) after ≡ bs = ap (take (b .len)) (s .3) ∙ take-at bs (drop (length bs) buf) (b .len) (sym (s .2)) in
-        subst⁻¹
-        (λ (cs : List ℕ). (xs : List Value) × Matches (speaks i) cs kind xs × (numbersOf xs ≡ ns) ×
-        (given runs first second ≡ some (runsOf cs xs))) front
-        (back-by (given runs first second) bs small (given-slices runs first second h l) (s .1))
+        subst⁻¹ (λ (cs : List ℕ). Back cs (given runs first second)) front
+        (back-by (given runs first second) bs (given-slices runs first second h l) (s .1))
+
+    -- the message cs is made, and there is room
+    made-again : (cs : List ℕ) → i < instances → message ≡ some cs → length cs ≤ length buf
+        → (b .number ≡ 0) × (b .len ≡ length cs) × (take (b .len) after ≡ cs)
+    unfolding buildOf
+    made-again cs low e room =
+        let q : told b after ≡ told (record { number = 0; len = length cs }) (sets buf 0 cs) =
+        is ∙ rw (lt-ltb i instances low, e, le-ltb (length buf) (length cs) room) in
+        let n : b .len ≡ length cs = ap (λ (x : Told). x .built .len) q in (
+          ap (λ (x : Told). x .built .number) q,
+          n,
+          ap (take (b .len)) (ap (λ (x : Told). x .buffer) q ∙ sets-eq cs buf 0 (omega arith))
+              ∙ take-at cs (drop (0 + length cs) buf) (b .len) (sym n),
+        )
 
 pub exactly : Exactly
 exactly i kind ns runs first second buf =
@@ -164,4 +229,25 @@ pub stands : Stands
 stands i kind ns runs first second buf b after q z = stands-by i kind ns runs first second buf b after q (way i kind ns runs first second buf) z
 
 pub reads-back : ReadsBack
-reads-back i kind ns runs first second buf b after small h l q z = reads-by i kind ns runs first second buf b after q small h l z
+reads-back i kind ns runs first second buf b after h l q z = reads-by i kind ns runs first second buf b after q h l z
+
+pub no-message : NoMessage
+no-message i kind ns runs first second buf bf bs h l =
+    fifteen i kind ns runs first second buf bf bs h l (way i kind ns runs first second buf)
+
+pub givable : Givable
+givable p bs kind xs m = two-given (runsOf bs xs) (omega (arith, runs-counted bs (m .matched), form-few p kind (m .form) .runs))
+
+pub rebuilds : Rebuilds
+unfolding bytesOf
+rebuilds i kind bs xs runs first second buf b after low bytes m g room q =
+    let again = message-made bs (speaks i) bytes m in
+    let cs : List ℕ = again .0 in
+    let e : bytesOf i kind (numbersOf xs) runs first second ≡ some cs = rw g (again .1) in
+    let shorter : length cs ≤ length bs - 0 = again .2 .no-longer in
+    let r = made-again i kind (numbersOf xs) runs first second buf b after q cs low e (omega arith) in
+    let all : run bs 0 (length bs - 0) ≡ bs = take-all (length bs - 0) bs (omega arith) in (
+      r .0,
+      omega (arith, r .1),
+      (λ e. again .2 .same .0 (sym (r .2) ∙ e ∙ sym all), λ s. r .2 ∙ again .2 .same .1 s ∙ all),
+    )

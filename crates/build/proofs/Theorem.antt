@@ -1,49 +1,56 @@
--- T9: what is made of parts reads back. Each field stands where it is put, so that the fields stand one after the other.
+-- T9: what is made of parts reads back, with own heads as short as can be. Each field stands where it is put, so that the fields
+-- stand one after the other.
 -- Assumes nothing.
-use Prim.Native.Nat.{ℕ, _+_, _^_, _≤_, _<_}
+use Prim.Native.Nat.{ℕ, _+_, _-_, _^_, _<_}
 use mathlib.Core.Path.{_≡_, refl, sym, ap, subst, _∙_}
-use mathlib.Core.Bool.{Bool, true, _&&_}
 use mathlib.Core.List.{List, [], _∷_, _++_, append-assoc}
 use mathlib.Core.Option.{Option, none, some}
 use native.Mathlib.Omega.{arith}
-use lib.Dec.{T, eqb, leb, leb→le}
 use lib.ListN.{length, length-append}
-use Rattle.base.proofs.Conds.{cond-cases, and-left, and-right}
+use Rattle.base.proofs.Conds.{cond-cases}
 use Rattle.head.specs.declared.read.Head.the-variants.{Definite}
 use Rattle.head.specs.Write.{shortest}
 use Rattle.head.proofs.WriteLaws.{reads-back}
 use Rattle.rows.specs.declared.Protocol.{Protocol}
-use Rattle.rows.specs.declared.Protocol.the-variants.{Handshake, ChainSync, BlockFetch, TxSubmission, KeepAlive}
 use Rattle.messages.specs.declared.forms.Field.{Field}
-use Rattle.messages.specs.Forms.{Form, forms, formIn, formOf}
-use Rattle.messages.specs.Matching.{Value, number, place, FieldAt, FieldsAt, no-field, a-field, Matches, array}
+use Rattle.messages.specs.Forms.{formOf}
+use Rattle.messages.specs.Matching.{Value, number, place, FieldsAt, no-field, a-field, Matches, array}
 use Rattle.build.specs.Made.{onSome, ofNumber, ofRun, numeric, firstOf, allUsed, made, encoded}
-use Rattle.build.specs.Theorem.{numbersOf, runsOf, Slices, ReadsBack}
+use Rattle.build.specs.Theorem.{numbersOf, runsOf, Slices, FieldsLeast, OwnLeast, ReadsBack}
 use Rattle.build.proofs.Counting.{Found, some-cases}
-use Rattle.build.proofs.Written.{number-says, run-holds}
+use Rattle.build.proofs.Few.{Few, form-few}
+use Rattle.build.proofs.Written.{LeastAt, run-there, number-says, run-holds}
+
+-- the fields stand there, and their own heads are as short as can be
+abbrev FieldsLeastAt : List ℕ → List Field → ℕ → List Value → ℕ → Type 0
+FieldsLeastAt bs fs p xs q = (s : FieldsAt bs fs p xs q) × FieldsLeast s
 
 -- one field in front of others
 step : (f : Field) (fs : List Field) (x : Value) (values : List Value) (xs cs ys : List ℕ)
-    → FieldAt (xs ++ (cs ++ ys)) f (length xs) x (length xs + length cs)
-    → FieldsAt ((xs ++ cs) ++ ys) fs (length (xs ++ cs)) values (length (xs ++ cs) + length ys)
-    → FieldsAt (xs ++ (cs ++ ys)) (f ∷ fs) (length xs) (x ∷ values) (length xs + length (cs ++ ys))
+    → LeastAt (xs ++ (cs ++ ys)) f (length xs) x (length xs + length cs)
+    → FieldsLeastAt ((xs ++ cs) ++ ys) fs (length (xs ++ cs)) values (length (xs ++ cs) + length ys)
+    → FieldsLeastAt (xs ++ (cs ++ ys)) (f ∷ fs) (length xs) (x ∷ values) (length xs + length (cs ++ ys))
 step f fs x values xs cs ys here rest =
     let front : length (xs ++ cs) ≡ length xs + length cs = length-append xs cs in
     let next : length (xs ++ cs) + length ys ≡ length xs + length (cs ++ ys) = omega (arith, front, length-append cs ys) in
-    a-field here
-    (subst (λ (q : ℕ). FieldsAt (xs ++ (cs ++ ys)) fs (length xs + length cs) values q) next
-    (subst (λ (p : ℕ). FieldsAt (xs ++ (cs ++ ys)) fs p values (length (xs ++ cs) + length ys)) front
-    (subst (λ (bs : List ℕ). FieldsAt bs fs (length (xs ++ cs)) values (length (xs ++ cs) + length ys)) (append-assoc xs cs ys) rest)))
+    let moved : FieldsLeastAt (xs ++ (cs ++ ys)) fs (length xs + length cs) values (length xs + length (cs ++ ys)) =
+    subst (λ (q : ℕ). FieldsLeastAt (xs ++ (cs ++ ys)) fs (length xs + length cs) values q) next
+    (subst (λ (p : ℕ). FieldsLeastAt (xs ++ (cs ++ ys)) fs p values (length (xs ++ cs) + length ys)) front
+    (subst (λ (bs : List ℕ). FieldsLeastAt bs fs (length (xs ++ cs)) values (length (xs ++ cs) + length ys)) (append-assoc xs cs ys) rest)) in
+    (a-field (here .0) (moved .0), (here .1, moved .1))
 
 -- the bytes are the fields, which say these numbers and hold these runs, wherever they stand
 abbrev Say : List Field → List ℕ → List (List ℕ) → List ℕ → Type 0
 Say fs ns rs cs =
     (xs : List ℕ)
-    → (values : List Value) × FieldsAt (xs ++ cs) fs (length xs) values (length xs + length cs) × (numbersOf values ≡ ns) × (runsOf (xs ++ cs) values ≡ rs)
+    → (values : List Value) × FieldsLeastAt (xs ++ cs) fs (length xs) values (length xs + length cs) × (numbersOf values ≡ ns)
+    × (runsOf (xs ++ cs) values ≡ rs)
 
 none-say : (ns : List ℕ) (rs : List (List ℕ)) → Found (Say [] ns rs) (allUsed ns rs)
 none-say [] [] =
-    λ xs. let z : length xs ≡ length xs + 0 = omega arith in ([], subst (λ (q : ℕ). FieldsAt (xs ++ []) [] (length xs) [] q) z no-field, refl, refl)
+    λ xs.
+    let z : length xs ≡ length xs + 0 = omega arith in
+    ([], subst (λ (q : ℕ). FieldsLeastAt (xs ++ []) [] (length xs) [] q) z (no-field, tt), refl, refl)
 none-say [] (r ∷ rs) = tt
 none-say (n ∷ ns) rs = tt
 
@@ -84,7 +91,8 @@ of-numbers : (f : Field) (fs : List Field) (ns : List ℕ) (rs : List (List ℕ)
 of-numbers f fs [] rs rest = tt
 of-numbers f fs (v ∷ ns) rs rest = number-step f fs v ns rs (rest ns)
 
-of-runs : (f : Field) (fs : List Field) (ns : List ℕ) (rs : List (List ℕ)) → Slices rs → ((rs : List (List ℕ)) → Slices rs → Found (Say fs ns rs) (made fs ns rs))
+of-runs : (f : Field) (fs : List Field) (ns : List ℕ) (rs : List (List ℕ)) → Slices rs
+    → ((rs : List (List ℕ)) → Slices rs → Found (Say fs ns rs) (made fs ns rs))
     → Found (Say (f ∷ fs) ns rs) (firstOf rs (λ r rs. onSome (ofRun f r) (λ xs. onSome (made fs ns rs) (λ ys. some (xs ++ ys)))))
 of-runs f fs ns [] fit rest = tt
 of-runs f fs ns (r ∷ rs) (small, fit) rest = run-step f fs r ns rs small (rest rs fit)
@@ -97,72 +105,54 @@ fields-say (f ∷ fs) ns rs fit =
     (λ _. of-numbers f fs ns rs (λ ns. fields-say fs ns rs fit))
     (λ _. of-runs f fs ns rs fit (λ rs fit. fields-say fs ns rs fit))
 
--- no form has more than three fields
-few : List Form → Bool
-few [] = true
-few (f ∷ fs) = leb (length (f .fields)) 3 && few fs
-
-few-found : (k : ℕ) (l : List Form) → T (few l) → Found (λ fs. length fs ≤ 3) (formIn k l)
-unfolding few formIn
-few-found k [] t = tt
-few-found k (f ∷ l) t =
-    cond-cases (Found (λ fs. length fs ≤ 3)) (eqb (f .kind) k)
-    (λ _. leb→le (length (f .fields)) 3 (and-left (leb (length (f .fields)) 3) (few l) t))
-    (λ _. few-found k l (and-right (leb (length (f .fields)) 3) (few l) t))
-
-few-all : (p : Protocol) → T (few (forms p))
-unfolding few
-few-all Handshake = tt
-few-all ChainSync = tt
-few-all BlockFetch = tt
-few-all TxSubmission = tt
-few-all KeepAlive = tt
-
 -- ---- the message
 
 abbrev Back : Protocol → ℕ → List ℕ → List (List ℕ) → List ℕ → Type 0
-Back p kind ns rs bs = (xs : List Value) × Matches p bs kind xs × (numbersOf xs ≡ ns) × (runsOf bs xs ≡ rs)
+Back p kind ns rs bs = (xs : List Value) × (m : Matches p bs kind xs) × (numbersOf xs ≡ ns) × (runsOf bs xs ≡ rs) × OwnLeast m
 
-message-back : (p : Protocol) (kind : ℕ) (ns : List ℕ) (rs : List (List ℕ)) (fs : List Field) (ys : List ℕ) → formOf p kind ≡ some fs → length fs ≤ 3
-    → kind < 2 ^ 64 → Say fs ns rs ys → Back p kind ns rs (shortest array (length fs + 1) ++ (shortest 0 kind ++ ys))
-message-back p kind ns rs fs ys form few small say =
+message-back : (p : Protocol) (kind : ℕ) (ns : List ℕ) (rs : List (List ℕ)) (fs : List Field) (ys : List ℕ) → formOf p kind ≡ some fs
+    → Say fs ns rs ys → Back p kind ns rs (shortest array (length fs + 1) ++ (shortest 0 kind ++ ys))
+message-back p kind ns rs fs ys form say =
     let h : List ℕ = shortest array (length fs + 1) in
     let k : List ℕ = shortest 0 kind in
+    let few : Few kind fs = form-few p kind form in
     let s = say (h ++ k) in
     let same : (h ++ k) ++ ys ≡ h ++ (k ++ ys) = append-assoc h k ys in
     let front : length (h ++ k) ≡ length h + length k = length-append h k in
     let begin : 0 + length h ≡ length h = omega arith in
-    let all : length (h ++ k) + length ys ≡ length (h ++ (k ++ ys)) = omega (arith, front, length-append h (k ++ ys), length-append k ys) in (
+    let all : length (h ++ k) + length ys ≡ length (h ++ (k ++ ys)) = omega (arith, front, length-append h (k ++ ys), length-append k ys) in
+    let fields : FieldsLeastAt (h ++ (k ++ ys)) fs (length h + length k) (s .0) (length (h ++ (k ++ ys))) =
+    subst (λ (q : ℕ). FieldsLeastAt (h ++ (k ++ ys)) fs (length h + length k) (s .0) q) all
+    (subst (λ (p : ℕ). FieldsLeastAt (h ++ (k ++ ys)) fs p (s .0) (length (h ++ k) + length ys)) front
+    (subst (λ (bs : List ℕ). FieldsLeastAt bs fs (length (h ++ k)) (s .0) (length (h ++ k) + length ys)) same (s .1))) in (
       s .0,
       record {
         fields = fs;
         first = length h;
         second = length h + length k;
         form = form;
-        opens = reads-back array (length fs + 1) [] (k ++ ys) (omega arith) (omega arith) ∙ ap (Definite array (length fs + 1)) begin;
-        named = reads-back 0 kind h ys (omega arith) small;
-        matched =
-            subst (λ (q : ℕ). FieldsAt (h ++ (k ++ ys)) fs (length h + length k) (s .0) q) all
-            (subst (λ (p : ℕ). FieldsAt (h ++ (k ++ ys)) fs p (s .0) (length (h ++ k) + length ys)) front
-            (subst (λ (bs : List ℕ). FieldsAt bs fs (length (h ++ k)) (s .0) (length (h ++ k) + length ys)) same (s .1)));
+        opens = reads-back array (length fs + 1) [] (k ++ ys) (omega arith) (omega (arith, few .fields)) ∙ ap (Definite array (length fs + 1)) begin;
+        named = reads-back 0 kind h ys (omega arith) (omega (arith, few .kinds));
+        matched = fields .0;
       },
       s .2,
       ap (λ (bs : List ℕ). runsOf bs (s .0)) (sym same) ∙ s .3,
+      (run-there [] h (k ++ ys) (length h - 0) (omega arith), (run-there h k ys (length h + length k - length h) (omega arith), fields .1)),
     )
 
-known : {A : Type 0} (R : A → Type 0) (o : Option A) → Found R o → Found (λ a. (o ≡ some a) × R a) o
-known R none r = tt
-known R (some a) r = (refl, r)
+known : {A : Type 0} (o : Option A) → Found (λ a. o ≡ some a) o
+known none = tt
+known (some a) = refl
 
-encoded-back : (p : Protocol) (kind : ℕ) (ns : List ℕ) (rs : List (List ℕ)) → kind < 2 ^ 64 → Slices rs → Found (Back p kind ns rs) (encoded p kind ns rs)
+encoded-back : (p : Protocol) (kind : ℕ) (ns : List ℕ) (rs : List (List ℕ)) → Slices rs → Found (Back p kind ns rs) (encoded p kind ns rs)
 unfolding encoded
-encoded-back p kind ns rs small fit =
+encoded-back p kind ns rs fit =
     let P : Option (List ℕ) → Type 0 = Found (Back p kind ns rs) in
     some-cases P (λ fs. onSome (made fs ns rs) (λ ys. some (shortest array (length fs + 1) ++ (shortest 0 kind ++ ys)))) (formOf p kind)
-    (known (λ fs. length fs ≤ 3) (formOf p kind) (few-found kind (forms p) (few-all p))) tt
-    (λ fs (e, h).
+    (known (formOf p kind)) tt
+    (λ fs e.
     some-cases P (λ ys. some (shortest array (length fs + 1) ++ (shortest 0 kind ++ ys))) (made fs ns rs) (fields-say fs ns rs fit) tt
-    (λ ys say. message-back p kind ns rs fs ys e h small say))
+    (λ ys say. message-back p kind ns rs fs ys e say))
 
 pub read-back : ReadsBack
-read-back p kind ns rs bs small fit e = subst (Found (Back p kind ns rs)) e (encoded-back p kind ns rs small fit)
+read-back p kind ns rs bs fit e = subst (Found (Back p kind ns rs)) e (encoded-back p kind ns rs fit)

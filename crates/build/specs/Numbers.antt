@@ -5,12 +5,14 @@ use mathlib.Core.List.{List, _++_}
 use mathlib.Core.Logic.{_↔_}
 use mathlib.Core.Option.{none, some}
 use lib.ListN.{length, take, drop}
+use Rattle.base.specs.Numbers.{Bytes}
 use Rattle.wire.specs.Instances.{instances}
+use Rattle.rows.specs.declared.Protocol.{Protocol}
 use Rattle.rows.specs.Spoken.{speaks}
 use Rattle.messages.specs.Matching.{Value, Matches}
 use Rattle.build.specs.declared.Built.{Built}
 use Rattle.build.specs.Building.{told, given, bytesOf, buildOf}
-use Rattle.build.specs.Theorem.{numbersOf, runsOf}
+use Rattle.build.specs.Theorem.{numbersOf, runsOf, OwnLeast}
 
 -- T2: 10 if the instance is above the last; 15 if kind or parts make no message; 18 if the buffer is shorter than the message; else 0
 pub record Numbers (i kind : ℕ) (ns : List ℕ) (runs : ℕ) (first second buf : List ℕ) : Type 0 where
@@ -44,12 +46,38 @@ Stands =
     → told b after ≡ buildOf i kind ns runs first second buf → b .number ≡ 0
     → (bs : List ℕ) × (bytesOf i kind ns runs first second ≡ some bs) × (b .len ≡ length bs) × (after ≡ bs ++ drop (length bs) buf)
 
--- T9 of the operation: what is then at the front is a message of this kind that says these numbers and has these runs at its places.
--- Kind and lengths of slices are numbers of 64 bits.
+-- T9 of the operation: what is then at the front is a message of this kind that says these numbers and has these runs at its
+-- places, with own heads as short as can be. Lengths of slices are numbers of 64 bits.
 abbrev pub ReadsBack : Type 0
 ReadsBack =
     (i kind : ℕ) (ns : List ℕ) (runs : ℕ) (first second buf : List ℕ) (b : Built) (after : List ℕ)
-    → kind < 2 ^ 64 → length first < 2 ^ 64 → length second < 2 ^ 64
+    → length first < 2 ^ 64 → length second < 2 ^ 64
     → told b after ≡ buildOf i kind ns runs first second buf → b .number ≡ 0
-    → (xs : List Value) × Matches (speaks i) (take (b .len) after) kind xs × (numbersOf xs ≡ ns)
-    × (given runs first second ≡ some (runsOf (take (b .len) after) xs))
+    → (xs : List Value) × (m : Matches (speaks i) (take (b .len) after) kind xs) × (numbersOf xs ≡ ns)
+    × (given runs first second ≡ some (runsOf (take (b .len) after) xs)) × OwnLeast m
+
+-- The other way: the bytes at a message's places can be given as runs, since no form has more than two of them,
+abbrev pub Givable : Type 0
+Givable =
+    (p : Protocol) (bs : List ℕ) (kind : ℕ) (xs : List Value) → Matches p bs kind xs
+    → (runs : ℕ) × (first : List ℕ) × (second : List ℕ) × (given runs first second ≡ some (runsOf bs xs))
+
+-- and build of these and of the message's own kind and numbers answers 0 in any buffer of at least its length. What it makes
+-- is no longer than the message, and equal to it exactly if the message's own heads are as short as can be.
+abbrev pub Rebuilds : Type 0
+Rebuilds =
+    (i kind : ℕ) (bs : List ℕ) (xs : List Value) (runs : ℕ) (first second buf : List ℕ) (b : Built) (after : List ℕ)
+    → i < instances → Bytes bs → (m : Matches (speaks i) bs kind xs) → given runs first second ≡ some (runsOf bs xs)
+    → length bs ≤ length buf → told b after ≡ buildOf i kind (numbersOf xs) runs first second buf
+    → (b .number ≡ 0) × (b .len ≤ length bs) × ((take (b .len) after ≡ bs) ↔ OwnLeast m)
+
+-- T2 of 15, told without what build makes: the runs are slices of bytes, and no bytes are a message of this kind that says
+-- these numbers and has these runs at its places
+abbrev pub NoMessage : Type 0
+NoMessage =
+    (i kind : ℕ) (ns : List ℕ) (runs : ℕ) (first second buf : List ℕ)
+    → Bytes first → Bytes second → length first < 2 ^ 64 → length second < 2 ^ 64
+    → (buildOf i kind ns runs first second buf .built .number ≡ 15)
+    ↔ ((i < instances)
+    × ((bs : List ℕ) (xs : List Value) → Bytes bs → Matches (speaks i) bs kind xs → numbersOf xs ≡ ns
+    → given runs first second ≡ some (runsOf bs xs) → ⊥))

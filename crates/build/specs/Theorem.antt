@@ -30,12 +30,6 @@ abbrev pub Slices : List (List ℕ) → Type 0
 Slices [] = Unit {0}
 Slices (r ∷ rs) = (length r < 2 ^ 64) × Slices rs
 
--- What is made of parts is a message of this kind that says these numbers and has these runs at its places.
-abbrev pub ReadsBack : Type 0
-ReadsBack =
-    (p : Protocol) (kind : ℕ) (ns : List ℕ) (rs : List (List ℕ)) (bs : List ℕ) → kind < 2 ^ 64 → Slices rs → encoded p kind ns rs ≡ some bs
-    → (xs : List Value) × Matches p bs kind xs × (numbersOf xs ≡ ns) × (runsOf bs xs ≡ rs)
-
 -- The head from place p up to place q, of major type m and argument v, is as short as can be.
 abbrev pub Least : List ℕ → ℕ → ℕ → ℕ → ℕ → Type 0
 Least bs m v p q = run bs p (q - p) ≡ shortest m v
@@ -60,6 +54,13 @@ FieldsLeast (a-field x r) = FieldLeast x × FieldsLeast r
 abbrev pub OwnLeast : {p : Protocol} {bs : List ℕ} {kind : ℕ} {xs : List Value} → Matches p bs kind xs → Type 0
 OwnLeast {bs = bs} {kind = kind} m =
     Least bs array (length (m .fields) + 1) 0 (m .first) × (Least bs 0 kind (m .first) (m .second) × FieldsLeast (m .matched))
+
+-- What is made of parts is a message of this kind that says these numbers and has these runs at its places, with own heads as
+-- short as can be.
+abbrev pub ReadsBack : Type 0
+ReadsBack =
+    (p : Protocol) (kind : ℕ) (ns : List ℕ) (rs : List (List ℕ)) (bs : List ℕ) → Slices rs → encoded p kind ns rs ≡ some bs
+    → (xs : List Value) × (m : Matches p bs kind xs) × (numbersOf xs ≡ ns) × (runsOf bs xs ≡ rs) × OwnLeast m
 
 -- What is made of a message's own parts: a message of this kind that says the same numbers and has the same runs, no
 -- longer than the one given, and equal to it if and only if that one's own heads are as short as can be.

@@ -1,10 +1,14 @@
 // The bytes of a message: its own heads as short as can be, and the runs as they are.
+//
+// Each contract says how long they are, or every byte that the buffer then holds: nothing else is written.
 use super::parts::after_run;
 use super::parts::is_number;
-use messages::elements::ARRAY;
-use messages::elements::MAP;
-use messages::elements::UNSIGNED;
+use head::ARRAY;
+use head::MAP;
+use head::SIMPLE;
+use head::UNSIGNED;
 use messages::forms::Field;
+use messages::forms::MOST_FIELDS;
 ghost use mathlib.Core.Path.{_≡_};
 ghost use Prim.Native.Nat.{_+_, _≤_, _<_};
 ghost use lib.Dec.{leb};
@@ -12,9 +16,6 @@ ghost use lib.ListN.{length};
 ghost use lib.Seq.{sets};
 ghost use Rattle.messages.specs.Inside.{formCount, formAt};
 ghost use Rattle.build.specs.Inside.{headless, majorOf, headOf, headLength, tailOf, runAt, Put, pieceOf, bodyOf, headsOf, allHeads, wholeOf};
-
-// The major type of a bool.
-const SIMPLE: u8 = 7;
 
 // An item has no head of ours.
 fn is_headless(f: Field) -> bool
@@ -57,7 +58,7 @@ fn head_len(f: Field, argument: u64) -> usize
 }
 
 // How long the fields' heads are together.
-fn field_heads(row: usize, arguments: [u64; 3]) -> usize
+fn field_heads(row: usize, arguments: [u64; MOST_FIELDS]) -> usize
     requires { ⌜ row < formCount ⌝ }
     ensures { λ r. ⌜ (r ≡ headsOf (formAt row .fields) arguments 0) × (r ≤ 27) ⌝ }
 {
@@ -72,7 +73,7 @@ fn field_heads(row: usize, arguments: [u64; 3]) -> usize
 }
 
 // How long all heads of the message are together: the array's, the kind's and the fields'.
-pub fn heads(row: usize, kind: u64, arguments: [u64; 3]) -> usize
+pub fn heads(row: usize, kind: u64, arguments: [u64; MOST_FIELDS]) -> usize
     requires { ⌜ row < formCount ⌝ }
     ensures { λ r. ⌜ (r ≡ allHeads (formAt row .fields) kind arguments) × (r ≤ 45) ⌝ }
 {
@@ -150,7 +151,7 @@ fn put_fields(
     buf: &mut [u8],
     start: usize,
     row: usize,
-    arguments: [u64; 3],
+    arguments: [u64; MOST_FIELDS],
     first: &[u8],
     second: &[u8],
 )
@@ -170,7 +171,14 @@ fn put_fields(
 }
 
 // The message at the front of the buffer.
-pub fn put(buf: &mut [u8], row: usize, kind: u64, arguments: [u64; 3], first: &[u8], second: &[u8])
+pub fn put(
+    buf: &mut [u8],
+    row: usize,
+    kind: u64,
+    arguments: [u64; MOST_FIELDS],
+    first: &[u8],
+    second: &[u8],
+)
     requires { ⌜ (row < formCount) × (length (wholeOf (now first) (now second) (formAt row .fields) kind arguments) ≤ length (now buf)) ⌝ }
     ensures { λ _. ⌜ now (buf .exit) ≡ sets (now (buf .entry)) 0 (wholeOf (now (first .entry)) (now (second .entry)) (formAt row .fields) kind arguments) ⌝ }
 {

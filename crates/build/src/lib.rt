@@ -6,6 +6,7 @@ mod layout;
 mod parts;
 
 use messages::forms::Listed;
+use messages::forms::MOST_FIELDS;
 use wire::instances::INSTANCES;
 ghost use mathlib.Core.Path.{_≡_};
 ghost use mathlib.Core.Bool.{true};
@@ -21,36 +22,34 @@ pub struct Built {
     pub len: usize,
 }
 
-// Makes a message at the front of the lent buffer, from its kind, its numbers and so many runs: none, the first, or both.
-// A run that is not given is empty.
-pub fn build(
-    instance: u64,
+// A refusal writes nothing.
+fn refused(number: u64) -> Built
+    ensures { λ r. ⌜ r ≡ refusal number ⌝ }
+{
+    Built { number, len: 0 }
+}
+
+// The message of these arguments, if the buffer is long enough for its heads and runs.
+fn hand(
+    row: usize,
     kind: u64,
-    numbers: &[u64],
-    runs: u64,
+    arguments: [u64; MOST_FIELDS],
     first: &[u8],
     second: &[u8],
     buf: &mut [u8],
 ) -> Built
-    ensures { λ r. ⌜ told r (now (buf .exit)) ≡ buildOf instance kind (now (numbers .entry)) runs (now (first .entry)) (now (second .entry)) (now (buf .entry)) ⌝ }
+    requires { ⌜ (row < formCount) × HeadsAndRuns (now first) (now second) (formAt row .fields) kind arguments ⌝ }
+    ensures { λ r. ⌜ told r (now (buf .exit)) ≡ handed (now (buf .entry)) (some (wholeOf (now (first .entry)) (now (second .entry)) (formAt row .fields) kind arguments)) ⌝ }
 {
-    if INSTANCES as u64 <= instance {
-        return refuse(10);
+    let heads = layout::heads(row, kind, arguments);
+    if !layout::fits(buf.len(), heads, first.len(), second.len()) {
+        return refused(18);
     }
-    if !parts::are_given(runs, first, second) {
-        return refuse(15);
+    layout::put(buf, row, kind, arguments, first, second);
+    Built {
+        number: 0,
+        len: heads + first.len() + second.len(),
     }
-    let form = messages::forms::find(rows::spoken::protocol(instance as usize), kind);
-    match form {
-        Listed::Row(row) => build_form(row, kind, numbers, runs, first, second, buf),
-        Listed::Unknown => refuse(15),
-    }
-}
-
-fn refuse(number: u64) -> Built
-    ensures { λ r. ⌜ r ≡ refusal number ⌝ }
-{
-    Built { number, len: 0 }
 }
 
 // A message of the form in a row.
@@ -68,31 +67,34 @@ fn build_form(
 {
     let plan = parts::judge(row, numbers, runs, first, second);
     if !plan.made {
-        return refuse(15);
+        return refused(15);
     }
     let arguments = plan.arguments;
     hand(row, kind, arguments, first, second, buf)
 }
 
-// The message of these arguments, if the buffer is long enough for its heads and runs.
-fn hand(
-    row: usize,
+// Makes a message at the front of the lent buffer, from its kind, its numbers and so many runs: none, the first, or both.
+// A run that is not given is empty.
+pub fn build(
+    instance: u64,
     kind: u64,
-    arguments: [u64; 3],
+    numbers: &[u64],
+    runs: u64,
     first: &[u8],
     second: &[u8],
     buf: &mut [u8],
 ) -> Built
-    requires { ⌜ (row < formCount) × HeadsAndRuns (now first) (now second) (formAt row .fields) kind arguments ⌝ }
-    ensures { λ r. ⌜ told r (now (buf .exit)) ≡ handed (now (buf .entry)) (some (wholeOf (now (first .entry)) (now (second .entry)) (formAt row .fields) kind arguments)) ⌝ }
+    ensures { λ r. ⌜ told r (now (buf .exit)) ≡ buildOf instance kind (now (numbers .entry)) runs (now (first .entry)) (now (second .entry)) (now (buf .entry)) ⌝ }
 {
-    let heads = layout::heads(row, kind, arguments);
-    if !layout::fits(buf.len(), heads, first.len(), second.len()) {
-        return refuse(18);
+    if INSTANCES as u64 <= instance {
+        return refused(10);
     }
-    layout::put(buf, row, kind, arguments, first, second);
-    Built {
-        number: 0,
-        len: heads + first.len() + second.len(),
+    if !parts::are_given(runs, first, second) {
+        return refused(15);
+    }
+    let form = messages::forms::find(rows::spoken::protocol(instance as usize), kind);
+    match form {
+        Listed::Row(row) => build_form(row, kind, numbers, runs, first, second, buf),
+        Listed::Unknown => refused(15),
     }
 }

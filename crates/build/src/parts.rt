@@ -5,9 +5,10 @@ use messages::elements::End;
 use messages::elements::IN_LIST;
 use messages::elements::IN_MESSAGE;
 use messages::elements::Number;
-use messages::elements::VERSIONS;
-use messages::elements::WORDS;
+use messages::elements::VERSION_LIMIT;
+use messages::elements::WORD_LIMIT;
 use messages::forms::Field;
+use messages::forms::MOST_FIELDS;
 ghost use mathlib.Core.Path.{_≡_};
 ghost use mathlib.Core.Bool.{cond};
 ghost use mathlib.Core.Option.{none, some};
@@ -35,11 +36,11 @@ pub enum Element {
 // The arguments of all fields, in their order, if the parts make a message; 0 where there is none.
 pub struct Plan {
     pub made: bool,
-    pub arguments: [u64; 3],
+    pub arguments: [u64; MOST_FIELDS],
 }
 
-// The first of the two simple values that are bools.
-const FALSE: u64 = 20;
+// False is simple value 20, and true the next.
+const FALSE_ARGUMENT: u64 = 20;
 
 // At most two runs are given, and what is lent above their count is empty.
 pub fn are_given(runs: u64, first: &[u8], second: &[u8]) -> bool
@@ -65,6 +66,7 @@ pub fn is_number(f: Field) -> bool
     }
 }
 
+// An argument that a test lets pass.
 fn argument_if(test: bool, a: u64) -> Argument
     ensures { λ r. ⌜ argued r ≡ cond test (some a) none ⌝ }
 {
@@ -79,7 +81,7 @@ fn bool_argument(v: u64) -> Argument
     ensures { λ r. ⌜ argued r ≡ numberArgument Field.Bool v ⌝ }
 {
     if v < 2 {
-        return Argument::Is(FALSE + v);
+        return Argument::Is(FALSE_ARGUMENT + v);
     }
     Argument::Wrong
 }
@@ -93,9 +95,9 @@ fn of_number(f: Field, v: u64) -> Argument
         Field::Items => Argument::Wrong,
         Field::Pairs => Argument::Wrong,
         Field::Versions => Argument::Wrong,
-        Field::Word => argument_if(v < WORDS, v),
+        Field::Word => argument_if(v < WORD_LIMIT, v),
         Field::Bool => bool_argument(v),
-        Field::Version => argument_if(v < VERSIONS, v),
+        Field::Version => argument_if(v < VERSION_LIMIT, v),
     }
 }
 
@@ -109,6 +111,7 @@ fn end_number(e: End) -> Number
     }
 }
 
+// The next item of a list, and the next pair [item, size].
 fn next_item(run: &[u8], at: usize) -> Number
     ensures { λ r. ⌜ r ≡ nextItem (now (run .entry)) 0 at ⌝ }
 {
@@ -132,6 +135,7 @@ fn next_version(run: &[u8], low: u64, at: usize) -> Number
     }
 }
 
+// The next element of either kind of list, or of a map, where the one before left this.
 fn next_element(e: Element, run: &[u8], left: u64, at: usize) -> Number
     ensures { λ r. ⌜ r ≡ nextOf e (now (run .entry)) left at ⌝ }
 {
@@ -187,7 +191,7 @@ fn of_run(f: Field, run: &[u8]) -> Argument
     }
 }
 
-// The argument of a field that is given by number n, or by run r.
+// The argument of a field that is given by number n, and by run r.
 fn at_number(f: Field, numbers: &[u64], n: usize) -> Argument
     ensures { λ r. ⌜ argued r ≡ numberAt (now (numbers .entry)) f n ⌝ }
 {
@@ -209,6 +213,7 @@ fn at_run(f: Field, runs: u64, first: &[u8], second: &[u8], r: usize) -> Argumen
     of_run(f, second)
 }
 
+// The same by what the field is given by.
 fn of_field(
     f: Field,
     numbers: &[u64],
@@ -253,12 +258,12 @@ fn unmade() -> Plan
 {
     Plan {
         made: false,
-        arguments: [0u64; 3],
+        arguments: [0u64; MOST_FIELDS],
     }
 }
 
 // The arguments, if nothing is left over.
-fn all_used(arguments: [u64; 3], used: bool) -> Plan
+fn all_used(arguments: [u64; MOST_FIELDS], used: bool) -> Plan
     ensures { λ r. ⌜ planOf r ≡ cond used (some arguments) none ⌝ }
 {
     if used {
@@ -276,7 +281,7 @@ pub fn judge(row: usize, numbers: &[u64], runs: u64, first: &[u8], second: &[u8]
     ensures { λ r. ⌜ planOf r ≡ planned (now (numbers .entry)) runs (now (first .entry)) (now (second .entry)) (formAt row .fields) 0 0 0 nothing ⌝ }
 {
     let count = messages::forms::fields(row);
-    let mut arguments = [0u64; 3];
+    let mut arguments = [0u64; MOST_FIELDS];
     let mut n: usize = 0;
     let mut r: usize = 0;
     let mut i: usize = 0;

@@ -1,16 +1,18 @@
 -- What any head does to a walk: one law for each way out of the code.
 -- Assumes nothing.
-use Prim.Native.Nat.{ℕ, _+_, _*_, _-_, _≤_, _<_, _/_, _%_}
+use Prim.Native.Nat.{ℕ, _+_, _*_, _-_, _^_, _≤_, _<_, _/_, _%_}
 use mathlib.Core.List.{List, _++_}
 use mathlib.Core.Bool.{Bool, true, false, cond}
 use mathlib.Core.Option.{none, some}
 use mathlib.Core.Path.{_≡_, refl, sym, ap, ap₂, subst, _∙_}
 use lib.Dec.{ltb, leb, eqb}
-use lib.ListN.{length, drop, getD, length-append, length-drop, List·getD-append}
+use lib.ListN.{length, take, drop, getD, length-append, length-drop, List·getD-append}
 use lib.Seq.{drop-append-le}
 use native.Mathlib.Omega.{arith}
 use borrow.Author.Tests.{ltb-true}
+use Rattle.base.specs.Numbers.{number}
 use Rattle.base.proofs.Conds.{cond-cases}
+use Rattle.ring.specs.Ring.{run}
 use Rattle.head.specs.Initial.{initial, openOf}
 use Rattle.head.specs.declared.Major.{Major}
 use Rattle.head.specs.declared.Major.the-variants.{Number, Bytes, Text, Array, Map, Tag}
@@ -22,7 +24,7 @@ use Rattle.item.specs.Verdict.{Stack, push, alone}
 use Rattle.item.proofs.Exact.{clash}
 use Rattle.cbor.specs.declared.Level.{Level}
 use Rattle.cbor.specs.Walk.{frameOf, tell, Good}
-use Rattle.cbor.specs.Inside.Frames.{kept, spent, Holds, begins, breakable, roomFor, mayBegin, number}
+use Rattle.cbor.specs.Inside.Frames.{kept, spent, Holds, begins, breakable, roomFor, mayBegin}
 use Rattle.cbor.specs.Inside.Moves.{Stays, Downs, Skips, Stops, Leaves, Asked, Doubles}
 use Rattle.cbor.proofs.Tell.{tell-none, tell-one, tell-content, tell-string, tell-argument, tell-cut, tell-high, tell-low}
 use Rattle.cbor.proofs.Tell.{tell-no-second, number-more}
@@ -47,13 +49,13 @@ module _ (zs : List ℕ) (at h d : ℕ) (f : Frame) (fs : Stack) (l : at < lengt
 
   pub long-head : (m : Major) (j : ℕ) → initial (getD zs at 0) ≡ Long m j → begins f d (Long m j) ≡ some (Argument m 0 j) → j < length zs - (at + 1)
       → tell zs at h (push d f fs)
-      ≡ tell zs (at + 1 + (j + 1)) (h + 1) (push (d - 1) (content m (number 0 (j + 1) (drop (at + 1) zs))) (push d (kept f) fs))
+      ≡ tell zs (at + 1 + (j + 1)) (h + 1) (push (d - 1) (content m (number (run zs (at + 1) (j + 1)))) (push d (kept f) fs))
   long-head m j e p q = later (Long m j) (Argument m 0 j) e p refl ∙ tell-argument zs (at + 1) h j 0 (d - 1) m (push d (kept f) fs) q
 
 -- the argument lies in the bytes that are there
-pub number-here : (xs ys : List ℕ) (p j : ℕ) → p + j ≤ length xs → number 0 j (drop p (xs ++ ys)) ≡ number 0 j (drop p xs)
+pub number-here : (xs ys : List ℕ) (p j : ℕ) → p + j ≤ length xs → number (run (xs ++ ys) p j) ≡ number (run xs p j)
 number-here xs ys p j h =
-    ap (number 0 j) (drop-append-le p xs ys (omega arith)) ∙ number-more j 0 (drop p xs) ys (omega (arith, length-drop p xs))
+    ap (λ (bs : List ℕ). number (take j bs)) (drop-append-le p xs ys (omega arith)) ∙ number-more j (drop p xs) ys (omega (arith, length-drop p xs))
 
 module _ (xs : List ℕ) (at k c d : ℕ) (l : at < length xs) (s : 0 < k + c) where
   -- a head in one byte
@@ -64,7 +66,7 @@ module _ (xs : List ℕ) (at k c d : ℕ) (l : at < length xs) (s : 0 < k + c) w
 
   -- a head with its argument
   pub asked-long : (m : Major) (j : ℕ) → initial (getD xs at 0) ≡ Long m j → mayBegin k d m ≡ true → j < length xs - (at + 1)
-      → Asked xs at k c d (content m (number 0 (j + 1) (drop (at + 1) xs))) (at + 1 + (j + 1))
+      → Asked xs at k c d (content m (number (run xs (at + 1) (j + 1)))) (at + 1 + (j + 1))
   asked-long m j e p q ys fs h =
       long-head (xs ++ ys) at h (nesting - d) (frameOf k c) fs (longer xs ys at l) (level-holds k c) (level-unspent k c s) m j
       (here xs ys at l e) (may-long k c d m j p) (omega (arith, length-append xs ys))
@@ -205,7 +207,7 @@ module _ (xs : List ℕ) (at k c d : ℕ) (l : at < length xs) (s : 0 < k + c) w
               ∙ left (xs ++ ys) (length xs) (h + 1) (λ gs. push 0 (Content w) gs) fs;
         }
 
-    pub goes-down : (p : ℕ) (a : Frame) (i : Level) → at < p → p ≤ length xs → k < 4 → d < 17 → Good (i .kind) (i .count) (d + 1)
+    pub goes-down : (p : ℕ) (a : Frame) (i : Level) → at < p → p ≤ length xs → k < 4 → d < nesting + 1 → Good (i .kind) (i .count) (d + 1)
         → ((zs : List ℕ) (h : ℕ) (fs : Stack)
         → tell zs p h (push (nesting - d - 1) a fs) ≡ tell zs p h (push (nesting - d - 1) (frameOf (i .kind) (i .count)) fs))
         → Asked xs at k c d a p → Downs xs at k c d p o i
@@ -252,19 +254,19 @@ module _ (xs : List ℕ) (at k c d : ℕ) (l : at < length xs) (s : 0 < k + c) w
         (record { tall = omega arith; low = λ a b. absurd (omega arith); none = λ a. refl })
 
     pub open-array : initial (getD xs at 0) ≡ Indefinite Array → k < 4 → roomFor Array d ≡ true
-        → Downs xs at k c d (at + 1) o (record { kind = 2; count = 9223372036854775808 })
+        → Downs xs at k c d (at + 1) o (record { kind = 2; count = 2 ^ 63 })
     unfolding indefinite
     open-array i hk r =
         let z = ltb-true d nesting r in
-        opens Array Elements (record { kind = 2; count = 9223372036854775808 }) i hk r refl refl
+        opens Array Elements (record { kind = 2; count = 2 ^ 63 }) i hk r refl refl
         (record { tall = omega arith; low = λ a b. omega arith; none = λ a. absurd (omega arith) })
 
     pub open-map : initial (getD xs at 0) ≡ Indefinite Map → k < 4 → roomFor Map d ≡ true
-        → Downs xs at k c d (at + 1) o (record { kind = 3; count = 9223372036854775808 })
+        → Downs xs at k c d (at + 1) o (record { kind = 3; count = 2 ^ 63 })
     unfolding indefinite
     open-map i hk r =
         let z = ltb-true d nesting r in
-        opens Map Pairs (record { kind = 3; count = 9223372036854775808 }) i hk r refl refl
+        opens Map Pairs (record { kind = 3; count = 2 ^ 63 }) i hk r refl refl
         (record { tall = omega arith; low = λ a b. omega arith; none = λ a. absurd (omega arith) })
 
 -- An argument has at most eight bytes.

@@ -1,6 +1,6 @@
 -- Frames of items and of chunks: how a head moves them, and what a level stands for.
 -- Assumes nothing.
-use Prim.Native.Nat.{ℕ, zero, suc, _+_, _*_, _-_, _≤_, _<_, _%_}
+use Prim.Native.Nat.{ℕ, zero, suc, _+_, _*_, _-_, _^_, _≤_, _<_, _%_}
 use mathlib.Core.List.{List}
 use mathlib.Core.Bool.{Bool, true, false, cond, not}
 use mathlib.Core.Option.{Option, none, some}
@@ -174,7 +174,7 @@ spent-cond false = refl
 pub level-unspent : (k c : ℕ) → 0 < k + c → spent (frameOf k c) ≡ false
 level-unspent zero c h = sym (items-spent c) ∙ ne-eqb c 0 (λ (e : c ≡ 0). omega arith)
 level-unspent (suc zero) c h =
-    sym (items-spent (c + 18446744073709551616)) ∙ ne-eqb (c + 18446744073709551616) 0 (λ (e : c + 18446744073709551616 ≡ 0). omega arith)
+    sym (items-spent (c + 2 ^ 64)) ∙ ne-eqb (c + 2 ^ 64) 0 (λ (e : c + 2 ^ 64 ≡ 0). omega arith)
 level-unspent (suc (suc zero)) c h = refl
 level-unspent (suc (suc (suc zero))) c h = spent-cond (eqb (c % 2) 0)
 level-unspent (suc (suc (suc (suc zero)))) c h = refl
@@ -237,7 +237,7 @@ pairs-less c h = of (eqb (c % 2) 0) (eqb ((c - 1) % 2) 0) refl refl
 
 pub level-less : (k c : ℕ) → 0 < c → frameOf k (c - 1) ≡ kept (frameOf k c)
 level-less zero c h = items-less c h
-level-less (suc zero) c h = ap Items (omega arith) ∙ items-less (c + 18446744073709551616) (omega arith)
+level-less (suc zero) c h = ap Items (omega arith) ∙ items-less (c + 2 ^ 64) (omega arith)
 level-less (suc (suc zero)) c h = refl
 level-less (suc (suc (suc zero))) c h = pairs-less c h
 level-less (suc (suc (suc (suc zero)))) c h = refl
@@ -248,21 +248,21 @@ leaves-some k c h n =
     record { frame = level-less k c h; low = λ l. (l, omega arith); high = λ l. l; none = λ l. let z : c ≡ 0 = n l in omega arith }
 
 -- a count of 2^64 items runs out, and one that goes up to a break begins anew
-huge-frame : (k c : ℕ) → k ≡ 1 → c ≡ 0 → frameOf 0 18446744073709551615 ≡ kept (frameOf k c)
-huge-frame k c e z = rw (e, z) (ap Items (omega arith) ∙ items-less (0 + 18446744073709551616) (omega arith))
+huge-frame : (k c : ℕ) → k ≡ 1 → c ≡ 0 → frameOf 0 (2 ^ 64 - 1) ≡ kept (frameOf k c)
+huge-frame k c e z = rw (e, z) (ap Items (omega arith) ∙ items-less (0 + 2 ^ 64) (omega arith))
 
-pub leaves-huge : (k c : ℕ) → c ≡ 0 → k ≡ 1 → Leaves k c (record { kind = 0; count = 18446744073709551615 })
+pub leaves-huge : (k c : ℕ) → c ≡ 0 → k ≡ 1 → Leaves k c (record { kind = 0; count = 2 ^ 64 - 1 })
 leaves-huge k c z e =
     record { frame = huge-frame k c e z; low = λ l. (omega arith, omega arith); high = λ l. omega arith; none = λ l. absurd (omega arith) }
 
-anew-frame : (k : ℕ) → k < 4 → 0 < k → (k ≡ 1 → ⊥) → frameOf k 18446744073709551615 ≡ kept (frameOf k 0)
+anew-frame : (k : ℕ) → k < 4 → 0 < k → (k ≡ 1 → ⊥) → frameOf k (2 ^ 64 - 1) ≡ kept (frameOf k 0)
 anew-frame zero h p n = absurd (omega arith)
 anew-frame (suc zero) h p n = absurd (n refl)
 anew-frame (suc (suc zero)) h p n = refl
 anew-frame (suc (suc (suc zero))) h p n = refl
 anew-frame (suc (suc (suc (suc k)))) h p n = absurd (omega arith)
 
-pub leaves-anew : (k c : ℕ) → c ≡ 0 → 0 < k + c → k < 4 → (k ≡ 1 → ⊥) → Leaves k c (record { kind = k; count = 18446744073709551615 })
+pub leaves-anew : (k c : ℕ) → c ≡ 0 → 0 < k + c → k < 4 → (k ≡ 1 → ⊥) → Leaves k c (record { kind = k; count = 2 ^ 64 - 1 })
 leaves-anew k c z p h n =
     record {
       frame = anew-frame k h (omega arith) n ∙ ap (λ (j : ℕ). kept (frameOf k j)) (sym z);
@@ -286,16 +286,16 @@ leaves-chunk k c h = record { frame = chunk-frame k c h; low = λ l. absurd (ome
 pub doubles-small : (v : ℕ) → Doubles v (record { kind = 0; count = v * 2 })
 doubles-small v = record { frame = refl; items = omega arith }
 
-pub doubles-huge : (v : ℕ) → 9223372036854775808 ≤ v → Doubles v (record { kind = 1; count = (v - 9223372036854775808) * 2 })
+pub doubles-huge : (v : ℕ) → 2 ^ 63 ≤ v → Doubles v (record { kind = 1; count = (v - 2 ^ 63) * 2 })
 doubles-huge v h = record { frame = ap Items (omega arith); items = omega arith }
 
 -- Within the nesting there is room, or there is none.
 within-some : (d : ℕ) (g : Frame) → ltb d nesting ≡ true → within (nesting - d) g ≡ some g
 within-some d g p =
-    let h : d < 16 = ltb-true d 16 p in let e : 16 - d ≡ suc (15 - d) = omega arith in ap (λ (n : ℕ). within n g) e
+    let h : d < nesting = ltb-true d nesting p in let e : nesting - d ≡ suc (nesting - 1 - d) = omega arith in ap (λ (n : ℕ). within n g) e
 
 within-none : (d : ℕ) (g : Frame) → ltb d nesting ≡ false → within (nesting - d) g ≡ none
-within-none d g p = let h : 16 ≤ d = ltb-false d 16 p in let e : 16 - d ≡ 0 = omega arith in ap (λ (n : ℕ). within n g) e
+within-none d g p = let h : nesting ≤ d = ltb-false d nesting p in let e : nesting - d ≡ 0 = omega arith in ap (λ (n : ℕ). within n g) e
 
 pub room-some : (m : Major) (d : ℕ) (g : Frame) → roomFor m d ≡ true → nest m (nesting - d) g ≡ some g
 unfolding nest

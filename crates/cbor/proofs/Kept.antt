@@ -5,19 +5,15 @@ use mathlib.Core.List.{List, [], _++_, append-nil, append-assoc}
 use mathlib.Core.Path.{_≡_, refl, sym, ap, ap₂, subst, subst⁻¹, _∙_}
 use lib.ListN.{drop, getD, replicate}
 use native.Mathlib.Omega.{arith}
+use Rattle.base.proofs.ListLaws.{zeros}
 use Rattle.item.specs.declared.Verdict.{Verdict}
 use Rattle.item.specs.Grammar.{One, Items, no-more, nesting}
 use Rattle.item.specs.Verdict.{Stack, nil, push, judge, start, verdict, headsOf}
 use Rattle.item.proofs.Derivative.{Rest, then}
 use Rattle.item.proofs.Parts.{judge-same}
 use Rattle.cbor.specs.declared.Walk.{Walk}
-use Rattle.cbor.specs.Walk.{frameOf, levels, stackOf, tell, comes, Sound, Resumed, firstAt, Kept}
+use Rattle.cbor.specs.Walk.{frameOf, levels, stackOf, tell, comes, Sound, Resumed, firstAt}
 use Rattle.cbor.proofs.Tell.{pair, tell-one, tell-empty}
-
-noughts : (n i : ℕ) → _≡_ {A = ℕ} (getD (replicate n 0) i 0) 0
-noughts zero i = refl
-noughts (suc n) zero = refl
-noughts (suc n) (suc i) = noughts n i
 
 pub first-sound : (at d : ℕ) → Sound (firstAt at d)
 unfolding firstAt
@@ -25,16 +21,16 @@ first-sound at d =
     record {
       few = omega arith;
       good = record { tall = omega arith; low = λ a b. omega arith; none = λ a. absurd (omega arith) };
-      outer = record { kinds-size = refl; counts-size = refl; each = λ i h. rw (noughts 17 i) (omega arith) };
+      outer = record { kinds-size = refl; counts-size = refl; each = λ i h. rw (zeros (nesting + 1) i) (omega arith) };
     }
 
 -- the levels around a walk that begins want nothing
 abbrev empty : ℕ → Stack
-empty n = levels (replicate 17 0) (replicate 17 0) n
+empty n = levels (replicate (nesting + 1) 0) (replicate (nesting + 1) 0) n
 
 empty-top : (n : ℕ) → empty (suc n) ≡ push (nesting - n) (Items zero) (empty n)
 unfolding levels
-empty-top n = ap₂ (λ (i j : ℕ). push (nesting - n) (frameOf i j) (empty n)) (noughts 17 n) (noughts 17 n)
+empty-top n = ap₂ (λ (i j : ℕ). push (nesting - n) (frameOf i j) (empty n)) (zeros (nesting + 1) n) (zeros (nesting + 1) n)
 
 spent-rest : {d : ℕ} {fs : Stack} {bs : List ℕ} → Rest (push d (Items zero) fs) bs → Rest fs bs
 spent-rest (then no-more q) = q
@@ -71,7 +67,12 @@ unfolding firstAt stackOf levels
 first-comes xs =
     tell-empty xs 0 0 0 (push nesting (Items 1) nil) ∙ sym (tell-one xs 0 0 nesting nil) ∙ pair refl (omega arith)
 
--- Such a walk may be kept; it stays one when it is taken up again, and when bytes come.
+-- Of a message whose first bytes are xs, the walk w will come to what a walk from the start comes to, whatever bytes
+-- come after: it may be kept instead of reading them again (document 02, K5).
+abbrev pub Kept : List ℕ → Walk → Type 0
+Kept xs w = (ys : List ℕ) → comes (xs ++ ys) w ≡ (verdict (xs ++ ys), headsOf (xs ++ ys))
+
+-- The first walk may be kept; it stays one when it is taken up again, and when bytes come.
 pub kept-first : (xs : List ℕ) → Kept xs (firstAt 0 nesting)
 kept-first xs ys = first-comes (xs ++ ys)
 

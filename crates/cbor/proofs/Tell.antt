@@ -1,24 +1,23 @@
 -- What is told of bytes from a place on, byte by byte and then by contents and arguments: the base of all that a walk
 -- by heads rests on.
 -- Assumes nothing.
-use Prim.Native.Nat.{ℕ, zero, suc, _+_, _*_, _-_, _^_, _≤_, _<_}
+use Prim.Native.Nat.{ℕ, zero, suc, _+_, _*_, _-_, _≤_, _<_}
 use mathlib.Core.List.{List, [], _∷_, _++_}
 use mathlib.Core.Bool.{Bool, false, cond}
 use mathlib.Core.Option.{none, some}
 use mathlib.Core.Path.{_≡_, refl, sym, ap, ap₂, _∙_}
-use lib.ListN.{length, drop, getD, length-drop, drop-of-length-le}
-use lib.Seq.{drop-cons, drop-drop}
+use lib.ListN.{length, take, drop, getD, length-drop, drop-of-length-le}
+use lib.Seq.{drop-cons, drop-drop, take-append-le}
 use native.Mathlib.Omega.{arith}
-use native.Mathlib.Nat.{pow-le-pow-right, pow-succ'}
 use native.Mathlib.Numerals.{add-one}
 use borrow.Author.Tests.{le-leb, lt-leb}
+use Rattle.base.specs.Numbers.{spelled, number}
 use Rattle.head.specs.declared.Major.{Major}
 use Rattle.item.specs.declared.Verdict.{Verdict}
 use Rattle.item.specs.declared.Verdict.the-variants.{Whole, Bad, Incomplete}
 use Rattle.item.specs.Grammar.{Items, Content, Second, Argument, One, content}
 use Rattle.item.specs.Verdict.{Stack, nil, push, step, met, tally, onward, counting, judge, heads}
 use Rattle.cbor.specs.Walk.{tell}
-use Rattle.cbor.specs.Inside.Frames.{number}
 
 -- the same of the bytes themselves
 abbrev pub say : List ℕ → ℕ → ℕ → Stack → Verdict × ℕ
@@ -103,15 +102,15 @@ unfolding judge heads met step tally
 say-digit x bs at h d m v k fs = pair refl (omega arith)
 
 say-argument : (k : ℕ) (bs : List ℕ) (at h d : ℕ) (m : Major) (v : ℕ) (fs : Stack) → k < length bs
-    → say bs at h (push d (Argument m v k) fs) ≡ say (drop (suc k) bs) (at + suc k) (h + 1) (push d (content m (number v (suc k) bs)) fs)
-unfolding number
+    → say bs at h (push d (Argument m v k) fs) ≡ say (drop (suc k) bs) (at + suc k) (h + 1) (push d (content m (spelled v (take (suc k) bs))) fs)
+unfolding spelled
 say-argument zero [] at h d m v fs l = absurd (omega arith)
 say-argument zero (x ∷ bs) at h d m v fs l =
     say-last x bs at h d m v fs ∙ ap (λ (n : ℕ). say bs n (h + 1) (push d (content m (v * 256 + x)) fs)) (omega arith)
 say-argument (suc k) [] at h d m v fs l = absurd (omega arith)
 say-argument (suc k) (x ∷ bs) at h d m v fs l =
     say-digit x bs at h d m v k fs ∙ say-argument k bs (suc at) h d m (v * 256 + x) fs (omega arith)
-    ∙ ap (λ (n : ℕ). say (drop (suc k) bs) n (h + 1) (push d (content m (number (v * 256 + x) (suc k) bs)) fs)) (omega arith)
+    ∙ ap (λ (n : ℕ). say (drop (suc k) bs) n (h + 1) (push d (content m (spelled (v * 256 + x) (take (suc k) bs))) fs)) (omega arith)
 
 say-cut : (k : ℕ) (bs : List ℕ) (at h d : ℕ) (m : Major) (v : ℕ) (fs : Stack) → length bs ≤ k
     → say bs at h (push d (Argument m v k) fs) ≡ (Incomplete, h)
@@ -166,11 +165,11 @@ module _ (zs : List ℕ) (at h : ℕ) where
       ∙ say-empty (drop (at + v) zs) (at + v) h d fs
 
   pub tell-argument : (k v d : ℕ) (m : Major) (fs : Stack) → k < length zs - at
-      → tell zs at h (push d (Argument m v k) fs) ≡ tell zs (at + (k + 1)) (h + 1) (push d (content m (number v (k + 1) (drop at zs))) fs)
+      → tell zs at h (push d (Argument m v k) fs) ≡ tell zs (at + (k + 1)) (h + 1) (push d (content m (spelled v (take (k + 1) (drop at zs)))) fs)
   tell-argument k v d m fs l =
       say-argument k (drop at zs) at h d m v fs (omega (arith, length-drop at zs))
-      ∙ ap (λ (bs : List ℕ). say bs (at + suc k) (h + 1) (push d (content m (number v (suc k) (drop at zs))) fs)) (drop-drop (suc k) at zs)
-      ∙ ap (λ (j : ℕ). tell zs (at + j) (h + 1) (push d (content m (number v j (drop at zs))) fs)) (sym (add-one k))
+      ∙ ap (λ (bs : List ℕ). say bs (at + suc k) (h + 1) (push d (content m (spelled v (take (suc k) (drop at zs)))) fs)) (drop-drop (suc k) at zs)
+      ∙ ap (λ (j : ℕ). tell zs (at + j) (h + 1) (push d (content m (spelled v (take j (drop at zs)))) fs)) (sym (add-one k))
 
   pub tell-cut : (k v d : ℕ) (m : Major) (fs : Stack) → length zs - at ≤ k → tell zs at h (push d (Argument m v k) fs) ≡ (Incomplete, h)
   tell-cut k v d m fs l = say-cut k (drop at zs) at h d m v fs (omega (arith, length-drop at zs))
@@ -196,23 +195,5 @@ module _ (zs : List ℕ) (at h : ℕ) where
   tell-starved (suc v) d fs l p = tell-end (push d (Content (suc v)) fs) l refl
 
 -- An argument that is there stays as it is when more bytes come.
-pub number-more : (k v : ℕ) (bs ys : List ℕ) → k ≤ length bs → number v k (bs ++ ys) ≡ number v k bs
-unfolding number
-number-more zero v bs ys h = refl
-number-more (suc k) v [] ys h = absurd (omega arith)
-number-more (suc k) v (x ∷ bs) ys h = number-more k (v * 256 + x) bs ys (omega arith)
-
--- One byte more of it, and that it fits into 64 bits.
-pub number-step : (xs : List ℕ) (v at i k : ℕ) → i ≤ k → at + i < length xs
-    → number v (k + 1 - i) (drop (at + i) xs) ≡ number (v * 256 + getD xs (at + i) 0) (k + 1 - (i + 1)) (drop (at + (i + 1)) xs)
-number-step xs v at i k h l =
-    let e : k + 1 - i ≡ suc (k - i) = omega arith in
-    let e′ : k + 1 - (i + 1) ≡ k - i = omega arith in
-    let e″ : at + (i + 1) ≡ suc (at + i) = omega arith in
-    rw (e, e′, e″, drop-cons xs (at + i) 0 l) (unfold number in refl)
-
-pub number-fits : (i v : ℕ) → v < 256 ^ i → i ≤ 7 → v * 256 + 255 < 2 ^ 64
-number-fits i v h k = omega (arith, pow-le-pow-right {n = 256} (omega arith) {i = i} {j = 7} k)
-
-pub number-grows : (i v x : ℕ) → v < 256 ^ i → x < 256 → v * 256 + x < 256 ^ (i + 1)
-number-grows i v x h k = rw (add-one i, pow-succ' 256 i) (omega arith)
+pub number-more : (k : ℕ) (bs ys : List ℕ) → k ≤ length bs → number (take k (bs ++ ys)) ≡ number (take k bs)
+number-more k bs ys h = ap number (take-append-le k bs ys h)

@@ -1,6 +1,6 @@
 -- What the usual heads do, at any frame of items: one law for each way out of the code.
 -- Assumes nothing.
-use Prim.Native.Nat.{ℕ, _+_, _*_, _-_, _≤_, _<_, _/_, _%_}
+use Prim.Native.Nat.{ℕ, _+_, _*_, _-_, _^_, _≤_, _<_, _/_, _%_}
 use mathlib.Core.List.{List, _++_}
 use mathlib.Core.Bool.{Bool, true, false, cond}
 use mathlib.Core.Option.{some}
@@ -10,6 +10,8 @@ use lib.ListN.{length, drop, getD, length-append}
 use lib.Seq.{drop-cons}
 use native.Mathlib.Omega.{arith}
 use borrow.Author.Tests.{lt-ltb, ltb-true, ltb-false, ne-eqb, eqb-true, eqb-false}
+use Rattle.base.specs.Numbers.{spelled, number}
+use Rattle.ring.specs.Ring.{run}
 use Rattle.head.specs.Initial.{initial, majorOf}
 use Rattle.head.specs.declared.Major.{Major}
 use Rattle.head.specs.declared.Major.the-variants.{Array, Map}
@@ -17,7 +19,7 @@ use Rattle.head.specs.declared.Initial.the-variants.{Short, Long, Indefinite}
 use Rattle.item.specs.Grammar.{Frame, Items, Content, Argument, content, indefinite, enter, nesting}
 use Rattle.item.specs.Verdict.{Stack, push}
 use Rattle.cbor.specs.Walk.{frameOf, tell}
-use Rattle.cbor.specs.Inside.Frames.{kept, Wants, roomFor, number, widthOf, smallOf}
+use Rattle.cbor.specs.Inside.Frames.{kept, Wants, roomFor, following, smallOf}
 use Rattle.cbor.specs.Inside.Moves.{Goes, Passes, Enters, Breaks}
 use Rattle.cbor.proofs.Tell.{tell-one, tell-string}
 use Rattle.cbor.proofs.Frames.{tell-into, room-some, indefinite-some}
@@ -36,7 +38,7 @@ module _ (xs : List ℕ) (at d : ℕ) (l : at < length xs) where
       (w .items (nesting - d) (Short m v) ∙ room-some m d (content m v) r)
 
   heads-long : (m : Major) (j : ℕ) → initial (getD xs at 0) ≡ Long m j → roomFor m d ≡ true → at + 1 + j < length xs
-      → Heads xs at d (content m (number 0 (j + 1) (drop (at + 1) xs))) (at + 1 + (j + 1))
+      → Heads xs at d (content m (number (run xs (at + 1) (j + 1)))) (at + 1 + (j + 1))
   unfolding enter
   heads-long m j e r q f w ys fs h =
       long-head (xs ++ ys) at h (nesting - d) f fs (longer xs ys at l) (w .holds) (w .unspent) m j (here xs ys at l e)
@@ -93,42 +95,42 @@ short-initial : (b : ℕ) → b % 32 < 24 → initial b ≡ Short (majorOf (b / 
 unfolding initial
 short-initial b h = rw (lt-ltb (b % 32) 24 h)
 
-long-initial : (b : ℕ) → 24 ≤ b % 32 → b % 32 < 28 → (b / 32 ≡ 7 → b % 32 ≡ 24 → ⊥) → initial b ≡ Long (majorOf (b / 32)) (widthOf (b % 32) - 1)
+long-initial : (b : ℕ) → 24 ≤ b % 32 → b % 32 < 28 → (b / 32 ≡ 7 → b % 32 ≡ 24 → ⊥) → initial b ≡ Long (majorOf (b / 32)) (following (b % 32) - 1)
 unfolding initial
 long-initial b h l n = of-24 (eqb (b % 32) 24) refl
   where
-    of-26 : (t : Bool) → eqb (b % 32) 26 ≡ t → 25 < b % 32 → initial b ≡ Long (majorOf (b / 32)) (widthOf (b % 32) - 1)
+    of-26 : (t : Bool) → eqb (b % 32) 26 ≡ t → 25 < b % 32 → initial b ≡ Long (majorOf (b / 32)) (following (b % 32) - 1)
     of-26 true q m = let z : b % 32 ≡ 26 = eqb-true _ _ q in rw z
     of-26 false q m = let y : b % 32 ≡ 26 → ⊥ = eqb-false _ _ q in let z : b % 32 ≡ 27 = omega arith in rw z
 
-    of-25 : (t : Bool) → eqb (b % 32) 25 ≡ t → 24 < b % 32 → initial b ≡ Long (majorOf (b / 32)) (widthOf (b % 32) - 1)
+    of-25 : (t : Bool) → eqb (b % 32) 25 ≡ t → 24 < b % 32 → initial b ≡ Long (majorOf (b / 32)) (following (b % 32) - 1)
     of-25 true q m = let z : b % 32 ≡ 25 = eqb-true _ _ q in rw z
     of-25 false q m = let y : b % 32 ≡ 25 → ⊥ = eqb-false _ _ q in of-26 (eqb (b % 32) 26) refl (omega arith)
 
-    of-24 : (t : Bool) → eqb (b % 32) 24 ≡ t → initial b ≡ Long (majorOf (b / 32)) (widthOf (b % 32) - 1)
+    of-24 : (t : Bool) → eqb (b % 32) 24 ≡ t → initial b ≡ Long (majorOf (b / 32)) (following (b % 32) - 1)
     of-24 true q = let z : b % 32 ≡ 24 = eqb-true _ _ q in rw (z, ne-eqb (b / 32) 7 (λ x. n x z))
     of-24 false q = let y : b % 32 ≡ 24 → ⊥ = eqb-false _ _ q in of-25 (eqb (b % 32) 25) refl (omega arith)
 
 -- how many bytes follow
-pub width-24 : (i : ℕ) → i ≡ 24 → 1 ≡ widthOf i
+pub width-24 : (i : ℕ) → i ≡ 24 → 1 ≡ following i
 width-24 i e = rw e
 
-pub width-25 : (i : ℕ) → i ≡ 25 → 2 ≡ widthOf i
+pub width-25 : (i : ℕ) → i ≡ 25 → 2 ≡ following i
 width-25 i e = rw e
 
-pub width-26 : (i : ℕ) → i ≡ 26 → 4 ≡ widthOf i
+pub width-26 : (i : ℕ) → i ≡ 26 → 4 ≡ following i
 width-26 i e = rw e
 
-pub width-27 : (i : ℕ) → i ≡ 27 → 8 ≡ widthOf i
+pub width-27 : (i : ℕ) → i ≡ 27 → 8 ≡ following i
 width-27 i e = rw e
 
-pub width-other : (i : ℕ) → (i ≡ 24 → ⊥) → (i ≡ 25 → ⊥) → (i ≡ 26 → ⊥) → (i ≡ 27 → ⊥) → 0 ≡ widthOf i
+pub width-other : (i : ℕ) → (i ≡ 24 → ⊥) → (i ≡ 25 → ⊥) → (i ≡ 26 → ⊥) → (i ≡ 27 → ⊥) → 0 ≡ following i
 width-other i a b c d = rw (ne-eqb i 24 a, ne-eqb i 25 b, ne-eqb i 26 c, ne-eqb i 27 d)
 
-pub width-short : (i : ℕ) → i < 24 → 0 ≡ widthOf i
+pub width-short : (i : ℕ) → i < 24 → 0 ≡ following i
 width-short i h = width-other i (λ e. omega arith) (λ e. omega arith) (λ e. omega arith) (λ e. omega arith)
 
-pub width-most : (i : ℕ) → widthOf i ≤ 8
+pub width-most : (i : ℕ) → following i ≤ 8
 width-most i = of (eqb i 24) (eqb i 25) (eqb i 26) (eqb i 27)
   where
     of : (a b c d : Bool) → cond a 1 (cond b 2 (cond c 4 (cond d 8 0))) ≤ 8
@@ -138,7 +140,7 @@ width-most i = of (eqb i 24) (eqb i 25) (eqb i 26) (eqb i 27)
     of false false false true = omega arith
     of false false false false = omega arith
 
-width-some : (i : ℕ) → 24 ≤ i → i < 28 → 0 < widthOf i
+width-some : (i : ℕ) → 24 ≤ i → i < 28 → 0 < following i
 width-some i h l = of (eqb i 24) (eqb i 25) (eqb i 26) (eqb i 27) refl refl refl refl
   where
     of : (a b c d : Bool) → eqb i 24 ≡ a → eqb i 25 ≡ b → eqb i 26 ≡ c → eqb i 27 ≡ d → 0 < cond a 1 (cond b 2 (cond c 4 (cond d 8 0)))
@@ -153,8 +155,8 @@ width-some i h l = of (eqb i 24) (eqb i 25) (eqb i 26) (eqb i 27) refl refl refl
         let z : i ≡ 27 → ⊥ = eqb-false _ _ s in
         absurd (omega arith)
 
-number-one : (xs : List ℕ) (p : ℕ) → p < length xs → number 0 1 (drop p xs) ≡ getD xs p 0
-unfolding number
+number-one : (xs : List ℕ) (p : ℕ) → p < length xs → number (run xs p 1) ≡ getD xs p 0
+unfolding spelled
 number-one xs p h = rw (drop-cons xs p 0 h) (omega arith)
 
 -- A head at a place with eight bytes after it.
@@ -164,13 +166,13 @@ module _ (xs : List ℕ) (at d b : ℕ) (l : at + 8 < length xs) (e : b ≡ getD
 
   -- whatever its argument is
   any-head : b % 32 < 28 → (b / 32 ≡ 7 → b % 32 ≡ 24 → ⊥) → roomFor (majorOf (b / 32)) d ≡ true
-      → (v : ℕ) × Heads xs at d (content (majorOf (b / 32)) v) (at + 1 + widthOf (b % 32))
+      → (v : ℕ) × Heads xs at d (content (majorOf (b / 32)) v) (at + 1 + following (b % 32))
   any-head h n r = of (ltb (b % 32) 24) refl
     where
-      of : (t : Bool) → ltb (b % 32) 24 ≡ t → (v : ℕ) × Heads xs at d (content (majorOf (b / 32)) v) (at + 1 + widthOf (b % 32))
+      of : (t : Bool) → ltb (b % 32) 24 ≡ t → (v : ℕ) × Heads xs at d (content (majorOf (b / 32)) v) (at + 1 + following (b % 32))
       of true q =
-          let w : 0 ≡ widthOf (b % 32) = width-short (b % 32) (ltb-true _ _ q) in
-          let z : at + 1 ≡ at + 1 + widthOf (b % 32) = omega arith in (
+          let w : 0 ≡ following (b % 32) = width-short (b % 32) (ltb-true _ _ q) in
+          let z : at + 1 ≡ at + 1 + following (b % 32) = omega arith in (
             b % 32,
             subst (λ (p : ℕ). Heads xs at d (content (majorOf (b / 32)) (b % 32)) p) z
                 (heads-short xs at d at-here (majorOf (b / 32)) (b % 32) (ap initial (sym e) ∙ short-initial b (ltb-true _ _ q)) r),
@@ -178,42 +180,42 @@ module _ (xs : List ℕ) (at d b : ℕ) (l : at + 8 < length xs) (e : b ≡ getD
       of false q =
           let w = width-most (b % 32) in
           let u = width-some (b % 32) (ltb-false _ _ q) h in
-          let z : at + 1 + (widthOf (b % 32) - 1 + 1) ≡ at + 1 + widthOf (b % 32) = omega arith in (
-            number 0 (widthOf (b % 32) - 1 + 1) (drop (at + 1) xs),
-            subst (λ (p : ℕ). Heads xs at d (content (majorOf (b / 32)) (number 0 (widthOf (b % 32) - 1 + 1) (drop (at + 1) xs))) p) z
-                (heads-long xs at d at-here (majorOf (b / 32)) (widthOf (b % 32) - 1) (ap initial (sym e) ∙ long-initial b (ltb-false _ _ q) h n) r (omega arith)),
+          let z : at + 1 + (following (b % 32) - 1 + 1) ≡ at + 1 + following (b % 32) = omega arith in (
+            number (run xs (at + 1) (following (b % 32) - 1 + 1)),
+            subst (λ (p : ℕ). Heads xs at d (content (majorOf (b / 32)) (number (run xs (at + 1) (following (b % 32) - 1 + 1)))) p) z
+                (heads-long xs at d at-here (majorOf (b / 32)) (following (b % 32) - 1) (ap initial (sym e) ∙ long-initial b (ltb-false _ _ q) h n) r (omega arith)),
           )
 
   -- an integer, a simple value or a float
-  pass-plain : (p m : ℕ) → p ≡ at + 1 + widthOf (b % 32) → b % 32 < 28 → (b / 32 ≡ 7 → b % 32 ≡ 24 → ⊥) → b / 32 ≡ m
+  pass-plain : (p m : ℕ) → p ≡ at + 1 + following (b % 32) → b % 32 < 28 → (b / 32 ≡ 7 → b % 32 ≡ 24 → ⊥) → b / 32 ≡ m
       → roomFor (majorOf m) d ≡ true → ((v : ℕ) → content (majorOf m) v ≡ Content 0) → Passes xs at d p
   pass-plain p m z h n q r c =
       let w = width-most (b % 32) in
-      let y : at + 1 + widthOf (b % 32) + 0 ≡ p = omega arith in
+      let y : at + 1 + following (b % 32) + 0 ≡ p = omega arith in
       let t = any-head h n (ap (λ (j : ℕ). roomFor (majorOf j) d) q ∙ r) in
       subst (Passes xs at d) y
-      (passes xs at d at-here (at + 1 + widthOf (b % 32)) 0 (content (majorOf (b / 32)) (t .0)) (omega arith) (omega arith)
+      (passes xs at d at-here (at + 1 + following (b % 32)) 0 (content (majorOf (b / 32)) (t .0)) (omega arith) (omega arith)
       (ap (λ (j : ℕ). content (majorOf j) (t .0)) q ∙ c (t .0)) (t .1))
 
-  pub pass-number : (p : ℕ) → p ≡ at + 1 + widthOf (b % 32) → b % 32 < 28 → b < 64 → Passes xs at d p
+  pub pass-number : (p : ℕ) → p ≡ at + 1 + following (b % 32) → b % 32 < 28 → b < 64 → Passes xs at d p
   pass-number p z h k = of (ltb b 32) refl
     where
       of : (t : Bool) → ltb b 32 ≡ t → Passes xs at d p
       of true q = let y : b < 32 = ltb-true _ _ q in pass-plain p 0 z h (λ u v. omega arith) (omega arith) refl (λ v. refl)
       of false q = let y : 32 ≤ b = ltb-false _ _ q in pass-plain p 1 z h (λ u v. omega arith) (omega arith) refl (λ v. refl)
 
-  pub pass-simple : (p : ℕ) → p ≡ at + 1 + widthOf (b % 32) → b % 32 < 28 → 224 ≤ b → b < 256 → (b % 32 ≡ 24 → ⊥) → Passes xs at d p
+  pub pass-simple : (p : ℕ) → p ≡ at + 1 + following (b % 32) → b % 32 < 28 → 224 ≤ b → b < 256 → (b % 32 ≡ 24 → ⊥) → Passes xs at d p
   pass-simple p z h k k′ n = pass-plain p 7 z h (λ u v. n v) (omega arith) refl (λ v. refl)
 
   -- a string of less than 256 bytes
   small-head : (m v : ℕ) → b % 32 ≤ 24 → b / 32 ≡ m → m < 7 → roomFor (majorOf m) d ≡ true → v ≡ smallOf (b % 32) (getD xs (at + 1) 0)
-      → Heads xs at d (content (majorOf m) v) (at + 1 + widthOf (b % 32))
+      → Heads xs at d (content (majorOf m) v) (at + 1 + following (b % 32))
   small-head m v h q k r z = of (ltb (b % 32) 24) refl
     where
-      of : (t : Bool) → ltb (b % 32) 24 ≡ t → Heads xs at d (content (majorOf m) v) (at + 1 + widthOf (b % 32))
+      of : (t : Bool) → ltb (b % 32) 24 ≡ t → Heads xs at d (content (majorOf m) v) (at + 1 + following (b % 32))
       of true p =
-          let w : 0 ≡ widthOf (b % 32) = width-short (b % 32) (ltb-true _ _ p) in
-          let y : at + 1 ≡ at + 1 + widthOf (b % 32) = omega arith in
+          let w : 0 ≡ following (b % 32) = width-short (b % 32) (ltb-true _ _ p) in
+          let y : at + 1 ≡ at + 1 + following (b % 32) = omega arith in
           let x : b % 32 ≡ v = sym (z ∙ ap (λ (t : Bool). cond t (b % 32) (getD xs (at + 1) 0)) p) in
           subst (λ (p : ℕ). Heads xs at d (content (majorOf m) v) p) y
           (heads-short xs at d at-here (majorOf m) v
@@ -221,14 +223,14 @@ module _ (xs : List ℕ) (at d b : ℕ) (l : at + 8 < length xs) (e : b ≡ getD
       of false p =
           let i : 24 ≤ b % 32 = ltb-false _ _ p in
           let i′ : b % 32 ≡ 24 = omega arith in
-          let x : number 0 1 (drop (at + 1) xs) ≡ v = number-one xs (at + 1) (omega arith) ∙ sym (z ∙ ap (λ (t : Bool). cond t (b % 32) (getD xs (at + 1) 0)) p) in
-          let y : at + 1 + (0 + 1) ≡ at + 1 + widthOf (b % 32) = rw i′ in
+          let x : number (run xs (at + 1) 1) ≡ v = number-one xs (at + 1) (omega arith) ∙ sym (z ∙ ap (λ (t : Bool). cond t (b % 32) (getD xs (at + 1) 0)) p) in
+          let y : at + 1 + (0 + 1) ≡ at + 1 + following (b % 32) = rw i′ in
           subst (λ (p : ℕ). Heads xs at d (content (majorOf m) v) p) y
           (subst (λ (n : ℕ). Heads xs at d (content (majorOf m) n) (at + 1 + (0 + 1))) x
           (heads-long xs at d at-here (majorOf m) 0
           (ap initial (sym e) ∙ long-initial b i (omega arith) (λ u t. omega arith) ∙ rw (i′, q)) r (omega arith)))
 
-  pub pass-string : (p v : ℕ) → p ≡ at + 1 + widthOf (b % 32) → b % 32 ≤ 24 → 64 ≤ b → b < 128 → v ≡ smallOf (b % 32) (getD xs (at + 1) 0)
+  pub pass-string : (p v : ℕ) → p ≡ at + 1 + following (b % 32) → b % 32 ≤ 24 → 64 ≤ b → b < 128 → v ≡ smallOf (b % 32) (getD xs (at + 1) 0)
       → v ≤ length xs - p → Passes xs at d (p + v)
   pass-string p v z h k k′ q t = of (ltb b 96) refl
     where
@@ -256,7 +258,7 @@ module _ (xs : List ℕ) (at d b : ℕ) (l : at + 8 < length xs) (e : b ≡ getD
       enters xs at d at-here (at + 1) (b % 32 * 2) (Items (b % 32 * 2)) (omega arith) (omega arith) z (λ zs h fs. refl)
       (heads-short xs at d at-here Map (b % 32) (first-short 5 h (omega arith)) (lt-ltb d nesting z))
 
-  pub enter-tag : (p : ℕ) → p ≡ at + 1 + widthOf (b % 32) → b % 32 < 28 → d < nesting → 192 ≤ b → b < 224 → Enters xs at d p 0 1
+  pub enter-tag : (p : ℕ) → p ≡ at + 1 + following (b % 32) → b % 32 < 28 → d < nesting → 192 ≤ b → b < 224 → Enters xs at d p 0 1
   enter-tag p z h y k k′ =
       let w = width-most (b % 32) in
       let q : b / 32 ≡ 6 = omega arith in
@@ -266,13 +268,13 @@ module _ (xs : List ℕ) (at d b : ℕ) (l : at + 8 < length xs) (e : b ≡ getD
       (subst (λ (n : ℕ). Heads xs at d (content (majorOf (b / 32)) (t .0)) n) (sym z) (t .1))
 
   -- an array or a map that goes up to a break; a break
-  pub open-array : b ≡ 159 → d < nesting → Enters xs at d (at + 1) 2 9223372036854775808
+  pub open-array : b ≡ 159 → d < nesting → Enters xs at d (at + 1) 2 (2 ^ 63)
   unfolding initial indefinite
-  open-array q z = enters-open xs at d at-here Array 2 9223372036854775808 (ap initial (sym e ∙ q)) (lt-ltb d nesting z) refl (omega arith) z
+  open-array q z = enters-open xs at d at-here Array 2 (2 ^ 63) (ap initial (sym e ∙ q)) (lt-ltb d nesting z) refl (omega arith) z
 
-  pub open-map : b ≡ 191 → d < nesting → Enters xs at d (at + 1) 3 9223372036854775808
+  pub open-map : b ≡ 191 → d < nesting → Enters xs at d (at + 1) 3 (2 ^ 63)
   unfolding initial indefinite
-  open-map q z = enters-open xs at d at-here Map 3 9223372036854775808 (ap initial (sym e ∙ q)) (lt-ltb d nesting z) refl (omega arith) z
+  open-map q z = enters-open xs at d at-here Map 3 (2 ^ 63) (ap initial (sym e ∙ q)) (lt-ltb d nesting z) refl (omega arith) z
 
   pub is-break : b ≡ 255 → Breaks xs at (at + 1)
   unfolding initial

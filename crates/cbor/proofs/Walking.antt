@@ -1,6 +1,6 @@
 -- A walk from head to head: where it is comes to what it began with comes to, whatever bytes come after.
 -- Assumes nothing.
-use Prim.Native.Nat.{ℕ, zero, suc, _+_, _-_, _≤_, _<_}
+use Prim.Native.Nat.{ℕ, zero, suc, _+_, _-_, _^_, _≤_, _<_}
 use mathlib.Core.List.{List, [], _++_, append-nil}
 use mathlib.Core.Bool.{Bool, true, false}
 use mathlib.Core.Path.{_≡_, refl, sym, ap, ap₂, subst, _∙_}
@@ -35,7 +35,7 @@ module _ {xs : List ℕ} {at : ℕ} (d : ℕ) {q : Quick} (h : Quickly xs at d q
   pub if-asks : {p c : ℕ} → q ≡ Asks p c → Enters xs at d p 0 c
   if-asks e = subst (Quickly xs at d) e h
 
-  pub if-opens : {p k : ℕ} → q ≡ Opens p k → Enters xs at d p k 9223372036854775808
+  pub if-opens : {p k : ℕ} → q ≡ Opens p k → Enters xs at d p k (2 ^ 63)
   if-opens e = subst (Quickly xs at d) e h
 
   pub if-ends : {p : ℕ} → q ≡ Ends p → Breaks xs at p

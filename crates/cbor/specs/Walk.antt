@@ -1,5 +1,5 @@
 -- What a walk under way stands for, and what taking it up again gives.
-use Prim.Native.Nat.{ℕ, zero, suc, _+_, _-_, _≤_, _<_, _%_}
+use Prim.Native.Nat.{ℕ, zero, suc, _+_, _-_, _^_, _≤_, _<_, _%_}
 use mathlib.Core.List.{List, _++_}
 use mathlib.Core.Bool.{true, false, cond}
 use mathlib.Core.Path.{_≡_}
@@ -7,19 +7,19 @@ use lib.Dec.{eqb}
 use lib.ListN.{length, drop, getD, replicate}
 use Rattle.item.specs.declared.Verdict.{Verdict}
 use Rattle.item.specs.Grammar.{Frame, Items, Elements, Pairs, Value, Chunks, Content, nesting}
-use Rattle.item.specs.Verdict.{Stack, nil, push, judge, heads, verdict, headsOf}
+use Rattle.item.specs.Verdict.{Stack, nil, push, judge, heads}
 use Rattle.cbor.specs.declared.Walk.{Walk}
 
 -- What a level wants, by its kind and its count.
 abbrev pub frameOf : ℕ → ℕ → Frame
 frameOf zero c = Items c
-frameOf (suc zero) c = Items (c + 18446744073709551616)
+frameOf (suc zero) c = Items (c + 2 ^ 64)
 frameOf (suc (suc zero)) c = Elements
 frameOf (suc (suc (suc zero))) c = cond (eqb (c % 2) 0) Pairs Value
 frameOf (suc (suc (suc (suc zero)))) c = Chunks false
 frameOf (suc (suc (suc (suc (suc k))))) c = Chunks true
 
--- The levels around: the i-th, the outermost being 0, is within a nesting of 16 - i.
+-- The levels around: the i-th, the outermost being 0, is within a nesting that is i less.
 unfoldable pub levels : List ℕ → List ℕ → ℕ → Stack
 levels ks cs zero = nil
 levels ks cs (suc n) = push (nesting - n) (frameOf (getD ks n 0) (getD cs n 0)) (levels ks cs n)
@@ -37,16 +37,16 @@ tell xs at h fs = (judge (drop at xs) at fs, h + heads (drop at xs) fs)
 abbrev pub comes : List ℕ → Walk → Verdict × ℕ
 comes xs w = tell xs (w .at) (w .heads) (stackOf w)
 
--- A level that wants items is within sixteen others, a string within seventeen; a string has no count.
+-- A level that wants items is within as many others as the nesting has, a string within one more; a string has no count.
 pub record Good (k c d : ℕ) : Type 0 where
-  pub tall : d ≤ 17
-  pub low : k < 4 → 0 < k + c → d ≤ 16
+  pub tall : d ≤ nesting + 1
+  pub low : k < 4 → 0 < k + c → d ≤ nesting
   pub none : 4 ≤ k → c ≡ 0
 
 -- The levels around want items.
 pub record Outer (d : ℕ) (ks cs : List ℕ) : Type 0 where
-  pub kinds-size : length ks ≡ 17
-  pub counts-size : length cs ≡ 17
+  pub kinds-size : length ks ≡ nesting + 1
+  pub counts-size : length cs ≡ nesting + 1
   pub each : (i : ℕ) → i < d → getD ks i 0 < 4
 
 -- The numbers of a walk are in range; nothing is said of bytes.
@@ -63,15 +63,11 @@ pub record Resumed (xs : List ℕ) (w : Walk) (v : Verdict) (u : Walk) : Type 0 
   pub place : u .at ≤ length xs
   pub sound : Sound u
 
+-- A walk by its parts.
 abbrev pub walkOf : ℕ → ℕ → ℕ → ℕ → ℕ → ℕ → List ℕ → List ℕ → Walk
 walkOf at skip heads k c d ks cs =
     record { at = at; skip = skip; heads = heads; kind = k; count = c; depth = d; kinds = ks; counts = cs }
 
 -- The walk that begins at a place, for one item within the nesting d.
 unfoldable pub firstAt : ℕ → ℕ → Walk
-firstAt at d = walkOf at 0 0 0 1 (nesting - d) (replicate 17 0) (replicate 17 0)
-
--- Of a message whose first bytes are xs, the walk w will come to what a walk from the start comes to, whatever bytes
--- come after: it may be kept instead of reading them again (document 02, K5).
-abbrev pub Kept : List ℕ → Walk → Type 0
-Kept xs w = (ys : List ℕ) → comes (xs ++ ys) w ≡ (verdict (xs ++ ys), headsOf (xs ++ ys))
+firstAt at d = walkOf at 0 0 0 1 (nesting - d) (replicate (nesting + 1) 0) (replicate (nesting + 1) 0)

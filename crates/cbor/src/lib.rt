@@ -4,13 +4,18 @@
 //
 // The walk goes by heads. Its hot state is in the scalars of one loop and the open containers are in arrays that are
 // changed in place; the usual heads are told by `usual`, where nine bytes lie in one piece, all others by `any`.
+use base::less;
+use base::number::wide;
+use base::smaller;
 use head::Initial;
 use head::Major;
 use head::initial_of;
+use head::read::number_at;
+use item::NESTING;
 use item::Verdict;
 ghost use mathlib.Core.Path.{_≡_};
 ghost use mathlib.Core.Bool.{true, false};
-ghost use Prim.Native.Nat.{_+_, _*_, _-_, _≤_, _<_, _%_};
+ghost use Prim.Native.Nat.{_+_, _-_, _^_, _≤_, _<_};
 ghost use lib.ListN.{length, getD, drop};
 ghost use Rattle.head.specs.Initial.{initial};
 ghost use Rattle.head.specs.declared.Initial.the-variants.{Short, Long, Simple};
@@ -18,16 +23,43 @@ ghost use Rattle.item.specs.Grammar.{nesting};
 ghost use Rattle.item.specs.Verdict.{judge, start, verdict};
 ghost use Rattle.ring.specs.Ring.{around};
 ghost use Rattle.cbor.specs.Walk.{frameOf, Good, Sound, Resumed, walkOf, firstAt};
-ghost use Rattle.cbor.specs.Inside.Frames.{breakable, roomFor, chunkOf, mayBegin, number, widthOf, smallOf};
+ghost use Rattle.cbor.specs.Inside.Frames.{breakable, roomFor, chunkOf, mayBegin, following, smallOf};
 ghost use Rattle.cbor.specs.Inside.Moves.{Moves, Leaves, Strings, Follows, Doubles, Answers, Broken, Endless, Opened, Quickly, Usually, UsualString};
 ghost use Rattle.cbor.specs.Inside.Pieces.{Spot, PieceAt};
 
-// Nesting at most 16 (house).
-const NESTING: usize = 16;
+// As many levels as an item may be within, and one for a string of chunks, which counts for none.
+const LEVELS: usize = 17;
 
-// What a level still wants, by kind: 0 count items, 1 count and 2^64 items, 2 the elements of an array up to a break,
-// 3 the pairs of a map up to a break, where an odd count is at a value, 4 and 5 chunks of bytes and of text. So one
-// less of the count is what is left after an item of any of the first four.
+// The kinds of levels, by what a level still wants: count items; count and 2^64 items; the elements of an array up to a
+// break; the pairs of a map up to a break, where an odd count is at a value; chunks of bytes, and of text. So one less of
+// the count is what is left after an item of any of the first four.
+const ITEMS: u8 = 0;
+
+const MORE_ITEMS: u8 = 1;
+
+const ELEMENTS: u8 = 2;
+
+const PAIRS: u8 = 3;
+
+const BYTES: u8 = 4;
+
+const TEXT: u8 = 5;
+
+// 2^63: so many pairs are 2^64 items. The count of a level that goes up to a break begins with it, since it is even and
+// no such level ends by its count.
+const HALF: u64 = 9223372036854775808;
+
+// How many bytes follow an initial byte at most.
+const LONGEST: usize = 8;
+
+// Initial bytes: an array and a map up to a break, and a break.
+const OPEN_ARRAY: u8 = 159;
+
+const OPEN_MAP: u8 = 191;
+
+const BREAK: u8 = 255;
+
+// A level: its kind, and its count.
 pub struct Level {
     pub kind: u8,
     pub count: u64,
@@ -42,10 +74,11 @@ pub struct Walk {
     pub kind: u8,
     pub count: u64,
     pub depth: usize,
-    pub kinds: [u8; 17],
-    pub counts: [u64; 17],
+    pub kinds: [u8; LEVELS],
+    pub counts: [u64; LEVELS],
 }
 
+// The verdict, and the walk as far as it came.
 pub struct Measured {
     pub verdict: Verdict,
     pub walk: Walk,
@@ -78,42 +111,11 @@ pub struct Piece {
     pub lim: usize,
 }
 
-// A byte of the ring.
-fn byte_at(s: &[u8], from: usize, n: usize, i: usize) -> u8
-    requires { ⌜ (from ≤ length (now s)) × (n ≤ length (now s)) × (i < n) ⌝ }
-    ensures { λ r. ⌜ r ≡ getD (around (now (s .entry)) from n) i 0 ⌝ }
-{
-    let room = s.len() - from;
-    if i < room {
-        return s[from + i];
-    }
-    s[i - room]
-}
-
-fn wide(x: u8) -> u64
-    ensures { λ r. ⌜ r ≡ x ⌝ }
-{
-    x as u64
-}
-
+// A byte as a size.
 fn size(x: u8) -> usize
     ensures { λ r. ⌜ r ≡ x ⌝ }
 {
     x as usize
-}
-
-// The k + 1 bytes at a place as a number, the first the highest.
-fn number_at(s: &[u8], from: usize, n: usize, at: usize, k: usize) -> u64
-    requires { ⌜ (from ≤ length (now s)) × (n ≤ length (now s)) × (at + k < n) × (k ≤ 7) ⌝ }
-    ensures { λ r. ⌜ r ≡ number 0 (k + 1) (drop at (around (now (s .entry)) from n)) ⌝ }
-{
-    let mut v: u64 = 0;
-    let mut i: usize = 0;
-    while i <= k {
-        v = v * 256 + wide(byte_at(s, from, n, at + i));
-        i += 1;
-    }
-    v
 }
 
 // What is left of a level once an item of it has begun.
@@ -127,16 +129,16 @@ fn left_of(kind: u8, count: u64) -> Level
             count: count - 1,
         };
     }
-    if kind == 1 {
+    if kind == MORE_ITEMS {
         return Level {
-            kind: 0,
-            count: 18446744073709551615,
+            kind: ITEMS,
+            count: u64::MAX,
         };
     }
-    if kind < 4 {
+    if kind < BYTES {
         return Level {
             kind: kind,
-            count: 18446744073709551615,
+            count: u64::MAX,
         };
     }
     Level {
@@ -149,10 +151,10 @@ fn left_of(kind: u8, count: u64) -> Level
 fn breaks(kind: u8, count: u64) -> bool
     ensures { λ r. ⌜ r ≡ breakable (frameOf kind count) ⌝ }
 {
-    if kind == 3 {
+    if kind == PAIRS {
         return count % 2 == 0;
     }
-    2 <= kind
+    ELEMENTS <= kind
 }
 
 // Within the nesting there is room for an item.
@@ -175,8 +177,8 @@ fn chunk_of(m: Major, kind: u8) -> bool
 {
     match m {
         Major::Number => false,
-        Major::Bytes => kind == 4,
-        Major::Text => kind != 4,
+        Major::Bytes => kind == BYTES,
+        Major::Text => kind != BYTES,
         Major::Array => false,
         Major::Map => false,
         Major::Tag => false,
@@ -187,7 +189,7 @@ fn chunk_of(m: Major, kind: u8) -> bool
 fn may_begin(kind: u8, depth: usize, m: Major) -> bool
     ensures { λ r. ⌜ r ≡ mayBegin kind depth m ⌝ }
 {
-    if kind < 4 {
+    if kind < BYTES {
         return room_for(m, depth);
     }
     chunk_of(m, kind)
@@ -209,18 +211,19 @@ fn string(n: usize, p: usize, v: u64, left: Level) -> Move
 fn pairs(v: u64) -> Level
     ensures { λ r. ⌜ Doubles v r ⌝ }
 {
-    if v < 9223372036854775808 {
+    if v < HALF {
         return Level {
-            kind: 0,
+            kind: ITEMS,
             count: v * 2,
         };
     }
     Level {
-        kind: 1,
-        count: (v - 9223372036854775808) * 2,
+        kind: MORE_ITEMS,
+        count: (v - HALF) * 2,
     }
 }
 
+// A level of a kind and a count, open from the place p on.
 fn down(p: usize, left: Level, kind: u8, count: u64) -> Move
     ensures { λ r. ⌜ r ≡ Move.Down p left (record { kind = kind; count = count }) ⌝ }
 {
@@ -243,9 +246,9 @@ fn follows(n: usize, p: usize, m: Major, v: u64, left: Level) -> Move
         Major::Number => Move::Stay(p, left),
         Major::Bytes => string(n, p, v, left),
         Major::Text => string(n, p, v, left),
-        Major::Array => down(p, left, 0, v),
+        Major::Array => down(p, left, ITEMS, v),
         Major::Map => Move::Down(p, left, pairs(v)),
-        Major::Tag => down(p, left, 0, 1),
+        Major::Tag => down(p, left, ITEMS, 1),
     }
 }
 
@@ -280,7 +283,7 @@ fn long(
         if n - (at + 1) <= k {
             return Move::Lack;
         }
-        let v = number_at(s, from, n, at + 1, k);
+        let v = number_at(s, from, n, at + 1, k + 1);
         return follows(n, at + 1 + (k + 1), m, v, left_of(kind, count));
     }
     Move::Fault(at)
@@ -288,25 +291,25 @@ fn long(
 
 // A level that goes up to a break.
 fn opened(at: usize, left: Level, m: Major) -> Move
-    requires { ⌜ at < 18446744073709551615 ⌝ }
+    requires { ⌜ at < 2 ^ 64 - 1 ⌝ }
     ensures { λ r. ⌜ Opened at left m r ⌝ }
 {
     match m {
         Major::Number => Move::Fault(at),
-        Major::Bytes => down(at + 1, left, 4, 0),
-        Major::Text => down(at + 1, left, 5, 0),
-        Major::Array => down(at + 1, left, 2, 9223372036854775808),
-        Major::Map => down(at + 1, left, 3, 9223372036854775808),
+        Major::Bytes => down(at + 1, left, BYTES, 0),
+        Major::Text => down(at + 1, left, TEXT, 0),
+        Major::Array => down(at + 1, left, ELEMENTS, HALF),
+        Major::Map => down(at + 1, left, PAIRS, HALF),
         Major::Tag => Move::Fault(at),
     }
 }
 
 // No length, where items are wanted: a chunk has one.
 fn indefinite(at: usize, kind: u8, count: u64, depth: usize, m: Major) -> Move
-    requires { ⌜ (at < 18446744073709551615) × Good kind count depth × (0 < kind + count) ⌝ }
+    requires { ⌜ (at < 2 ^ 64 - 1) × Good kind count depth × (0 < kind + count) ⌝ }
     ensures { λ r. ⌜ Endless at kind count depth m r ⌝ }
 {
-    if 4 <= kind {
+    if BYTES <= kind {
         return Move::Fault(at);
     }
     if room_for(m, depth) {
@@ -321,13 +324,13 @@ fn simple(s: &[u8], from: usize, n: usize, at: usize, kind: u8, count: u64, dept
     requires { ⌜ initial (getD (around (now s) from n) at 0) ≡ Simple ⌝ }
     ensures { λ r. ⌜ Moves (around (now (s .entry)) from n) at kind count depth r ⌝ }
 {
-    if 4 <= kind {
+    if BYTES <= kind {
         return Move::Fault(at);
     }
     if n == at + 1 {
         return Move::Lack;
     }
-    if byte_at(s, from, n, at + 1) < 32 {
+    if ring::byte_at(s, from, n, at + 1) < 32 {
         return Move::Fault(at + 1);
     }
     Move::Stay(at + 2, left_of(kind, count))
@@ -335,11 +338,17 @@ fn simple(s: &[u8], from: usize, n: usize, at: usize, kind: u8, count: u64, dept
 
 // A break: the level wants nothing any more.
 fn broken(at: usize, kind: u8, count: u64) -> Move
-    requires { ⌜ at < 18446744073709551615 ⌝ }
+    requires { ⌜ at < 2 ^ 64 - 1 ⌝ }
     ensures { λ r. ⌜ Broken at kind count r ⌝ }
 {
     if breaks(kind, count) {
-        return Move::Stay(at + 1, Level { kind: 0, count: 0 });
+        return Move::Stay(
+            at + 1,
+            Level {
+                kind: ITEMS,
+                count: 0,
+            },
+        );
     }
     Move::Fault(at)
 }
@@ -352,7 +361,7 @@ fn any(s: &[u8], from: usize, n: usize, at: usize, kind: u8, count: u64, depth: 
     if at == n {
         return Move::Lack;
     }
-    let i = initial_of(byte_at(s, from, n, at));
+    let i = initial_of(ring::byte_at(s, from, n, at));
     match i {
         Initial::Short(m, v) => short(n, at, kind, count, depth, m, v),
         Initial::Long(m, k) => long(s, from, n, at, kind, count, depth, m, k),
@@ -364,8 +373,8 @@ fn any(s: &[u8], from: usize, n: usize, at: usize, kind: u8, count: u64, depth: 
 }
 
 // How many bytes follow an initial byte, by its additional information.
-fn width(i: u8) -> u8
-    ensures { λ r. ⌜ r ≡ widthOf i ⌝ }
+fn following(i: u8) -> u8
+    ensures { λ r. ⌜ r ≡ following i ⌝ }
 {
     match i {
         24 => 1,
@@ -389,7 +398,7 @@ fn small(i: u8, x: u8) -> u64
 
 fn extra(i: u8) -> usize
     requires { ⌜ i ≤ 24 ⌝ }
-    ensures { λ r. ⌜ r ≡ widthOf i ⌝ }
+    ensures { λ r. ⌜ r ≡ following i ⌝ }
 {
     if i < 24 {
         return 0;
@@ -398,7 +407,7 @@ fn extra(i: u8) -> usize
 }
 
 // A string of less than 256 bytes; x is the byte after the initial byte.
-fn text(n: usize, at: usize, i: u8, x: u8) -> Quick
+fn short_string(n: usize, at: usize, i: u8, x: u8) -> Quick
     requires { ⌜ at + 8 < n ⌝ }
     ensures { λ r. ⌜ UsualString n at i x r ⌝ }
 {
@@ -415,7 +424,7 @@ fn text(n: usize, at: usize, i: u8, x: u8) -> Quick
 
 // An array or a map, of less than 24 or up to a break.
 fn nested(b: u8, at: usize, depth: usize) -> Quick
-    requires { ⌜ (at + 8 < 18446744073709551615) × (128 ≤ b) × (b < 192) ⌝ }
+    requires { ⌜ (at + 8 < 2 ^ 64 - 1) × (128 ≤ b) × (b < 192) ⌝ }
     ensures { λ r. ⌜ Usually at depth b r ⌝ }
 {
     let i = b % 32;
@@ -428,17 +437,18 @@ fn nested(b: u8, at: usize, depth: usize) -> Quick
         }
         return Quick::Asks(at + 1, wide(i) * 2);
     }
-    if b == 159 {
-        return Quick::Opens(at + 1, 2);
+    if b == OPEN_ARRAY {
+        return Quick::Opens(at + 1, ELEMENTS);
     }
-    if b == 191 {
-        return Quick::Opens(at + 1, 3);
+    if b == OPEN_MAP {
+        return Quick::Opens(at + 1, PAIRS);
     }
     Quick::Unusual
 }
 
+// A tag, of whatever number.
 fn tag(b: u8, at: usize, depth: usize) -> Quick
-    requires { ⌜ (at + 8 < 18446744073709551615) × (192 ≤ b) × (b < 224) ⌝ }
+    requires { ⌜ (at + 8 < 2 ^ 64 - 1) × (192 ≤ b) × (b < 224) ⌝ }
     ensures { λ r. ⌜ Usually at depth b r ⌝ }
 {
     let i = b % 32;
@@ -448,7 +458,7 @@ fn tag(b: u8, at: usize, depth: usize) -> Quick
     if 28 <= i {
         return Quick::Unusual;
     }
-    Quick::Asks(at + 1 + size(width(i)), 1)
+    Quick::Asks(at + 1 + size(following(i)), 1)
 }
 
 // A usual head at the place `at`, at a level of items, where nine bytes lie in one piece from the place p of the slice
@@ -459,17 +469,17 @@ fn usual(s: &[u8], from: usize, n: usize, at: usize, p: usize, depth: usize) -> 
 {
     let b = s[p];
     let i = b % 32;
-    if b == 255 {
+    if b == BREAK {
         return Quick::Ends(at + 1);
     }
     if b < 64 {
         if 28 <= i {
             return Quick::Unusual;
         }
-        return Quick::Past(at + 1 + size(width(i)));
+        return Quick::Past(at + 1 + size(following(i)));
     }
     if b < 128 {
-        return text(n, at, i, s[p + 1]);
+        return short_string(n, at, i, s[p + 1]);
     }
     if b < 192 {
         return nested(b, at, depth);
@@ -483,26 +493,7 @@ fn usual(s: &[u8], from: usize, n: usize, at: usize, p: usize, depth: usize) -> 
     if 28 <= i {
         return Quick::Unusual;
     }
-    Quick::Past(at + 1 + size(width(i)))
-}
-
-fn least(a: usize, b: usize) -> usize
-    ensures { λ r. ⌜ (r ≤ a) × (r ≤ b) ⌝ }
-{
-    if a < b {
-        return a;
-    }
-    b
-}
-
-// Eight less.
-fn less(n: usize) -> usize
-    ensures { λ r. ⌜ r ≡ n - 8 ⌝ }
-{
-    if 8 < n {
-        return n - 8;
-    }
-    0
+    Quick::Past(at + 1 + size(following(i)))
 }
 
 // The piece that a place is in.
@@ -515,18 +506,18 @@ fn piece_of(len: usize, from: usize, n: usize, at: usize) -> Piece
         return Piece {
             plus: from,
             minus: 0,
-            lim: less(least(n, room)),
+            lim: less(smaller(n, room), LONGEST),
         };
     }
     Piece {
         plus: 0,
         minus: room,
-        lim: less(n),
+        lim: less(n, LONGEST),
     }
 }
 
 // A walk that begins at a place, for one item within the nesting d.
-pub fn begin_at(at: usize, d: usize) -> Walk
+fn begin_at(at: usize, d: usize) -> Walk
     requires { ⌜ d ≤ nesting ⌝ }
     ensures { λ r. ⌜ (r ≡ firstAt at d) × (r .at ≡ at) × Sound r ⌝ }
 {
@@ -534,11 +525,11 @@ pub fn begin_at(at: usize, d: usize) -> Walk
         at: at,
         skip: 0,
         heads: 0,
-        kind: 0,
+        kind: ITEMS,
         count: 1,
         depth: NESTING - d,
-        kinds: [0u8; 17],
-        counts: [0u64; 17],
+        kinds: [0u8; LEVELS],
+        counts: [0u64; LEVELS],
     }
 }
 
@@ -549,6 +540,7 @@ pub fn begin() -> Walk
     begin_at(0, NESTING)
 }
 
+// The verdict with the walk of these parts.
 fn stopped(
     verdict: Verdict,
     at: usize,
@@ -557,8 +549,8 @@ fn stopped(
     kind: u8,
     count: u64,
     depth: usize,
-    kinds: [u8; 17],
-    counts: [u64; 17],
+    kinds: [u8; LEVELS],
+    counts: [u64; LEVELS],
 ) -> Measured
     ensures { λ r. ⌜ (r .verdict ≡ verdict) × (r .walk ≡ walkOf at skip heads kind count depth kinds counts) ⌝ }
 {
@@ -612,7 +604,7 @@ pub fn resume(s: &[u8], from: usize, n: usize, w: Walk) -> Measured
     let mut lim: usize = 0;
     loop {
         if count == 0 {
-            if kind == 0 {
+            if kind == ITEMS {
                 if depth == 0 {
                     return stopped(
                         Verdict::Whole(at),
@@ -644,7 +636,7 @@ pub fn resume(s: &[u8], from: usize, n: usize, w: Walk) -> Measured
                     kinds[depth] = kind;
                     counts[depth] = count - 1;
                     depth += 1;
-                    kind = 0;
+                    kind = ITEMS;
                     count = c;
                     at = p;
                     heads += 1;
@@ -655,14 +647,14 @@ pub fn resume(s: &[u8], from: usize, n: usize, w: Walk) -> Measured
                     counts[depth] = count - 1;
                     depth += 1;
                     kind = k;
-                    count = 9223372036854775808;
+                    count = HALF;
                     at = p;
                     heads += 1;
                     continue;
                 }
                 Quick::Ends(p) => {
                     if breaks(kind, count) {
-                        kind = 0;
+                        kind = ITEMS;
                         count = 0;
                         at = p;
                         heads += 1;

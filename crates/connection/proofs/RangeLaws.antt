@@ -10,7 +10,7 @@ use lib.ListN.{length, getD}
 use borrow.Author.Tests.{eq-eqb, ne-eqb, eqb-false, lt-ltb, le-leb, lt-leb, leb-true, leb-false}
 use native.Mathlib.Nat.{le-refl}
 use Rattle.base.specs.Below.{allBelow}
-use Rattle.base.proofs.Conds.{by-test, so, is, and-left, and-right, below-at, below-all}
+use Rattle.base.proofs.Conds.{by-test, so, is, and-left, and-right, below-at, below-all, and-equal}
 use Rattle.rows.specs.Rows.{doneOf}
 use Rattle.rows.specs.Spoken.{speaks}
 use Rattle.wire.specs.Instances.{instances}
@@ -23,7 +23,7 @@ use Rattle.connection.specs.declared.Talk.{Talk}
 use Rattle.connection.specs.declared.Connection.{Connection}
 use Rattle.connection.specs.Closings.{gateOk}
 use Rattle.connection.specs.Inside.{Small}
-use Rattle.connection.specs.Ranges.{limitOk, capacityOk, capacitiesOk, settingsOk, restFor, receivingOk, sendingOk, stateOk, turnOk, headerOk, acceptOk, inRange}
+use Rattle.connection.specs.Ranges.{limitOk, capacityOk, capacitiesOk, settingsOk, restFor, receivingOk, sendingOk, stateOk, turnOk, headerOk, acceptOk, inRange, receives, sends}
 
 -- a sum within a capacity
 pub fits-left : (a b c : ℕ) → a ≤ c → leb (a + b) c ≡ leb b (c - a)
@@ -170,3 +170,11 @@ in-range c k =
 
     accept-is : (t : Talk) → (t .accepted ≡ true → getD (t .states) 0 0 ≡ doneOf (speaks 0)) → acceptOk t ≡ true
     accept-is t h = by-test (t .accepted) (λ q. rw (q, eq-eqb (getD (t .states) 0 0) (doneOf (speaks 0)) (h q))) (λ q. rw q)
+
+-- ---- a record in range with the store that is lent, of n bytes
+
+pub receives-both : (c : Connection) (n : ℕ) → receives c n ≡ true → (inRange c ≡ true) × (n ≡ together (c .settings .receive))
+receives-both c n e = and-equal {n = n} {m = together (c .settings .receive)} e
+
+pub sends-both : (c : Connection) (n : ℕ) → sends c n ≡ true → (inRange c ≡ true) × (n ≡ together (c .settings .send))
+sends-both c n e = and-equal {n = n} {m = together (c .settings .send)} e

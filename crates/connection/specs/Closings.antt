@@ -18,6 +18,11 @@ abbrev pub instanceOf : Closing → Option ℕ
 instanceOf (Bare n) = none
 instanceOf (Of n i) = some i
 
+-- what a gate tells: no closing, or its number and, where one is known, its instance
+abbrev pub closingOf : Gate → Option (ℕ × Option ℕ)
+closingOf Open = none
+closingOf (Closed x) = some (numberOf x, instanceOf x)
+
 -- only the first closing is kept
 abbrev pub closedBy : Gate → Closing → Gate
 closedBy Open x = Closed x

@@ -12,12 +12,15 @@ use Rattle.connection.specs.Ranges.{capacityOk, restFor}
 abbrev pub capacitiesIn : List ℕ → List ℕ → ℕ → Bool
 capacitiesIn receive send i = capacityOk (getD receive i 0) && capacityOk (getD send i 0)
 
+-- an area: its capacity in range, the start place below it, the count not above it
+abbrev pub areaIn : ℕ → ℕ → ℕ → Bool
+areaIn cap start count = capacityOk cap && (ltb start cap && leb count cap)
+
 abbrev pub receivingIn : List ℕ → List ℕ → List ℕ → ℕ → ℕ → ℕ → Bool
-receivingIn caps starts held instance rest i =
-    ltb (getD starts i 0) (getD caps i 0) && leb (getD held i 0 + restFor instance rest i) (getD caps i 0)
+receivingIn caps starts held instance rest i = areaIn (getD caps i 0) (getD starts i 0) (getD held i 0 + restFor instance rest i)
 
 abbrev pub sendingIn : List ℕ → List ℕ → List ℕ → ℕ → Bool
-sendingIn caps starts waiting i = ltb (getD starts i 0) (getD caps i 0) && leb (getD waiting i 0) (getD caps i 0)
+sendingIn caps starts waiting i = areaIn (getD caps i 0) (getD starts i 0) (getD waiting i 0)
 
 abbrev pub statesIn : List ℕ → ℕ → Bool
 statesIn states i = leb (getD states i 0) (doneOf (speaks i))

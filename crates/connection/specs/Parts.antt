@@ -1,9 +1,17 @@
--- A record with one of its parts replaced.
+-- A record with one of its parts replaced, and the bytes of an instance.
+use Prim.Native.Nat.{ℕ, _<_}
+use mathlib.Core.Path.{_≡_}
+use mathlib.Core.Bool.{true}
+use mathlib.Core.List.{List}
+use lib.ListN.{length, getD}
+use Rattle.ring.specs.Ring.{baseOf, stream}
+use Rattle.wire.specs.Instances.{instances}
 use Rattle.connection.specs.declared.Receiving.{Receiving}
 use Rattle.connection.specs.declared.Sending.{Sending}
 use Rattle.connection.specs.declared.Talk.{Talk}
 use Rattle.connection.specs.declared.Gate.{Gate}
 use Rattle.connection.specs.declared.Connection.{Connection}
+use Rattle.connection.specs.Ranges.{receives, sends}
 
 abbrev pub withReceiving : Connection → Receiving → Gate → Connection
 withReceiving c r g = record { settings = c .settings; receiving = r; sending = c .sending; talk = c .talk; gate = g }
@@ -16,3 +24,28 @@ withTalk c t = record { settings = c .settings; receiving = c .receiving; sendin
 
 abbrev pub withGate : Connection → Gate → Connection
 withGate c g = record { settings = c .settings; receiving = c .receiving; sending = c .sending; talk = c .talk; gate = g }
+
+-- ---- the bytes of an instance
+
+-- an instance of a record in range with its receive store, and with its send store
+abbrev pub InReceive : Connection → List ℕ → ℕ → Type 0
+InReceive c store i = (receives c (length store) ≡ true) × (i < instances)
+
+abbrev pub InSend : Connection → List ℕ → ℕ → Type 0
+InSend c store i = (sends c (length store) ≡ true) × (i < instances)
+
+-- the first n bytes held of instance i, and all of them
+abbrev pub firstHeld : Connection → List ℕ → ℕ → ℕ → List ℕ
+firstHeld c store i n =
+    stream store (baseOf (c .settings .receive) i) (getD (c .settings .receive) i 0) (getD (c .receiving .starts) i 0) n
+
+abbrev pub heldOf : Connection → List ℕ → ℕ → List ℕ
+heldOf c store i = firstHeld c store i (getD (c .receiving .held) i 0)
+
+-- the first n bytes waiting of instance i, and all of them
+abbrev pub firstWaiting : Connection → List ℕ → ℕ → ℕ → List ℕ
+firstWaiting c store i n =
+    stream store (baseOf (c .settings .send) i) (getD (c .settings .send) i 0) (getD (c .sending .starts) i 0) n
+
+abbrev pub waitingOf : Connection → List ℕ → ℕ → List ℕ
+waitingOf c store i = firstWaiting c store i (getD (c .sending .waiting) i 0)

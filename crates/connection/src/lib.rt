@@ -54,6 +54,7 @@ pub enum Gate {
     Closed(Closing),
 }
 
+// The record of a connection.
 pub struct Connection {
     pub settings: Settings,
     pub receiving: Receiving,

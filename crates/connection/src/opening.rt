@@ -1,4 +1,4 @@
-// Opening a connection.
+// Open: settings become a record. One equation determines number and record, on every input; stores are tested and not written.
 use crate::Connection;
 use crate::Gate;
 use crate::Receiving;
@@ -20,47 +20,8 @@ pub struct Opened {
     pub connection: Connection,
 }
 
-// Settings in, stores tested and not written, record out.
-pub fn open(settings: Settings, receive: &[u8], send: &[u8]) -> Opened
-    ensures { λ r. ⌜ r ≡ openOf settings (length (now (receive .entry))) (length (now (send .entry))) ⌝ }
-{
-    if !settings_ok(settings) {
-        return refused();
-    }
-    let receives = settings.receive;
-    let sends = settings.send;
-    let stores = base::and(
-        receive.len() == together(receives),
-        send.len() == together(sends),
-    );
-    if stores {
-        return Opened {
-            number: 0,
-            connection: empty(settings, 1),
-        };
-    }
-    refused()
-}
-
-// All numbers 0 and no closing.
-fn refused() -> Opened
-    ensures { λ r. ⌜ r ≡ refusedOpen ⌝ }
-{
-    let none = [0; INSTANCES];
-    let settings = Settings {
-        side: Side::Dialler,
-        limit: 0,
-        receive: none,
-        send: none,
-    };
-    Opened {
-        number: 23,
-        connection: empty(settings, 0),
-    }
-}
-
 // Nothing received, nothing sent, every protocol in its first state.
-fn empty(settings: Settings, turn: u64) -> Connection
+fn fresh(settings: Settings, turn: u64) -> Connection
     ensures { λ r. ⌜ r ≡ fresh settings turn ⌝ }
 {
     let zeros = [0; INSTANCES];
@@ -87,4 +48,43 @@ fn empty(settings: Settings, turn: u64) -> Connection
         talk,
         gate: Gate::Open,
     }
+}
+
+// All numbers 0 and no closing.
+fn refused() -> Opened
+    ensures { λ r. ⌜ r ≡ refusedOpen ⌝ }
+{
+    let none = [0; INSTANCES];
+    let settings = Settings {
+        side: Side::Dialler,
+        limit: 0,
+        receive: none,
+        send: none,
+    };
+    Opened {
+        number: 23,
+        connection: fresh(settings, 0),
+    }
+}
+
+// Settings in, stores tested and not written, record out.
+pub fn open(settings: Settings, receive: &[u8], send: &[u8]) -> Opened
+    ensures { λ r. ⌜ r ≡ openOf settings (length (now (receive .entry))) (length (now (send .entry))) ⌝ }
+{
+    if !settings_ok(settings) {
+        return refused();
+    }
+    let receives = settings.receive;
+    let sends = settings.send;
+    let stores = base::and(
+        receive.len() == together(receives),
+        send.len() == together(sends),
+    );
+    if stores {
+        return Opened {
+            number: 0,
+            connection: fresh(settings, 1),
+        };
+    }
+    refused()
 }

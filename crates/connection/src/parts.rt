@@ -13,7 +13,7 @@ ghost use mathlib.Core.Path.{_≡_};
 ghost use Rattle.connection.specs.Closings.{closedBy, isOpen};
 ghost use Rattle.connection.specs.Parts.{withReceiving, withSending, withTalk, withGate};
 
-// What feed changes: what was received, and the gate where it faults.
+// What was received is replaced, and the gate with it, which feed closes at a fault.
 pub fn with_receiving(c: Connection, receiving: Receiving, gate: Gate) -> Connection
     ensures { λ r. ⌜ r ≡ withReceiving c receiving gate ⌝ }
 {
@@ -29,6 +29,7 @@ pub fn with_receiving(c: Connection, receiving: Receiving, gate: Gate) -> Connec
     }
 }
 
+// One part replaced, the others as they came: what is to be sent, where the protocols are, the gate.
 pub fn with_sending(c: Connection, sending: Sending) -> Connection
     ensures { λ r. ⌜ r ≡ withSending c sending ⌝ }
 {
@@ -87,6 +88,7 @@ pub fn close(gate: Gate, why: Closing) -> Gate
     }
 }
 
+// Whether no fault has closed the connection.
 pub fn is_open(gate: Gate) -> bool
     ensures { λ r. ⌜ r ≡ isOpen gate ⌝ }
 {

@@ -1,6 +1,7 @@
 // What of settings and record is in range: exactly document 01's list.
 //
-// Each test is a value, so that the whole is one equation. Capacities are tested before anything is summed.
+// A test is a value, and tests together are one. What every call asks, the range of a record and the walks over its areas,
+// ends at the first test that fails. Capacities are tested before anything is summed.
 use crate::Closing;
 use crate::Connection;
 use crate::Gate;
@@ -19,16 +20,33 @@ ghost use Rattle.rows.specs.Spoken.{speaks};
 ghost use Rattle.ring.specs.Ring.{together};
 ghost use Rattle.wire.specs.Instances.{instances};
 ghost use Rattle.connection.specs.Closings.{faultLeaves, gateOk};
-ghost use Rattle.connection.specs.Ranges.{capacityOk, settingsOk, restFor, turnOk, headerOk, acceptOk, inRange, receives, sends};
-ghost use Rattle.connection.specs.Inside.{capacitiesIn, receivingIn, sendingIn, statesIn, acceptIn, Small};
+ghost use Rattle.connection.specs.Ranges.{limitOk, capacityOk, settingsOk, turnOk, headerOk, acceptOk, inRange, receives, sends};
+ghost use Rattle.connection.specs.Inside.{capacitiesIn, areaIn, receivingIn, sendingIn, statesIn, acceptIn, Small};
 ghost use Rattle.connection.specs.declared.Closing.the-variants.{Of};
 
+// The payload limit S goes from 1 up to this.
+pub const MOST_LIMIT: u64 = 65535;
+
+// Capacities go from the one up to the other.
+pub const LEAST_CAPACITY: u64 = 16;
+
+pub const MOST_CAPACITY: u64 = 131072;
+
+// The payload limit.
+fn limit_ok(s: u64) -> bool
+    ensures { λ r. ⌜ r ≡ limitOk s ⌝ }
+{
+    base::and(1 <= s, s <= MOST_LIMIT)
+}
+
+// A capacity.
 fn capacity_ok(c: u64) -> bool
     ensures { λ r. ⌜ r ≡ capacityOk c ⌝ }
 {
-    base::and(16 <= c, c <= 131072)
+    base::and(LEAST_CAPACITY <= c, c <= MOST_CAPACITY)
 }
 
+// All capacities, receiving and sending.
 fn capacities_ok(receive: [u64; INSTANCES], send: [u64; INSTANCES]) -> bool
     ensures { λ r. ⌜ r ≡ allBelow (capacitiesIn receive send) instances ⌝ }
 {
@@ -47,8 +65,7 @@ pub fn settings_ok(s: Settings) -> bool
 {
     let receive = s.receive;
     let send = s.send;
-    let limit = base::and(1 <= s.limit, s.limit <= 65535);
-    base::and(limit, capacities_ok(receive, send))
+    base::and(limit_ok(s.limit), capacities_ok(receive, send))
 }
 
 // How long a store is: as its capacities together.
@@ -77,13 +94,14 @@ pub fn fits(count: u64, more: u64, cap: u64) -> bool
     false
 }
 
-// Of the payload under way, the bytes still to come for instance i.
-fn rest_for(instance: u64, rest: u64, i: usize) -> u64
-    ensures { λ r. ⌜ r ≡ restFor instance rest i ⌝ }
+// An area: its capacity, the start place below it, and the count not above it.
+fn area_ok(cap: u64, start: u64, count: u64) -> bool
+    ensures { λ r. ⌜ r ≡ areaIn cap start count ⌝ }
 {
-    if instance == i as u64 { rest } else { 0 }
+    base::and(capacity_ok(cap), base::and(start < cap, count <= cap))
 }
 
+// The areas for receiving. The rest of a payload under way is tested once, against the room in its instance's area.
 fn receiving_ok(
     caps: [u64; INSTANCES],
     starts: [u64; INSTANCES],
@@ -93,28 +111,33 @@ fn receiving_ok(
 ) -> bool
     ensures { λ r. ⌜ r ≡ allBelow (receivingIn caps starts held instance rest) instances ⌝ }
 {
-    let mut ok = true;
+    let mut room = rest;
     let mut i: usize = 0;
     while i < INSTANCES {
-        let room = fits(held[i], rest_for(instance, rest, i), caps[i]);
-        ok = base::and(ok, base::and(starts[i] < caps[i], room));
+        if !area_ok(caps[i], starts[i], held[i]) {
+            return false;
+        }
+        room = base::choose(instance == i as u64, caps[i] - held[i], room);
         i += 1;
     }
-    ok
+    rest <= room
 }
 
+// The areas for sending.
 fn sending_ok(caps: [u64; INSTANCES], starts: [u64; INSTANCES], waiting: [u64; INSTANCES]) -> bool
     ensures { λ r. ⌜ r ≡ allBelow (sendingIn caps starts waiting) instances ⌝ }
 {
-    let mut ok = true;
     let mut i: usize = 0;
     while i < INSTANCES {
-        ok = base::and(ok, base::and(starts[i] < caps[i], waiting[i] <= caps[i]));
+        if !area_ok(caps[i], starts[i], waiting[i]) {
+            return false;
+        }
         i += 1;
     }
-    ok
+    true
 }
 
+// States are the protocol's: none is above its last.
 fn states_ok(states: [u64; INSTANCES]) -> bool
     ensures { λ r. ⌜ r ≡ allBelow (statesIn states) instances ⌝ }
 {
@@ -127,17 +150,19 @@ fn states_ok(states: [u64; INSTANCES]) -> bool
     ok
 }
 
+// The header record has fewer than eight bytes, none with a payload under way, whose instance is one.
 fn header_ok(r: Receiving) -> bool
     ensures { λ b. ⌜ b ≡ headerOk r ⌝ }
 {
     let h = r.header;
     let under_way = base::and(h.count == 0, r.instance < INSTANCES as u64);
     base::and(
-        h.count < wire::segment::LENGTH,
+        h.count < wire::segment::HEADER,
         base::or(r.rest == 0, under_way),
     )
 }
 
+// Accept is marked only with Handshake at Done.
 fn accept_ok(accepted: bool, states: [u64; INSTANCES]) -> bool
     ensures { λ r. ⌜ r ≡ acceptIn accepted states ⌝ }
 {
@@ -162,6 +187,7 @@ fn named(n: u64, i: u64) -> bool
     base::or(base::and(n == 12, i == 0), late)
 }
 
+// Open, or closed by a closing that a fault leaves.
 fn gate_ok(g: Gate) -> bool
     ensures { λ r. ⌜ r ≡ gateOk g ⌝ }
 {
@@ -197,10 +223,19 @@ pub fn in_range(c: Connection) -> bool
     let firsts = w.starts;
     let waiting = w.waiting;
     let states = t.states;
-    let talk = base::and(states_ok(states), marks_ok(r, w, t, gate));
-    let sending = base::and(sending_ok(send, firsts, waiting), talk);
-    let receiving = receiving_ok(receive, starts, held, r.instance, r.rest);
-    base::and(settings_ok(s), base::and(receiving, sending))
+    if !limit_ok(s.limit) {
+        return false;
+    }
+    if !receiving_ok(receive, starts, held, r.instance, r.rest) {
+        return false;
+    }
+    if !sending_ok(send, firsts, waiting) {
+        return false;
+    }
+    if !states_ok(states) {
+        return false;
+    }
+    marks_ok(r, w, t, gate)
 }
 
 // Whether a record is in range, and the store that is lent, of n bytes, as long as it says: the receive store, and the

@@ -1,4 +1,4 @@
-// Status: what a connection holds, and why it was closed.
+// Status: what a connection holds, and why it was closed. One equation determines the report, on every record.
 use crate::Connection;
 use crate::Gate;
 use crate::range::in_range;
@@ -17,6 +17,7 @@ pub struct Report {
     pub gate: Gate,
 }
 
+// Tells of a record in range; of one that is not, 23 and nothing else.
 pub fn status(c: Connection) -> Report
     ensures { λ r. ⌜ r ≡ statusOf c ⌝ }
 {

@@ -1,18 +1,18 @@
--- Laws of feeding bytes: a run is fed whole or cut; payload bytes one after the other are kept as a run; the turns of
+-- Laws of feeding bytes: a run is fed whole or cut; payload bytes one after the other are kept as a run; the steps of
 -- feed's loop.
 -- Assumes nothing.
 use mathlib.Core.Path.{_≡_, refl, sym, ap, _∙_, subst}
-use mathlib.Core.Bool.{Bool, true, false, true≢false, cond, _&&_}
+use mathlib.Core.Bool.{Bool, true, false}
 use mathlib.Core.List.{List, [], _∷_, _++_}
-use Prim.Native.Nat.{ℕ, zero, suc, _+_, _-_, _^_, _≤_, _<_}
+use Prim.Native.Nat.{ℕ, suc, _+_, _-_, _^_, _≤_, _<_}
 use native.Mathlib.Omega.{arith}
 use native.Mathlib.Nat.{add-zero, zero-add}
-use borrow.Author.Tests.{eq-eqb, ne-eqb, eqb-true, leb-true}
+use borrow.Author.Tests.{eq-eqb, ne-eqb, leb-true}
 use lib.Dec.{eqb, leb}
-use lib.ListN.{length, getD, set, take, drop, length-set, take-append-drop, drop-of-length-le}
+use lib.ListN.{length, getD, set, drop, length-set, take-append-drop, drop-of-length-le}
 use lib.Seq.{getD-set-same, set-set, drop-cons, drop-drop}
-use Rattle.base.proofs.Conds.{by-test, cond-cases}
-use Rattle.ring.specs.Ring.{together, run, baseOf, laid}
+use Rattle.base.proofs.Conds.{by-test, cond-cases, and-equal}
+use Rattle.ring.specs.Ring.{run, baseOf, laid}
 use Rattle.ring.proofs.Runs.{run-length}
 use Rattle.ring.proofs.Areas.{area-within, base-small}
 use Rattle.ring.proofs.Stores.{laid-length}
@@ -22,22 +22,22 @@ use Rattle.wire.specs.declared.instances.Side.{Side}
 use Rattle.wire.specs.declared.instances.Route.{Route}
 use Rattle.wire.specs.declared.instances.Route.the-variants.{Unknown, Wrong, To}
 use Rattle.wire.specs.Segments.{headerLength, added, decoded}
-use mathlib.Core.Option.{Option, none, some}
-use Rattle.wire.specs.Instances.{Instance, ofSide, bundle, instances, find, takes, orElse, routeOf, Within}
-use Rattle.wire.proofs.InstanceLaws.{find-some}
+use Rattle.wire.specs.Instances.{instances, routeOf, Within}
+use Rattle.wire.proofs.InstanceLaws.{route-within}
 use Rattle.connection.specs.declared.Closing.the-variants.{Of}
 use Rattle.connection.specs.declared.Gate.{Gate}
 use Rattle.connection.specs.declared.Gate.the-variants.{Open, Closed}
 use Rattle.connection.specs.declared.Connection.{Connection}
 use Rattle.connection.specs.Closings.{isOpen}
-use Rattle.connection.specs.Ranges.{inRange, receiveStoreOk, receives}
+use Rattle.connection.specs.Ranges.{inRange, receives}
 use Rattle.connection.proofs.RangeLaws.{Ranged, ranged}
 use Rattle.feeding.specs.declared.Admission.{Admission}
 use Rattle.feeding.specs.declared.Admission.the-variants.{Fault, Payload}
 use Rattle.feeding.specs.declared.Way.{Way}
-use Rattle.feeding.specs.declared.Turn.{Turn}
-use Rattle.feeding.specs.Feeding.{State, admitted, admission, instanceFor, settled, headed, kept, step, fed, used, refused, given, accepted, taken, feedOf}
-use Rattle.feeding.specs.Inside.{state, Ready, Area, Under, Settles, Heads, Keeps, Turns}
+use Rattle.feeding.specs.declared.Step.{Step}
+use Rattle.feeding.specs.Feeding.{Reception, admitted, admission, instanceFor, settled, headed, kept, step, fed, used}
+use Rattle.feeding.specs.Feeding.{told, refused, given, answered, feedOpen, feedOf}
+use Rattle.feeding.specs.Inside.{reception, Sound, Area, Under, Settles, Heads, Lays, Steps}
 
 pub open-is : (g : Gate) → isOpen g ≡ true → g ≡ Open
 open-is Open e = refl
@@ -46,38 +46,38 @@ open-is (Closed x) e = cc
 -- ---- one byte
 
 module _ (side : Side) (caps : List ℕ) where
-  pub step-closed : (s : State) (b : ℕ) → isOpen (s .gate) ≡ false → step side caps s b ≡ s
+  pub step-closed : (s : Reception) (b : ℕ) → isOpen (s .gate) ≡ false → step side caps s b ≡ s
   unfolding step
   step-closed s b g = rw g
 
-  pub step-headed : (s : State) (b : ℕ) → isOpen (s .gate) ≡ true → s .receiving .rest ≡ 0 → step side caps s b ≡ headed side caps s b
+  pub step-headed : (s : Reception) (b : ℕ) → isOpen (s .gate) ≡ true → s .receiving .rest ≡ 0 → step side caps s b ≡ headed side caps s b
   unfolding step
   step-headed s b g z = rw (g, eq-eqb (s .receiving .rest) 0 z)
 
-  pub step-kept : (s : State) (b : ℕ) → isOpen (s .gate) ≡ true → 0 < s .receiving .rest → step side caps s b ≡ kept caps s (b ∷ [])
+  pub step-kept : (s : Reception) (b : ℕ) → isOpen (s .gate) ≡ true → 0 < s .receiving .rest → step side caps s b ≡ kept caps s (b ∷ [])
   unfolding step
   step-kept s b g h = rw (g, ne-eqb (s .receiving .rest) 0 (λ e. omega arith))
 
   -- ---- a run
 
   -- a closed connection takes nothing
-  pub fed-closed : (s : State) (xs : List ℕ) → isOpen (s .gate) ≡ false → fed side caps s xs ≡ s
+  pub fed-closed : (s : Reception) (xs : List ℕ) → isOpen (s .gate) ≡ false → fed side caps s xs ≡ s
   unfolding fed
   fed-closed s [] g = refl
-  fed-closed s (x ∷ xs) g = ap (λ (t : State). fed side caps t xs) (step-closed s x g) ∙ fed-closed s xs g
+  fed-closed s (x ∷ xs) g = ap (λ (t : Reception). fed side caps t xs) (step-closed s x g) ∙ fed-closed s xs g
 
-  pub used-closed : (s : State) (xs : List ℕ) → isOpen (s .gate) ≡ false → used side caps s xs ≡ 0
+  pub used-closed : (s : Reception) (xs : List ℕ) → isOpen (s .gate) ≡ false → used side caps s xs ≡ 0
   unfolding used
   used-closed s [] g = refl
   used-closed s (x ∷ xs) g = rw g
 
   -- the bytes of a run in two parts
-  pub fed-append : (s : State) (xs ys : List ℕ) → fed side caps s (xs ++ ys) ≡ fed side caps (fed side caps s xs) ys
+  pub fed-append : (s : Reception) (xs ys : List ℕ) → fed side caps s (xs ++ ys) ≡ fed side caps (fed side caps s xs) ys
   unfolding fed
   fed-append s [] ys = refl
   fed-append s (x ∷ xs) ys = fed-append (step side caps s x) xs ys
 
-  pub used-append : (s : State) (xs ys : List ℕ)
+  pub used-append : (s : Reception) (xs ys : List ℕ)
       → used side caps s (xs ++ ys) ≡ used side caps s xs + used side caps (fed side caps s xs) ys
   unfolding fed used
   used-append s [] ys = sym (zero-add (used side caps s ys))
@@ -89,7 +89,7 @@ module _ (side : Side) (caps : List ℕ) where
 
   -- ---- a payload
 
-  kept-more : (s : State) (x : ℕ) (xs : List ℕ) → 1 < s .receiving .rest → s .receiving .instance < length (s .receiving .held)
+  kept-more : (s : Reception) (x : ℕ) (xs : List ℕ) → 1 < s .receiving .rest → s .receiving .instance < length (s .receiving .held)
       → kept caps (kept caps s (x ∷ [])) xs ≡ kept caps s (x ∷ xs)
   unfolding kept laid
   kept-more s x xs h l =
@@ -104,11 +104,11 @@ module _ (side : Side) (caps : List ℕ) where
       let next : start + (getD held i 0 + 1) ≡ suc (start + getD held i 0) = omega arith in
       rw (more, now, set-set, count, less, next)
 
-  kept-many : (s : State) (xs : List ℕ) → length (kept caps s xs .receiving .held) ≡ length (s .receiving .held)
+  kept-many : (s : Reception) (xs : List ℕ) → length (kept caps s xs .receiving .held) ≡ length (s .receiving .held)
   unfolding kept
   kept-many s xs = simp length-set
 
-  kept-on : (s : State) (xs : List ℕ) → length xs < s .receiving .rest
+  kept-on : (s : Reception) (xs : List ℕ) → length xs < s .receiving .rest
       → (kept caps s xs .gate ≡ s .gate)
       × (kept caps s xs .receiving .rest ≡ s .receiving .rest - length xs)
       × (kept caps s xs .receiving .instance ≡ s .receiving .instance)
@@ -116,7 +116,7 @@ module _ (side : Side) (caps : List ℕ) where
   kept-on s xs h = (refl, refl, rw (ne-eqb (s .receiving .rest - length xs) 0 (λ e. omega arith)))
 
   -- payload bytes fed one after the other are kept as a run
-  pub fed-kept : (s : State) (xs ys : List ℕ) → isOpen (s .gate) ≡ true → 0 < length xs → length xs ≤ s .receiving .rest
+  pub fed-kept : (s : Reception) (xs ys : List ℕ) → isOpen (s .gate) ≡ true → 0 < length xs → length xs ≤ s .receiving .rest
       → s .receiving .instance < length (s .receiving .held)
       → (fed side caps s (xs ++ ys) ≡ fed side caps (kept caps s xs) ys)
       × (used side caps s (xs ++ ys) ≡ length xs + used side caps (kept caps s xs) ys)
@@ -124,9 +124,9 @@ module _ (side : Side) (caps : List ℕ) where
   fed-kept s [] ys g p l h = absurd (omega arith)
   fed-kept s (x ∷ []) ys g p l h =
       let one : step side caps s x ≡ kept caps s (x ∷ []) = step-kept s x g (omega arith) in
-      (ap (λ (t : State). fed side caps t ys) one, rw (g, one) (omega arith))
+      (ap (λ (t : Reception). fed side caps t ys) one, rw (g, one) (omega arith))
   fed-kept s (x ∷ y ∷ xs) ys g p l h =
-      let s1 : State = kept caps s (x ∷ []) in
+      let s1 : Reception = kept caps s (x ∷ []) in
       let one : step side caps s x ≡ s1 = step-kept s x g (omega arith) in
       let on = kept-on s (x ∷ []) (omega arith) in
       let many : length (s1 .receiving .held) ≡ length (s .receiving .held) = kept-many s (x ∷ []) in
@@ -134,29 +134,11 @@ module _ (side : Side) (caps : List ℕ) where
       let l1 : length (y ∷ xs) ≤ s1 .receiving .rest = omega (arith, on .1) in
       let rest = fed-kept s1 (y ∷ xs) ys (rw (on .0) g) (omega arith) l1 h1 in
       let all : kept caps s1 (y ∷ xs) ≡ kept caps s (x ∷ y ∷ xs) = kept-more s x (y ∷ xs) (omega arith) h in
-      let after : used side caps (kept caps s1 (y ∷ xs)) ys ≡ used side caps (kept caps s (x ∷ y ∷ xs)) ys = ap (λ (t : State). used side caps t ys) all in (
-        ap (λ (t : State). fed side caps t (y ∷ xs ++ ys)) one ∙ rest .0 ∙ ap (λ (t : State). fed side caps t ys) all,
+      let after : used side caps (kept caps s1 (y ∷ xs)) ys ≡ used side caps (kept caps s (x ∷ y ∷ xs)) ys =
+      ap (λ (t : Reception). used side caps t ys) all in (
+        ap (λ (t : Reception). fed side caps t (y ∷ xs ++ ys)) one ∙ rest .0 ∙ ap (λ (t : Reception). fed side caps t ys) all,
         rw (g, one) (omega (arith, rest .1, after)),
       )
-
--- ---- the route
-
-within-or : (o : Option ℕ) (r : Route) → ((i : ℕ) → o ≡ some i → i < instances) → Within r → Within (orElse o Wrong r)
-within-or none r f h = h
-within-or (some i) r f h = f i refl
-
-found : (f : Instance → Bool) (i : ℕ) → find f 0 bundle ≡ some i → i < instances
-found f i e = let q = find-some f (record { protocol = 0; role = ofSide }) bundle 0 i e in omega (arith, q .1, q .2)
-
--- a route leads to an instance, if to any
-pub route-within : (side : Side) (p m : ℕ) → Within (routeOf side p m)
-unfolding routeOf
-route-within side p m = go (find (takes side p m) 0 bundle) refl
-  where
-    go : (o : Option ℕ) → find (takes side p m) 0 bundle ≡ o → Within (orElse o To (orElse (find (λ (x : Instance). eqb (x .protocol) p) 0 bundle) Wrong Unknown))
-    go (some i) e = found (takes side p m) i e
-    go none e =
-        within-or (find (λ (x : Instance). eqb (x .protocol) p) 0 bundle) Unknown (λ i q. found (λ (x : Instance). eqb (x .protocol) p) i q) tt
 
 -- ---- a header byte, as the code goes
 
@@ -175,11 +157,11 @@ pub admission-by : (side : Side) (caps held : List ℕ) (h : Header) (d : Segmen
 unfolding admission
 admission-by side caps held h d r e f = rw (f, e)
 
-pub heads-whole : (side : Side) (caps held : List ℕ) (w : Way) (b : ℕ) (h : Header) (a : Admission) (t : Turn) → h ≡ added (w .header) b
-    → leb headerLength (h .count) ≡ true → a ≡ admission side caps held h → Settles w a t → Heads side caps held w b t
+pub heads-whole : (side : Side) (caps held : List ℕ) (w : Way) (b : ℕ) (h : Header) (a : Admission) (t : Step) → h ≡ added (w .header) b
+    → leb headerLength (h .count) ≡ true → a ≡ admission side caps held h → Settles w a 1 t → Heads side caps held w b t
 unfolding headed
 heads-whole side caps held w b h a t e q f k =
-    record { one = k .one; leaves = λ starts store. k .leaves starts held store ∙ rw (← e, q, f) }
+    record { one = k .uses; leaves = λ starts store. k .leaves starts held store ∙ rw (← e, q, f) }
 
 pub heads-part : (side : Side) (caps held : List ℕ) (w : Way) (b : ℕ) (h : Header) → h ≡ added (w .header) b → leb headerLength (h .count) ≡ false
     → Heads side caps held w b (record { way = record { header = h; instance = w .instance; rest = w .rest }; gate = Open; used = 1 })
@@ -188,13 +170,14 @@ heads-part side caps held w b h e q = record { one = refl; leaves = λ starts st
 
 -- ---- a run of payload bytes, as the code goes
 
-pub keeps : (caps starts held : List ℕ) (w : Way) (store store′ xs : List ℕ) (at n i : ℕ) → 0 < n → at + n ≤ length xs → n ≤ w .rest
-    → store′ ≡ laid store (baseOf caps (w .instance)) (getD caps (w .instance) 0) (getD starts (w .instance) 0 + getD held (w .instance) 0) (run xs at n)
+pub lays : (caps starts held : List ℕ) (w : Way) (store store′ xs : List ℕ) (at n i : ℕ) → 0 < n → at + n ≤ length xs → n ≤ w .rest
+    → store′ ≡ laid store (baseOf caps (w .instance)) (getD caps (w .instance) 0) (getD starts (w .instance) 0 + getD held (w .instance) 0)
+    (run xs at n)
     → i ≡ instanceFor (w .rest - n) (w .instance)
-    → Keeps caps starts held (set held (w .instance) (getD held (w .instance) 0 + n)) w store store′ xs at
+    → Lays caps starts held (set held (w .instance) (getD held (w .instance) 0 + n)) w store store′ xs at
     (record { way = record { header = w .header; instance = i; rest = w .rest - n }; gate = Open; used = n })
 unfolding kept
-keeps caps starts held w store store′ xs at n i more ends within e f =
+lays caps starts held w store store′ xs at n i more ends within e f =
     let long : length (run xs at n) ≡ n = run-length xs at n ends in
     record { some = more; ends = ends; within = within; leaves = rw (long, e, f) }
 
@@ -209,13 +192,14 @@ area-in caps i n a =
 
 -- ---- what feeding rests on stays
 
-ready-settled : (caps : List ℕ) (s : State) (n : ℕ) (r : Route) → Within r → Ready caps s → Ready caps (settled s (admitted caps (s .receiving .held) n r))
-ready-settled caps s n Unknown w r =
+sound-settled : (caps : List ℕ) (s : Reception) (n : ℕ) (r : Route) → Within r → Sound caps s
+    → Sound caps (settled s (admitted caps (s .receiving .held) n r))
+sound-settled caps s n Unknown w r =
     record { areas = r .areas; wide = r .wide; many = r .many; each = r .each; under = r .under }
-ready-settled caps s n (Wrong i) w r =
+sound-settled caps s n (Wrong i) w r =
     record { areas = r .areas; wide = r .wide; many = r .many; each = r .each; under = r .under }
-ready-settled caps s n (To i) w r =
-    cond-cases (λ (a : Admission). Ready caps (settled s a)) (leb (getD (s .receiving .held) i 0 + n) (getD caps i 0))
+sound-settled caps s n (To i) w r =
+    cond-cases (λ (a : Admission). Sound caps (settled s a)) (leb (getD (s .receiving .held) i 0 + n) (getD caps i 0))
     (λ e.
     record {
       areas = r .areas;
@@ -226,18 +210,25 @@ ready-settled caps s n (To i) w r =
     })
     (λ e. record { areas = r .areas; wide = r .wide; many = r .many; each = r .each; under = r .under })
 
-pub ready-headed : (side : Side) (caps : List ℕ) (s : State) (b : ℕ) → Ready caps s → Ready caps (headed side caps s b)
-unfolding headed admission
-ready-headed side caps s b r =
-    let h = added (s .receiving .header) b in
+pub sound-admission : (side : Side) (caps : List ℕ) (s : Reception) (h : Header) → Sound caps s
+    → Sound caps (settled s (admission side caps (s .receiving .held) h))
+unfolding admission
+sound-admission side caps s h r =
     let d = decoded (h .bytes) in
-    cond-cases (Ready caps) (leb headerLength (h .count))
-    (λ e. ready-settled caps s (d .len) (routeOf side (d .protocol) (d .mode)) (route-within side (d .protocol) (d .mode)) r)
+    sound-settled caps s (d .len) (routeOf side (d .protocol) (d .mode)) (route-within side (d .protocol) (d .mode)) r
+
+pub sound-headed : (side : Side) (caps : List ℕ) (s : Reception) (b : ℕ) → Sound caps s → Sound caps (headed side caps s b)
+unfolding headed
+sound-headed side caps s b r =
+    let h = added (s .receiving .header) b in
+    cond-cases (Sound caps) (leb headerLength (h .count))
+    (λ e. sound-admission side caps s h r)
     (λ e. record { areas = r .areas; wide = r .wide; many = r .many; each = r .each; under = r .under })
 
-pub ready-kept : (caps : List ℕ) (s : State) (xs : List ℕ) → Ready caps s → 0 < s .receiving .rest → length xs ≤ s .receiving .rest → Ready caps (kept caps s xs)
+pub sound-kept : (caps : List ℕ) (s : Reception) (xs : List ℕ) → Sound caps s → 0 < s .receiving .rest → length xs ≤ s .receiving .rest
+    → Sound caps (kept caps s xs)
 unfolding kept
-ready-kept caps s xs r more l =
+sound-kept caps s xs r more l =
     let i = s .receiving .instance in
     let held = s .receiving .held in
     let u = r .under more in
@@ -252,8 +243,9 @@ ready-kept caps s xs r more l =
     }
 
 -- a payload under way has its area, and room there
-pub ready-under : (caps starts held : List ℕ) (w : Way) (store : List ℕ) → Ready caps (state starts held w Open store) → 0 < w .rest → Under caps starts held w (length store)
-ready-under caps starts held w store r more =
+pub sound-under : {caps starts held : List ℕ} {w : Way} {store : List ℕ} → Sound caps (reception starts held w Open store) → 0 < w .rest
+    → Under caps starts held w (length store)
+sound-under {w = w} r more =
     let u = r .under more in
     let e = r .each (w .instance) (u .0) in
     record {
@@ -264,15 +256,16 @@ ready-under caps starts held w store r more =
       small = e .1;
     }
 
--- ---- the turns of feed's loop
+-- ---- the steps of feed's loop
 
-module _ (side : Side) (caps starts held : List ℕ) (w : Way) (store xs : List ℕ) (at : ℕ) (t : Turn) (r : Ready caps (state starts held w Open store)) where
+module _ {side : Side} {caps starts held : List ℕ} {w : Way} {store xs : List ℕ} {at : ℕ} {t : Step}
+    (r : Sound caps (reception starts held w Open store)) where
   -- a header byte
-  pub turn-header : at < length xs → w .rest ≡ 0 → Heads side caps held w (getD xs at 0) t → Turns side caps starts held held w store store xs at t
+  pub steps-header : at < length xs → w .rest ≡ 0 → Heads side caps held w (getD xs at 0) t → Steps side caps starts held held w store store xs at t
   unfolding fed used
-  turn-header h z k =
-      let s : State = state starts held w Open store in
-      let n : State = state starts held (t .way) (t .gate) store in
+  steps-header h z k =
+      let s : Reception = reception starts held w Open store in
+      let n : Reception = reception starts held (t .way) (t .gate) store in
       let leads : step side caps s (getD xs at 0) ≡ n = step-headed side caps s (getD xs at 0) refl z ∙ sym (k .leaves starts store) in
       let e : suc at ≡ at + t .used = omega (arith, k .one) in
       record {
@@ -280,95 +273,104 @@ module _ (side : Side) (caps starts held : List ℕ) (w : Way) (store xs : List 
         ends = omega (arith, k .one);
         leaves =
             ap (λ (l : List ℕ). fed side caps s l) (drop-cons xs at 0 h)
-            ∙ ap (λ (m : State). fed side caps m (drop (suc at) xs)) leads
+            ∙ ap (λ (m : Reception). fed side caps m (drop (suc at) xs)) leads
             ∙ ap (λ (m : ℕ). fed side caps n (drop m xs)) e;
         counts =
             ap (λ (l : List ℕ). used side caps s l) (drop-cons xs at 0 h)
-            ∙ ap (λ (m : State). suc (used side caps m (drop (suc at) xs))) leads
+            ∙ ap (λ (m : Reception). suc (used side caps m (drop (suc at) xs))) leads
             ∙ ap (λ (m : ℕ). suc (used side caps n (drop m xs))) e
             ∙ omega (arith, k .one);
-        ready = subst (Ready caps) (sym (k .leaves starts store)) (ready-headed side caps s (getD xs at 0) r);
+        sound = subst (Sound caps) (sym (k .leaves starts store)) (sound-headed side caps s (getD xs at 0) r);
+      }
+
+  -- a run of bytes whose law says to which reception it leads
+  pub steps-run : {held′ store′ : List ℕ} (m : Reception) → 0 < t .used → at + t .used ≤ length xs
+      → reception starts held′ (t .way) (t .gate) store′ ≡ m → Sound caps m
+      → ((ys : List ℕ)
+      → (fed side caps (reception starts held w Open store) (run xs at (t .used) ++ ys) ≡ fed side caps m ys)
+      × (used side caps (reception starts held w Open store) (run xs at (t .used) ++ ys) ≡ length (run xs at (t .used)) + used side caps m ys))
+      → Steps side caps starts held held′ w store store′ xs at t
+  steps-run {held′} {store′} m more ends leads ready law =
+      let s : Reception = reception starts held w Open store in
+      let p : List ℕ = run xs at (t .used) in
+      let behind : List ℕ = drop (at + t .used) xs in
+      let long : length p ≡ t .used = run-length xs at (t .used) ends in
+      let cut : drop at xs ≡ p ++ behind = sym (take-append-drop (t .used) (drop at xs)) ∙ ap (λ (l : List ℕ). p ++ l) (drop-drop (t .used) at xs) in
+      let all = law behind in
+      record {
+        some = more;
+        ends = ends;
+        leaves = ap (λ (l : List ℕ). fed side caps s l) cut ∙ all .0 ∙ ap (λ (n : Reception). fed side caps n behind) (sym leads);
+        counts =
+            ap (λ (l : List ℕ). used side caps s l) cut ∙ all .1
+            ∙ ap (λ (n : Reception). length p + used side caps n behind) (sym leads)
+            ∙ ap (λ (n : ℕ). n + used side caps (reception starts held′ (t .way) (t .gate) store′) behind) long;
+        sound = subst (Sound caps) (sym leads) ready;
       }
 
   -- a run of payload bytes
-  pub turn-kept : (held′ store′ : List ℕ) → 0 < w .rest → Keeps caps starts held held′ w store store′ xs at t
-      → Turns side caps starts held held′ w store store′ xs at t
-  turn-kept held′ store′ more k =
-      let s : State = state starts held w Open store in
-      let n : State = state starts held′ (t .way) (t .gate) store′ in
+  pub steps-kept : {held′ store′ : List ℕ} → 0 < w .rest → Lays caps starts held held′ w store store′ xs at t
+      → Steps side caps starts held held′ w store store′ xs at t
+  steps-kept more k =
+      let s : Reception = reception starts held w Open store in
       let p : List ℕ = run xs at (t .used) in
-      let behind : List ℕ = drop (at + t .used) xs in
       let long : length p ≡ t .used = run-length xs at (t .used) (k .ends) in
-      let cut : drop at xs ≡ p ++ behind = sym (take-append-drop (t .used) (drop at xs)) ∙ ap (λ (l : List ℕ). p ++ l) (drop-drop (t .used) at xs) in
-      let all = fed-kept side caps s p behind refl (omega (arith, k .some)) (omega (arith, k .within)) (omega (arith, r .under more .0, r .many)) in
-      record {
-        some = k .some;
-        ends = k .ends;
-        leaves = ap (λ (l : List ℕ). fed side caps s l) cut ∙ all .0 ∙ ap (λ (m : State). fed side caps m behind) (sym (k .leaves));
-        counts =
-            ap (λ (l : List ℕ). used side caps s l) cut ∙ all .1
-            ∙ ap (λ (m : State). length p + used side caps m behind) (sym (k .leaves))
-            ∙ ap (λ (m : ℕ). m + used side caps n behind) long;
-        ready = subst (Ready caps) (sym (k .leaves)) (ready-kept caps s p r more (omega (arith, k .within)));
-      }
+      steps-run (kept caps s p) (k .some) (k .ends) (k .leaves) (sound-kept caps s p r more (omega (arith, k .within)))
+      (λ ys. fed-kept side caps s p ys refl (omega (arith, k .some)) (omega (arith, k .within)) (omega (arith, r .under more .0, r .many)))
 
 -- the loop: what is left to feed leaves what all of it does
-pub record Running (side : Side) (caps : List ℕ) (s₀ : State) (xs : List ℕ) (s : State) (at : ℕ) : Type 0 where
+pub record Running (side : Side) (caps : List ℕ) (s₀ : Reception) (xs : List ℕ) (s : Reception) (at : ℕ) : Type 0 where
   pub ends : at ≤ length xs
   pub long : length (s .store) ≡ length (s₀ .store)
-  pub ready : Ready caps s
+  pub sound : Sound caps s
   pub leaves : fed side caps s₀ xs ≡ fed side caps s (drop at xs)
   pub counts : used side caps s₀ xs ≡ at + used side caps s (drop at xs)
 
-module _ (side : Side) (caps : List ℕ) (s₀ : State) (xs starts held : List ℕ) (w : Way) (store : List ℕ) (at : ℕ)
-    (v : Running side caps s₀ xs (state starts held w Open store) at) where
-  pub run-more : (held′ store′ : List ℕ) (t : Turn) → Turns side caps starts held held′ w store store′ xs at t → isOpen (t .gate) ≡ true
-      → Running side caps s₀ xs (state starts held′ (t .way) Open store′) (at + t .used)
-  run-more held′ store′ t k g =
-      subst (λ (o : Gate). Running side caps s₀ xs (state starts held′ (t .way) o store′) (at + t .used)) (open-is (t .gate) g)
+module _ {side : Side} {caps : List ℕ} {s₀ : Reception} {xs starts held : List ℕ} {w : Way} {store : List ℕ} {at : ℕ}
+    (v : Running side caps s₀ xs (reception starts held w Open store) at) where
+  pub run-more : {held′ store′ : List ℕ} {t : Step} → Steps side caps starts held held′ w store store′ xs at t → isOpen (t .gate) ≡ true
+      → Running side caps s₀ xs (reception starts held′ (t .way) Open store′) (at + t .used)
+  run-more {held′} {store′} {t} k g =
+      subst (λ (o : Gate). Running side caps s₀ xs (reception starts held′ (t .way) o store′) (at + t .used)) (open-is (t .gate) g)
       (record {
         ends = k .ends;
-        long = k .ready .areas ∙ sym (v .ready .areas) ∙ v .long;
-        ready = k .ready;
+        long = k .sound .areas ∙ sym (v .sound .areas) ∙ v .long;
+        sound = k .sound;
         leaves = v .leaves ∙ k .leaves;
         counts = omega (arith, v .counts, k .counts);
       })
 
   -- at the byte that closes
-  pub run-shut : (held′ store′ : List ℕ) (t : Turn) → Turns side caps starts held held′ w store store′ xs at t → isOpen (t .gate) ≡ false
-      → (state starts held′ (t .way) (t .gate) store′ ≡ fed side caps s₀ xs) × (at + t .used ≡ used side caps s₀ xs)
-  run-shut held′ store′ t k g =
-      let n : State = state starts held′ (t .way) (t .gate) store′ in
+  pub run-shut : {held′ store′ : List ℕ} {t : Step} → Steps side caps starts held held′ w store store′ xs at t → isOpen (t .gate) ≡ false
+      → (reception starts held′ (t .way) (t .gate) store′ ≡ fed side caps s₀ xs) × (at + t .used ≡ used side caps s₀ xs)
+  run-shut {held′} {store′} {t} k g =
+      let n : Reception = reception starts held′ (t .way) (t .gate) store′ in
       let behind : List ℕ = drop (at + t .used) xs in (
         sym (v .leaves ∙ k .leaves ∙ fed-closed side caps n behind g),
         omega (arith, v .counts, k .counts, used-closed side caps n behind g),
       )
 
   -- at the end of the run
-  pub run-end : length xs ≤ at → (state starts held w Open store ≡ fed side caps s₀ xs) × (at ≡ used side caps s₀ xs)
+  pub run-end : length xs ≤ at → (reception starts held w Open store ≡ fed side caps s₀ xs) × (at ≡ used side caps s₀ xs)
   unfolding fed used
   run-end h =
       let e : drop at xs ≡ [] = drop-of-length-le xs h in
-      let s : State = state starts held w Open store in (
+      let s : Reception = reception starts held w Open store in (
         sym (v .leaves ∙ ap (λ (l : List ℕ). fed side caps s l) e),
         sym (v .counts ∙ ap (λ (l : List ℕ). at + used side caps s l) e ∙ add-zero at),
       )
 
 -- ---- a call, as the code goes
 
-pub both-true : (a b : Bool) → (a && b) ≡ true → (a ≡ true) × (b ≡ true)
-both-true true b e = (refl, e)
-both-true false b e = absurd (true≢false (sym e))
-
 -- a record in range and its store are ready
-pub ready-given : (c : Connection) (st : List ℕ) → receives c (length st) ≡ true → length (c .settings .receive) ≡ instances
-    → length (c .receiving .held) ≡ instances → Ready (c .settings .receive) (given c st)
-ready-given c st e wide many =
+pub sound-given : (c : Connection) (st : List ℕ) → receives c (length st) ≡ true → length (c .settings .receive) ≡ instances
+    → length (c .receiving .held) ≡ instances → Sound (c .settings .receive) (given c st)
+sound-given c st e wide many =
     let r = c .receiving in
-    let p = both-true (inRange c) (receiveStoreOk (c .settings) (length st)) e in
+    let p = and-equal {a = inRange c} e in
     let k : Ranged c = ranged c (p .0) in
     record {
-      areas = eqb-true (length st) (together (c .settings .receive)) (p .1);
+      areas = p .1;
       wide = wide;
       many = many;
       each = λ i h. (k .receiving i h .0, k .set .receive i h .1);
@@ -379,24 +381,27 @@ ready-given c st e wide many =
 
 -- the parts of a record that is open
 pub open-parts : (c : Connection) (st : List ℕ) → c .gate ≡ Open
-    → state (c .receiving .starts) (c .receiving .held) (record { header = c .receiving .header; instance = c .receiving .instance; rest = c .receiving .rest }) Open st ≡ given c st
+    → let r = c .receiving in
+    let w : Way = record { header = r .header; instance = r .instance; rest = r .rest } in
+    reception (r .starts) (r .held) w Open st ≡ given c st
 open-parts c st o = ap (λ (g : Gate). record { receiving = c .receiving; gate = g; store = st }) (sym o)
 
-pub taken-by : (c : Connection) (st xs : List ℕ) (n : ℕ) (s s₀ : State) → s₀ ≡ given c st → s ≡ fed (c .settings .side) (c .settings .receive) s₀ xs
-    → n ≡ used (c .settings .side) (c .settings .receive) s₀ xs → accepted c n s ≡ taken c st xs
-unfolding taken
-taken-by c st xs n s s₀ e f g = rw (f, g, e)
+pub open-by : (c : Connection) (st xs : List ℕ) (n : ℕ) (s s₀ : Reception) → s₀ ≡ given c st
+    → s ≡ fed (c .settings .side) (c .settings .receive) s₀ xs
+    → n ≡ used (c .settings .side) (c .settings .receive) s₀ xs → answered c n s ≡ feedOpen c st xs
+unfolding feedOpen
+open-by c st xs n s s₀ e f g = rw (f, g, e)
 
 -- the ways out
 module _ (c : Connection) (st xs : List ℕ) where
-  pub feed-range : receives c (length st) ≡ false → feedOf c st xs ≡ refused 23 c st
+  pub feed-range : receives c (length st) ≡ false → feedOf c st xs ≡ told (refused c 23) st
   unfolding feedOf
   feed-range e = rw e
 
-  pub feed-closed : receives c (length st) ≡ true → isOpen (c .gate) ≡ false → feedOf c st xs ≡ refused 20 c st
+  pub feed-closed : receives c (length st) ≡ true → isOpen (c .gate) ≡ false → feedOf c st xs ≡ told (refused c 20) st
   unfolding feedOf
   feed-closed e g = rw (e, g)
 
-  pub feed-taken : receives c (length st) ≡ true → isOpen (c .gate) ≡ true → feedOf c st xs ≡ taken c st xs
+  pub feed-open : receives c (length st) ≡ true → isOpen (c .gate) ≡ true → feedOf c st xs ≡ feedOpen c st xs
   unfolding feedOf
-  feed-taken e g = rw (e, g)
+  feed-open e g = rw (e, g)

@@ -13,7 +13,8 @@ use Rattle.wire.specs.declared.segment.Header.{Header}
 use Rattle.wire.specs.declared.instances.Side.{Side}
 use Rattle.wire.specs.declared.instances.Route.{Route}
 use Rattle.wire.specs.declared.instances.Route.the-variants.{Unknown, Wrong, To}
-use Rattle.wire.specs.Segments.{headerLength, added}
+use Rattle.wire.specs.Segments.{headerLength, added, decoded}
+use Rattle.wire.specs.Instances.{routeOf}
 use Rattle.connection.specs.declared.Closing.{Closing}
 use Rattle.connection.specs.declared.Closing.the-variants.{Bare, Of}
 use Rattle.connection.specs.declared.Gate.{Gate}
@@ -21,8 +22,8 @@ use Rattle.connection.specs.declared.Gate.the-variants.{Closed}
 use Rattle.connection.specs.Closings.{numberOf, isOpen}
 use Rattle.feeding.specs.declared.Admission.{Admission}
 use Rattle.feeding.specs.declared.Admission.the-variants.{Fault, Payload}
-use Rattle.feeding.specs.Feeding.{State, admitted, admission, settled, headed, kept, step, fed, used}
-use Rattle.feeding.specs.Feeds.{Eighth}
+use Rattle.feeding.specs.Feeding.{Reception, admitted, admission, settled, headed, kept, step, fed, used}
+use Rattle.feeding.specs.Numbers.{Eighth}
 use Rattle.feeding.proofs.Bytes.{step-headed, fed-closed, used-closed, fed-append, used-append}
 
 -- an open gate is not closed
@@ -61,32 +62,44 @@ cause-number (overflow i h) = (omega arith, omega arith)
 
 -- ---- which byte
 
--- what follows from what an eighth byte says
-pub eighth-so : {side : Side} {caps : List ℕ} {s : State} {xs : List ℕ} {P Q : List ℕ → ℕ → Route → Type 0}
-    → ((held : List ℕ) (n : ℕ) (to : Route) → P held n to → Q held n to) → Eighth side caps s xs P → Eighth side caps s xs Q
-eighth-so f k =
-    record {
-      front = k .front;
-      byte = k .byte;
-      back = k .back;
-      run = k .run;
-      reached = k .reached;
-      idle = k .idle;
-      whole = k .whole;
-      says = f _ _ _ (k .says);
-    }
+module _ {side : Side} {caps : List ℕ} {s : Reception} {xs : List ℕ} {P : List ℕ → ℕ → Route → Type 0} where
+  -- Q holds of the counts, the length and the route of an eighth byte
+  abbrev pub Holds : Eighth side caps s xs P → (List ℕ → ℕ → Route → Type 0) → Type 0
+  Holds k Q =
+      let m = fed side caps s (k .front) .receiving in
+      let d = decoded (added (m .header) (k .byte) .bytes) in
+      Q (m .held) (d .len) (routeOf side (d .protocol) (d .mode))
+
+  -- the same byte, of which more is known
+  pub eighth-with : {Q : List ℕ → ℕ → Route → Type 0} (k : Eighth side caps s xs P) → Holds k Q → Eighth side caps s xs Q
+  eighth-with k q =
+      record {
+        front = k .front;
+        byte = k .byte;
+        back = k .back;
+        run = k .run;
+        reached = k .reached;
+        idle = k .idle;
+        whole = k .whole;
+        says = q;
+      }
+
+  -- what follows from what it says
+  pub eighth-so : {Q : List ℕ → ℕ → Route → Type 0} → ((held : List ℕ) (n : ℕ) (to : Route) → P held n to → Q held n to)
+      → Eighth side caps s xs P → Eighth side caps s xs Q
+  eighth-so {Q} f k = eighth-with {Q = Q} k (f _ _ _ (k .says))
 
 module _ (side : Side) (caps : List ℕ) where
   -- what an eighth byte says
   abbrev pub Refuses : Closing → List ℕ → ℕ → Route → Type 0
   Refuses x held n to = admitted caps held n to ≡ Fault x
 
-  settled-closes : (s : State) (a : Admission) (x : Closing) → isOpen (s .gate) ≡ true → settled s a .gate ≡ Closed x → a ≡ Fault x
+  settled-closes : (s : Reception) (a : Admission) (x : Closing) → isOpen (s .gate) ≡ true → settled s a .gate ≡ Closed x → a ≡ Fault x
   settled-closes s (Fault y) x o e = let q : y ≡ x = cc in ap Fault q
   settled-closes s (Payload i n) x o e = never (s .gate) x o e
 
   -- a byte that closes is the eighth of a header that is a fault
-  step-closes : (s : State) (b : ℕ) (x : Closing) → isOpen (s .gate) ≡ true → step side caps s b .gate ≡ Closed x
+  step-closes : (s : Reception) (b : ℕ) (x : Closing) → isOpen (s .gate) ≡ true → step side caps s b .gate ≡ Closed x
       → (s .receiving .rest ≡ 0) × (headerLength ≤ added (s .receiving .header) b .count)
       × (admission side caps (s .receiving .held) (added (s .receiving .header) b) ≡ Fault x)
   unfolding step headed kept
@@ -103,7 +116,7 @@ module _ (side : Side) (caps : List ℕ) where
       (λ q. never (s .gate) x o (rw (o, t, q) at e)))
       (λ t. never (s .gate) x o (rw (o, t) at e))
 
-  pub fault-found : (s : State) (xs : List ℕ) (x : Closing) → isOpen (s .gate) ≡ true → fed side caps s xs .gate ≡ Closed x
+  pub fault-found : (s : Reception) (xs : List ℕ) (x : Closing) → isOpen (s .gate) ≡ true → fed side caps s xs .gate ≡ Closed x
       → Eighth side caps s xs (Refuses x)
   unfolding fed admission
   fault-found s [] x o e = never (s .gate) x o e
@@ -122,42 +135,48 @@ module _ (side : Side) (caps : List ℕ) where
         says = k .says;
       })
       (λ t.
-      let k = step-closes s b x o (ap (λ (q : State). q .gate) (sym (fed-closed side caps (step side caps s b) bs t)) ∙ e) in
+      let k = step-closes s b x o (ap (λ (q : Reception). q .gate) (sym (fed-closed side caps (step side caps s b) bs t)) ∙ e) in
       record { front = []; byte = b; back = bs; run = refl; reached = o; idle = k .0; whole = k .1; says = k .2 })
 
   -- ---- what it leaves
 
   -- while the connection stays open, all bytes are used
-  pub used-all : (s : State) (xs : List ℕ) → isOpen (fed side caps s xs .gate) ≡ true → used side caps s xs ≡ length xs
+  pub used-all : (s : Reception) (xs : List ℕ) → isOpen (fed side caps s xs .gate) ≡ true → used side caps s xs ≡ length xs
   unfolding fed used
   used-all s [] o = refl
   used-all s (x ∷ xs) o =
       by-test (isOpen (s .gate)) (λ t. rw t (ap suc (used-all (step side caps s x) xs o)))
       (λ t.
       let stays : fed side caps s (x ∷ xs) ≡ s = fed-closed side caps s (x ∷ xs) t in
-      absurd (true≢false (sym o ∙ ap (λ (q : State). isOpen (q .gate)) stays ∙ t)))
+      absurd (true≢false (sym o ∙ ap (λ (q : Reception). isOpen (q .gate)) stays ∙ t)))
 
-  pub fault-leaves : (s : State) (xs : List ℕ) (x : Closing) (e : Eighth side caps s xs (Refuses x))
+  pub fault-leaves : (s : Reception) (xs : List ℕ) (x : Closing) (e : Eighth side caps s xs (Refuses x))
       → (fed side caps s xs ≡ settled (fed side caps s (e .front)) (Fault x)) × (used side caps s xs ≡ suc (length (e .front)))
   unfolding fed used headed admission
   fault-leaves s xs x e =
-      let m : State = fed side caps s (e .front) in
-      let n : State = settled m (Fault x) in
+      let m : Reception = fed side caps s (e .front) in
+      let n : Reception = settled m (Fault x) in
       let h : Header = added (m .receiving .header) (e .byte) in
       let leads : step side caps m (e .byte) ≡ n =
       step-headed side caps m (e .byte) (e .reached) (e .idle)
       ∙ rw (le-leb headerLength (h .count) (e .whole), e .says) in
       let on : fed side caps m (e .byte ∷ e .back) ≡ n =
-      ap (λ (q : State). fed side caps q (e .back)) leads ∙ fed-closed side caps n (e .back) refl in
+      ap (λ (q : Reception). fed side caps q (e .back)) leads ∙ fed-closed side caps n (e .back) refl in
       let last : used side caps (step side caps m (e .byte)) (e .back) ≡ 0 =
-      ap (λ (q : State). used side caps q (e .back)) leads ∙ used-closed side caps n (e .back) refl in
+      ap (λ (q : Reception). used side caps q (e .back)) leads ∙ used-closed side caps n (e .back) refl in
       let some : used side caps m (e .byte ∷ e .back) ≡ 1 = rw (e .reached) (ap suc last) in (
         ap (λ (l : List ℕ). fed side caps s l) (e .run) ∙ fed-append side caps s (e .front) (e .byte ∷ e .back) ∙ on,
         ap (λ (l : List ℕ). used side caps s l) (e .run) ∙ used-append side caps s (e .front) (e .byte ∷ e .back)
             ∙ omega (arith, used-all s (e .front) (e .reached), some),
       )
 
-  pub fault-why : (s : State) (xs : List ℕ) (x : Closing) → isOpen (s .gate) ≡ true → fed side caps s xs .gate ≡ Closed x
+  -- what was open at a byte was open before
+  pub open-before : (s : Reception) (xs : List ℕ) → isOpen (fed side caps s xs .gate) ≡ true → isOpen (s .gate) ≡ true
+  open-before s xs o =
+      by-test (isOpen (s .gate)) (λ t. t)
+      (λ t. absurd (true≢false (sym o ∙ ap (λ (q : Reception). isOpen (q .gate)) (fed-closed side caps s xs t) ∙ t)))
+
+  pub fault-why : (s : Reception) (xs : List ℕ) (x : Closing) → isOpen (s .gate) ≡ true → fed side caps s xs .gate ≡ Closed x
       → Eighth side caps s xs (λ held n to. Cause caps held n to x)
   fault-why s xs x o e =
       eighth-so {P = Refuses x} {Q = λ held n to. Cause caps held n to x} (λ held n to f. cause caps held n to x f) (fault-found s xs x o e)

@@ -1,17 +1,18 @@
 -- Feeding keeps the range, byte by byte.
 -- Assumes nothing.
 use mathlib.Core.Path.{_≡_, refl, sym, _∙_, subst}
-use mathlib.Core.Bool.{Bool, true, false, cond, _&&_}
+use mathlib.Core.Bool.{Bool, true, false, cond}
 use mathlib.Core.List.{List, [], _∷_}
 use Prim.Native.Nat.{ℕ, zero, suc, _+_, _-_, _≤_, _<_}
 use native.Mathlib.Omega.{arith}
 use borrow.Author.Tests.{ne-eqb, eqb-true, eqb-false, lt-ltb, leb-true, leb-false}
 use lib.Dec.{eqb, leb, ltb}
-use lib.ListN.{length, getD, set, replicate, length-set}
+use lib.ListN.{length, getD, set, length-set}
 use lib.Seq.{getD-set-other}
 use Rattle.base.specs.Numbers.{Bytes}
 use Rattle.base.proofs.Conds.{by-test, cond-cases}
-use Rattle.ring.specs.Ring.{baseOf, laid}
+use Rattle.base.proofs.NumberLaws.{bytes-set, bytes-zeros}
+use Rattle.ring.specs.Ring.{baseOf}
 use Rattle.ring.proofs.Stores.{laid-length}
 use Rattle.wire.specs.declared.segment.Header.{Header}
 use Rattle.wire.specs.declared.instances.Side.{Side}
@@ -20,19 +21,18 @@ use Rattle.wire.specs.declared.instances.Route.the-variants.{Unknown, Wrong, To
 use Rattle.wire.specs.Segments.{headerLength, empty, added, decoded}
 use Rattle.wire.specs.Instances.{instances, routeOf, Within}
 use Rattle.wire.proofs.SegmentLaws.{round-trip}
-use Rattle.wire.proofs.InstanceLaws.{one-way}
+use Rattle.wire.proofs.InstanceLaws.{one-way, route-within}
 use Rattle.connection.specs.declared.Connection.{Connection}
 use Rattle.connection.specs.Closings.{isOpen, gateOk}
 use Rattle.connection.specs.Parts.{withReceiving}
 use Rattle.connection.specs.Ranges.{restFor, inRange}
 use Rattle.connection.proofs.RangeLaws.{Ranged, ranged, in-range}
 use Rattle.feeding.specs.declared.Admission.{Admission}
-use Rattle.feeding.specs.Feeding.{State, admitted, admission, instanceFor, settled, headed, kept, step, fed, given}
-use Rattle.feeding.specs.Feeds.{Spelt}
-use Rattle.feeding.proofs.Bytes.{route-within}
+use Rattle.feeding.specs.Feeding.{Reception, admitted, admission, instanceFor, settled, headed, kept, step, fed, given}
+use Rattle.feeding.specs.Numbers.{Spelt}
 
 -- what feeding can change of the range
-pub record Kept (caps starts : List ℕ) (n : ℕ) (s : State) : Type 0 where
+pub record Kept (caps starts : List ℕ) (n : ℕ) (s : Reception) : Type 0 where
   pub places : s .receiving .starts ≡ starts
   pub held : (i : ℕ) → i < instances → getD (s .receiving .held) i 0 + restFor (s .receiving .instance) (s .receiving .rest) i ≤ getD caps i 0
   pub header : s .receiving .header .count < headerLength
@@ -54,7 +54,7 @@ set-most (x ∷ l) zero a = omega arith
 set-most (x ∷ l) (suc i) a = set-most l i a
 
 module _ (side : Side) (caps starts : List ℕ) (n : ℕ) where
-  kept-settled : (s : State) (m : ℕ) (r : Route) → Within r → Kept caps starts n s → s .receiving .rest ≡ 0
+  kept-settled : (s : Reception) (m : ℕ) (r : Route) → Within r → Kept caps starts n s → s .receiving .rest ≡ 0
       → Kept caps starts n (settled s (admitted caps (s .receiving .held) m r))
   kept-settled s m Unknown w k z =
       record { places = k .places; held = k .held; header = omega arith; under-way = λ more. absurd (omega arith); long = k .long }
@@ -78,7 +78,7 @@ module _ (side : Side) (caps starts : List ℕ) (n : ℕ) where
       })
       (λ t. record { places = k .places; held = k .held; header = omega arith; under-way = λ more. absurd (omega arith); long = k .long })
 
-  kept-headed : (s : State) (b : ℕ) → Kept caps starts n s → s .receiving .rest ≡ 0 → Kept caps starts n (headed side caps s b)
+  kept-headed : (s : Reception) (b : ℕ) → Kept caps starts n s → s .receiving .rest ≡ 0 → Kept caps starts n (headed side caps s b)
   unfolding headed admission
   kept-headed s b k z =
       let h = added (s .receiving .header) b in
@@ -94,7 +94,7 @@ module _ (side : Side) (caps starts : List ℕ) (n : ℕ) where
         long = k .long;
       })
 
-  kept-payload : (s : State) (b : ℕ) → Kept caps starts n s → 0 < s .receiving .rest → Kept caps starts n (kept caps s (b ∷ []))
+  kept-payload : (s : Reception) (b : ℕ) → Kept caps starts n s → 0 < s .receiving .rest → Kept caps starts n (kept caps s (b ∷ []))
   unfolding kept
   kept-payload s b k more =
       let r = s .receiving in
@@ -117,7 +117,7 @@ module _ (side : Side) (caps starts : List ℕ) (n : ℕ) where
         long = laid-length (s .store) (baseOf caps i) (getD caps i 0) (getD (r .starts) i 0 + getD held i 0) (b ∷ []) ∙ k .long;
       }
 
-  kept-step : (s : State) (b : ℕ) → Kept caps starts n s → Kept caps starts n (step side caps s b)
+  kept-step : (s : Reception) (b : ℕ) → Kept caps starts n s → Kept caps starts n (step side caps s b)
   unfolding step
   kept-step s b k =
       cond-cases (Kept caps starts n) (isOpen (s .gate))
@@ -126,7 +126,7 @@ module _ (side : Side) (caps starts : List ℕ) (n : ℕ) where
       (λ t. let z = eqb-false (s .receiving .rest) 0 t in kept-payload s b k (omega arith)))
       (λ o. k)
 
-  pub kept-fed : (s : State) (xs : List ℕ) → Kept caps starts n s → Kept caps starts n (fed side caps s xs)
+  pub kept-fed : (s : Reception) (xs : List ℕ) → Kept caps starts n s → Kept caps starts n (fed side caps s xs)
   unfolding fed
   kept-fed s [] k = k
   kept-fed s (x ∷ xs) k = kept-fed (step side caps s x) xs (kept-step s x k)
@@ -139,7 +139,7 @@ kept-given c st e =
     record { places = refl; held = λ i l. k .receiving i l .1; header = k .header; under-way = k .under-way; long = refl }
 
 -- a record in range stays so with what feeding leaves and a closing that a fault leaves
-pub range-with : (c : Connection) (n : ℕ) (s : State) → inRange c ≡ true → Kept (c .settings .receive) (c .receiving .starts) n s
+pub range-with : (c : Connection) (n : ℕ) (s : Reception) → inRange c ≡ true → Kept (c .settings .receive) (c .receiving .starts) n s
     → gateOk (s .gate) ≡ true → inRange (withReceiving c (s .receiving) (s .gate)) ≡ true
 range-with c n s e k g =
     let was : Ranged c = ranged c e in
@@ -158,57 +158,48 @@ range-with c n s e k g =
 
 -- ---- bytes
 
-bytes-set : (l : List ℕ) (i x : ℕ) → Bytes l → x < 256 → Bytes (set l i x)
-unfolding Bytes
-bytes-set [] i x b h = b
-bytes-set (y ∷ l) zero x (_, b) h = (h, b)
-bytes-set (y ∷ l) (suc i) x (g, b) h = (g, bytes-set l i x b h)
-
 spelt-added : (h : Header) (b : ℕ) → Spelt h → b < 256 → Spelt (added h b)
 unfolding added
 spelt-added h b (l, s) t =
-    cond-cases Spelt (ltb (h .count) headerLength) (λ q. (length-set (h .bytes) (h .count) b ∙ l, bytes-set (h .bytes) (h .count) b s t)) (λ q. (l, s))
-
-pub zeros : (k : ℕ) → Bytes (replicate k 0)
-unfolding Bytes
-zeros zero = tt
-zeros (suc k) = (omega arith, zeros k)
+    cond-cases Spelt (ltb (h .count) headerLength)
+    (λ q. (length-set (h .bytes) (h .count) b ∙ l, bytes-set (h .bytes) (h .count) b s t))
+    (λ q. (l, s))
 
 pub spelt-empty : Spelt empty
-spelt-empty = (refl, zeros headerLength)
+spelt-empty = (refl, bytes-zeros headerLength)
 
 module _ (side : Side) (caps : List ℕ) where
   -- the closing is one that a fault leaves
-  abbrev Sound : State → Type 0
-  Sound s = Spelt (s .receiving .header) × (gateOk (s .gate) ≡ true)
+  abbrev Proper : Reception → Type 0
+  Proper s = Spelt (s .receiving .header) × (gateOk (s .gate) ≡ true)
 
-  sound-settled : (s : State) (p m n : ℕ) → m < 2 → Sound s → Sound (settled s (admitted caps (s .receiving .held) n (routeOf side p m)))
-  sound-settled s p m n two k = go (routeOf side p m) refl
+  proper-settled : (s : Reception) (p m n : ℕ) → m < 2 → Proper s → Proper (settled s (admitted caps (s .receiving .held) n (routeOf side p m)))
+  proper-settled s p m n two k = go (routeOf side p m) refl
     where
-      go : (r : Route) → routeOf side p m ≡ r → Sound (settled s (admitted caps (s .receiving .held) n r))
+      go : (r : Route) → routeOf side p m ≡ r → Proper (settled s (admitted caps (s .receiving .held) n r))
       go Unknown e = (spelt-empty, refl)
       go (Wrong i) e = let z : i ≡ 0 = (one-way .wrong side p m i two .0 e) .0 in (spelt-empty, rw z refl)
       go (To i) e =
-          cond-cases (λ (a : Admission). Sound (settled s a)) (leb (getD (s .receiving .held) i 0 + n) (getD caps i 0)) (λ t. (spelt-empty, k .1))
+          cond-cases (λ (a : Admission). Proper (settled s a)) (leb (getD (s .receiving .held) i 0 + n) (getD caps i 0)) (λ t. (spelt-empty, k .1))
           (λ t. (spelt-empty, lt-ltb i instances (subst Within e (route-within side p m))))
 
-  sound-step : (s : State) (b : ℕ) → Sound s → b < 256 → Sound (step side caps s b)
+  proper-step : (s : Reception) (b : ℕ) → Proper s → b < 256 → Proper (step side caps s b)
   unfolding step headed admission kept
-  sound-step s b k l =
+  proper-step s b k l =
       let h : Header = added (s .receiving .header) b in
       let spelt : Spelt h = spelt-added (s .receiving .header) b (k .0) l in
       let d = decoded (h .bytes) in
-      cond-cases Sound (isOpen (s .gate))
+      cond-cases Proper (isOpen (s .gate))
       (λ o.
-      cond-cases Sound (eqb (s .receiving .rest) 0)
+      cond-cases Proper (eqb (s .receiving .rest) 0)
       (λ t.
-      cond-cases Sound (leb headerLength (h .count))
-      (λ q. sound-settled s (d .protocol) (d .mode) (d .len) (round-trip .written-read (h .bytes) (spelt .0) (spelt .1) .0 .mode) k)
+      cond-cases Proper (leb headerLength (h .count))
+      (λ q. proper-settled s (d .protocol) (d .mode) (d .len) (round-trip .written-read (h .bytes) (spelt .0) (spelt .1) .0 .mode) k)
       (λ q. (spelt, k .1)))
       (λ t. k))
       (λ o. k)
 
-  pub sound-fed : (s : State) (xs : List ℕ) → Sound s → Bytes xs → Sound (fed side caps s xs)
+  pub proper-fed : (s : Reception) (xs : List ℕ) → Proper s → Bytes xs → Proper (fed side caps s xs)
   unfolding fed Bytes
-  sound-fed s [] k b = k
-  sound-fed s (x ∷ xs) k (l, b) = sound-fed (step side caps s x) xs (sound-step s x k l) b
+  proper-fed s [] k b = k
+  proper-fed s (x ∷ xs) k (l, b) = proper-fed (step side caps s x) xs (proper-step s x k l) b

@@ -1,6 +1,6 @@
 -- Feed (document 01, "Segments", and "Numbers and their order").
 use Prim.Native.Nat.{ℕ, suc, _+_, _-_}
-use mathlib.Core.Bool.{Bool, cond, _&&_}
+use mathlib.Core.Bool.{cond}
 use mathlib.Core.List.{List, [], _∷_}
 use lib.Dec.{eqb, leb}
 use lib.ListN.{length, getD, set}
@@ -24,7 +24,7 @@ use Rattle.feeding.specs.declared.Admission.the-variants.{Fault, Payload
 use Rattle.feeding.specs.declared.Fed.{Fed}
 
 -- What feed changes: what was received, the gate, and the receive store.
-pub record State : Type 0 where
+pub record Reception : Type 0 where
   pub receiving : Receiving
   pub gate : Gate
   pub store : List ℕ
@@ -52,7 +52,7 @@ abbrev pub withHeader : Receiving → Header → Receiving
 withHeader r h = record { starts = r .starts; held = r .held; header = h; instance = r .instance; rest = r .rest }
 
 -- The three faults close the connection, and each way the header record is emptied.
-abbrev pub settled : State → Admission → State
+abbrev pub settled : Reception → Admission → Reception
 settled s (Fault x) = record { receiving = withHeader (s .receiving) empty; gate = Closed x; store = s .store }
 settled s (Payload i n) =
     record {
@@ -63,7 +63,7 @@ settled s (Payload i n) =
     }
 
 -- one byte of a header
-unfoldable pub headed : Side → List ℕ → State → ℕ → State
+unfoldable pub headed : Side → List ℕ → Reception → ℕ → Reception
 headed side caps s b =
     let h = added (s .receiving .header) b in
     cond (leb headerLength (h .count)) (settled s (admission side caps (s .receiving .held) h))
@@ -72,7 +72,7 @@ headed side caps s b =
 -- ---- a payload
 
 -- bytes of the payload under way are held: they follow those that are held, in the stream of the instance
-unfoldable pub kept : List ℕ → State → List ℕ → State
+unfoldable pub kept : List ℕ → Reception → List ℕ → Reception
 kept caps s xs =
     let r = s .receiving in
     let i = r .instance in
@@ -94,17 +94,17 @@ kept caps s xs =
 -- ---- bytes
 
 -- One byte: of the payload under way, else of a header. A closed connection takes nothing.
-unfoldable pub step : Side → List ℕ → State → ℕ → State
+unfoldable pub step : Side → List ℕ → Reception → ℕ → Reception
 step side caps s b =
     cond (isOpen (s .gate)) (cond (eqb (s .receiving .rest) 0) (headed side caps s b) (kept caps s (b ∷ []))) s
 
 -- a run: its bytes one after the other
-unfoldable pub fed : Side → List ℕ → State → List ℕ → State
+unfoldable pub fed : Side → List ℕ → Reception → List ℕ → Reception
 fed side caps s [] = s
 fed side caps s (b ∷ bs) = fed side caps (step side caps s b) bs
 
 -- how many of them are used: those up to the byte that closes
-unfoldable pub used : Side → List ℕ → State → List ℕ → ℕ
+unfoldable pub used : Side → List ℕ → Reception → List ℕ → ℕ
 used side caps s [] = 0
 used side caps s (b ∷ bs) = cond (isOpen (s .gate)) (suc (used side caps (step side caps s b) bs)) 0
 
@@ -123,25 +123,26 @@ pub record Told : Type 0 where
 abbrev pub told : Fed → List ℕ → Told
 told r st = record { answer = r; store = st }
 
--- record and store as they were given
-abbrev pub refused : ℕ → Connection → List ℕ → Told
-refused n c st = told (record { number = n; used = 0; connection = c }) st
+-- the record as it was given, and no byte used
+abbrev pub refused : Connection → ℕ → Fed
+refused c n = record { number = n; used = 0; connection = c }
 
-abbrev pub given : Connection → List ℕ → State
+abbrev pub given : Connection → List ℕ → Reception
 given c st = record { receiving = c .receiving; gate = c .gate; store = st }
 
-abbrev pub accepted : Connection → ℕ → State → Told
-accepted c n s =
+abbrev pub answered : Connection → ℕ → Reception → Told
+answered c n s =
     told (record { number = left (s .gate); used = n; connection = withReceiving c (s .receiving) (s .gate) }) (s .store)
 
--- the bytes, from record and store as given
-unfoldable pub taken : Connection → List ℕ → List ℕ → Told
-taken c st xs =
+-- the bytes fed to an open connection, from record and store as given
+unfoldable pub feedOpen : Connection → List ℕ → List ℕ → Told
+feedOpen c st xs =
     let side = c .settings .side in
     let caps = c .settings .receive in
     let s = given c st in
-    accepted c (used side caps s xs) (fed side caps s xs)
+    answered c (used side caps s xs) (fed side caps s xs)
 
 -- Feed: 23; 20 (also for no bytes); and else the bytes.
 unfoldable pub feedOf : Connection → List ℕ → List ℕ → Told
-feedOf c st xs = cond (receives c (length st)) (cond (isOpen (c .gate)) (taken c st xs) (refused 20 c st)) (refused 23 c st)
+feedOf c st xs =
+    cond (receives c (length st)) (cond (isOpen (c .gate)) (feedOpen c st xs) (told (refused c 20) st)) (told (refused c 23) st)

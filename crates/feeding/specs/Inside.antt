@@ -1,21 +1,23 @@
 -- What only this crate's own functions cite.
-use Prim.Native.Nat.{ℕ, _+_, _-_, _≤_, _<_}
+use Prim.Native.Nat.{ℕ, _+_, _≤_, _<_}
 use mathlib.Core.Path.{_≡_}
-use mathlib.Core.List.{List}
+use mathlib.Core.List.{List, [], _∷_}
 use lib.ListN.{length, getD, drop}
 use Rattle.ring.specs.Ring.{together, run}
+use Rattle.wire.specs.declared.segment.Header.{Header}
 use Rattle.wire.specs.declared.instances.Side.{Side}
+use Rattle.wire.specs.Segments.{headerLength, empty, added}
 use Rattle.wire.specs.Instances.{instances}
 use Rattle.connection.specs.declared.Gate.{Gate}
 use Rattle.connection.specs.declared.Gate.the-variants.{Open}
 use Rattle.feeding.specs.declared.Admission.{Admission}
 use Rattle.feeding.specs.declared.Way.{Way}
-use Rattle.feeding.specs.declared.Turn.{Turn}
-use Rattle.feeding.specs.Feeding.{State, settled, headed, kept, fed, used}
+use Rattle.feeding.specs.declared.Step.{Step}
+use Rattle.feeding.specs.Feeding.{Reception, settled, headed, kept, fed, used}
 
--- the state by its parts
-abbrev pub state : List ℕ → List ℕ → Way → Gate → List ℕ → State
-state starts held w g store =
+-- a reception by its parts
+abbrev pub reception : List ℕ → List ℕ → Way → Gate → List ℕ → Reception
+reception starts held w g store =
     record {
       receiving = record { starts = starts; held = held; header = w .header; instance = w .instance; rest = w .rest };
       gate = g;
@@ -23,7 +25,7 @@ state starts held w g store =
     }
 
 -- What of the range feeding rests on: the store is its areas, each with its start; and there is room for the payload under way.
-pub record Ready (caps : List ℕ) (s : State) : Type 0 where
+pub record Sound (caps : List ℕ) (s : Reception) : Type 0 where
   pub areas : length (s .store) ≡ together caps
   pub wide : length caps ≡ instances
   pub many : length (s .receiving .held) ≡ instances
@@ -48,28 +50,38 @@ pub record Under (caps starts held : List ℕ) (w : Way) (n : ℕ) : Type 0 wher
   pub room : getD held (w .instance) 0 + w .rest ≤ getD caps (w .instance) 0
   pub small : getD caps (w .instance) 0 ≤ 131072
 
--- a turn uses one byte and leads to the state that a whole header does, and a header byte
-pub record Settles (w : Way) (a : Admission) (t : Turn) : Type 0 where
-  pub one : t .used ≡ 1
-  pub leaves : (starts held store : List ℕ) → state starts held (t .way) (t .gate) store ≡ settled (state starts held w Open store) a
+-- a header record after bytes more, added one after the other
+unfoldable pub filled : Header → List ℕ → Header
+filled h [] = h
+filled h (b ∷ bs) = filled (added h b) bs
 
-pub record Heads (side : Side) (caps held : List ℕ) (w : Way) (b : ℕ) (t : Turn) : Type 0 where
-  pub one : t .used ≡ 1
-  pub leaves : (starts store : List ℕ) → state starts held (t .way) (t .gate) store ≡ headed side caps (state starts held w Open store) b
+-- the header whose eight bytes are those of xs from `at` on
+abbrev pub headerAt : List ℕ → ℕ → Header
+headerAt xs at = filled empty (run xs at headerLength)
 
--- a turn uses as many bytes of the run xs from `at` on as it says, at least one, and keeps them
-pub record Keeps (caps starts held held′ : List ℕ) (w : Way) (store store′ xs : List ℕ) (at : ℕ) (t : Turn) : Type 0 where
+-- a step uses n bytes and leads to what a whole header does
+pub record Settles (w : Way) (a : Admission) (n : ℕ) (t : Step) : Type 0 where
+  pub uses : t .used ≡ n
+  pub leaves : (starts held store : List ℕ) → reception starts held (t .way) (t .gate) store ≡ settled (reception starts held w Open store) a
+
+-- a step uses one byte and leads to what a header byte does
+pub record Heads (side : Side) (caps held : List ℕ) (w : Way) (b : ℕ) (t : Step) : Type 0 where
+  pub one : t .used ≡ 1
+  pub leaves : (starts store : List ℕ) → reception starts held (t .way) (t .gate) store ≡ headed side caps (reception starts held w Open store) b
+
+-- a step uses as many bytes of the run xs from `at` on as it says, at least one, and lays them in the store
+pub record Lays (caps starts held held′ : List ℕ) (w : Way) (store store′ xs : List ℕ) (at : ℕ) (t : Step) : Type 0 where
   pub some : 0 < t .used
   pub ends : at + t .used ≤ length xs
   pub within : t .used ≤ w .rest
-  pub leaves : state starts held′ (t .way) (t .gate) store′ ≡ kept caps (state starts held w Open store) (run xs at (t .used))
+  pub leaves : reception starts held′ (t .way) (t .gate) store′ ≡ kept caps (reception starts held w Open store) (run xs at (t .used))
 
--- a turn leads to a state from which the bytes that are left to feed leave what they would have left before it
-pub record Turns (side : Side) (caps starts held held′ : List ℕ) (w : Way) (store store′ xs : List ℕ) (at : ℕ) (t : Turn) : Type 0 where
+-- a step leads to a reception from which the bytes that are left to feed leave what they would have left before it
+pub record Steps (side : Side) (caps starts held held′ : List ℕ) (w : Way) (store store′ xs : List ℕ) (at : ℕ) (t : Step) : Type 0 where
   pub some : 0 < t .used
   pub ends : at + t .used ≤ length xs
-  pub leaves : fed side caps (state starts held w Open store) (drop at xs)
-      ≡ fed side caps (state starts held′ (t .way) (t .gate) store′) (drop (at + t .used) xs)
-  pub counts : used side caps (state starts held w Open store) (drop at xs)
-      ≡ t .used + used side caps (state starts held′ (t .way) (t .gate) store′) (drop (at + t .used) xs)
-  pub ready : Ready caps (state starts held′ (t .way) (t .gate) store′)
+  pub leaves : fed side caps (reception starts held w Open store) (drop at xs)
+      ≡ fed side caps (reception starts held′ (t .way) (t .gate) store′) (drop (at + t .used) xs)
+  pub counts : used side caps (reception starts held w Open store) (drop at xs)
+      ≡ t .used + used side caps (reception starts held′ (t .way) (t .gate) store′) (drop (at + t .used) xs)
+  pub sound : Sound caps (reception starts held′ (t .way) (t .gate) store′)

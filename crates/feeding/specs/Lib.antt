@@ -1,3 +1,3 @@
 pub mod Feeding
-pub mod Feeds
+pub mod Numbers
 pub mod Inside

@@ -1,27 +1,42 @@
 // Feed: a run of bytes, cut anywhere, goes into the receive store, segment by segment.
 //
-// What a run means is said byte by byte. The code takes header bytes one by one and payload bytes in runs. The range
-// is tested once for a call, the room once for a segment, and the record is put together once, at the end.
+// One equation says the number, the bytes used, the whole next record and every byte of the receive store, on every
+// input. It goes byte by byte; the code reads in steps: payload bytes in runs, the eight bytes of a header where they are
+// all there, and else one. The range is tested once for a call, the room once for a segment, and the record is put
+// together once, at the end.
 use connection::Closing;
 use connection::Connection;
 use connection::Gate;
 use connection::Receiving;
+use connection::parts::is_open;
+use connection::parts::with_receiving;
+use connection::range::fits;
+use connection::range::receives;
 use wire::instances::INSTANCES;
 use wire::instances::Route;
 use wire::instances::Side;
+use wire::segment::HEADER;
 use wire::segment::Header;
 ghost use mathlib.Core.Path.{_≡_};
 ghost use mathlib.Core.Bool.{true};
-ghost use Prim.Native.Nat.{_+_, _-_, _≤_, _<_, min};
+ghost use Prim.Native.Nat.{_+_, _-_, _≤_, _<_};
 ghost use lib.ListN.{length, getD};
 ghost use Rattle.ring.specs.Ring.{baseOf, laid, run};
 ghost use Rattle.wire.specs.Instances.{instances};
+ghost use Rattle.wire.specs.Segments.{headerLength};
 ghost use Rattle.wire.specs.declared.instances.Route.the-variants.{To};
 ghost use Rattle.connection.specs.declared.Gate.the-variants.{Open};
 ghost use Rattle.connection.specs.Closings.{numberOf};
 ghost use Rattle.connection.specs.Ranges.{receives};
-ghost use Rattle.feeding.specs.Feeding.{admitted, admission, instanceFor, left, fed, used, told, taken, feedOf};
-ghost use Rattle.feeding.specs.Inside.{state, Ready, Area, Under, Settles, Heads, Keeps, Turns};
+ghost use Rattle.feeding.specs.Feeding.{admitted, admission, instanceFor, fed, used, left, told, refused, feedOpen, feedOf};
+ghost use Rattle.feeding.specs.Inside.{reception, Sound, Area, Under, headerAt, Settles, Heads, Lays, Steps};
+
+// Feed's answer: the number, how many bytes were used, and the record.
+pub struct Fed {
+    pub number: u64,
+    pub used: usize,
+    pub connection: Connection,
+}
 
 // What a whole header leads to: a fault, or a payload for an instance and how many bytes it has.
 pub enum Admission {
@@ -29,39 +44,39 @@ pub enum Admission {
     Payload(u64, u64),
 }
 
-// What changes from turn to turn: the header record; and of a payload under way, its instance and the bytes to come.
+// What changes from step to step: the header record; and of a payload under way, its instance and the bytes to come.
 struct Way {
     header: Header,
     instance: u64,
     rest: u64,
 }
 
-// What a turn leads to, and how many bytes it used.
-struct Turn {
+// What a step of reading leads to, and how many bytes it used.
+struct Step {
     way: Way,
     gate: Gate,
     used: usize,
 }
 
-// A segment with the mode of our own side.
+// The fault of a segment with the mode of our own side.
 fn wrong(i: usize) -> Admission
     ensures { λ r. ⌜ r ≡ Admission.Fault (Closing.Of 12 i) ⌝ }
 {
     Admission::Fault(Closing::Of(12, i as u64))
 }
 
-// Whether there is room for n bytes more: asked once for a segment.
+// A payload of n bytes for instance i, if there is room for all of it; asked once for a segment.
 fn room(caps: &[u64; INSTANCES], held: &[u64; INSTANCES], n: u64, i: usize) -> Admission
     requires { ⌜ i < instances ⌝ }
     ensures { λ r. ⌜ r ≡ admitted (now (caps .entry)) (now (held .entry)) n (To i) ⌝ }
 {
-    if connection::range::fits(held[i], n, caps[i]) {
+    if fits(held[i], n, caps[i]) {
         return Admission::Payload(i as u64, n);
     }
     Admission::Fault(Closing::Of(13, i as u64))
 }
 
-// What a whole header leads to.
+// What a whole header leads to: its route and its length decide.
 fn admit(side: Side, caps: &[u64; INSTANCES], held: &[u64; INSTANCES], h: Header) -> Admission
     ensures { λ r. ⌜ r ≡ admission side (now (caps .entry)) (now (held .entry)) h ⌝ }
 {
@@ -83,65 +98,96 @@ fn instance_for(rest: u64, i: u64) -> u64
 }
 
 // The connection is closed, and the header record emptied.
-fn shut(w: Way, x: Closing) -> Turn
-    ensures { λ r. ⌜ Settles w (Admission.Fault x) r ⌝ }
+fn shut(w: Way, x: Closing, used: usize) -> Step
+    ensures { λ r. ⌜ Settles w (Admission.Fault x) used r ⌝ }
 {
     let way = Way {
         header: Header::empty(),
         instance: w.instance,
         rest: w.rest,
     };
-    Turn {
+    Step {
         way,
         gate: Gate::Closed(x),
-        used: 1,
+        used,
     }
 }
 
 // A payload of n bytes begins.
-fn begin(w: Way, i: u64, n: u64) -> Turn
-    ensures { λ r. ⌜ Settles w (Admission.Payload i n) r ⌝ }
+fn begin(w: Way, i: u64, n: u64, used: usize) -> Step
+    ensures { λ r. ⌜ Settles w (Admission.Payload i n) used r ⌝ }
 {
     let way = Way {
         header: Header::empty(),
         instance: instance_for(n, i),
         rest: n,
     };
-    Turn {
+    Step {
         way,
         gate: Gate::Open,
-        used: 1,
+        used,
     }
 }
 
-fn settle(w: Way, a: Admission) -> Turn
-    ensures { λ r. ⌜ Settles w a r ⌝ }
+// A whole header closes or begins a payload; used counts the bytes of this step.
+fn settled(w: Way, a: Admission, used: usize) -> Step
+    ensures { λ r. ⌜ Settles w a used r ⌝ }
 {
     match a {
-        Admission::Fault(x) => shut(w, x),
-        Admission::Payload(i, n) => begin(w, i, n),
+        Admission::Fault(x) => shut(w, x, used),
+        Admission::Payload(i, n) => begin(w, i, n, used),
     }
 }
 
-// One byte of a header.
-fn header_byte(side: Side, caps: &[u64; INSTANCES], held: &[u64; INSTANCES], w: Way, b: u8) -> Turn
+// One byte of a header. At the eighth the header is settled.
+fn headed(side: Side, caps: &[u64; INSTANCES], held: &[u64; INSTANCES], w: Way, b: u8) -> Step
     ensures { λ r. ⌜ Heads side (now (caps .entry)) (now (held .entry)) w b r ⌝ }
 {
     let old = w.header;
     let header = old.add(b);
     if header.whole() {
-        return settle(w, admit(side, caps, held, header));
+        return settled(w, admit(side, caps, held, header), 1);
     }
     let way = Way {
         header,
         instance: w.instance,
         rest: w.rest,
     };
-    Turn {
+    Step {
         way,
         gate: Gate::Open,
         used: 1,
     }
+}
+
+// The header whose eight bytes are there from place `at` on, each added in its step. The steps are counted and begin
+// with an empty record, so the compiler makes one load of them.
+fn header_at(input: &[u8], at: usize) -> Header
+    requires { ⌜ at + headerLength ≤ length (now input) ⌝ }
+    ensures { λ r. ⌜ r ≡ headerAt (now (input .entry)) at ⌝ }
+{
+    let mut header = Header::empty();
+    let mut j: usize = 0;
+    while j < HEADER {
+        header = header.add(input[at + j]);
+        j += 1;
+    }
+    header
+}
+
+// All eight bytes of a header, from place `at` on.
+fn header_whole(
+    side: Side,
+    caps: &[u64; INSTANCES],
+    held: &[u64; INSTANCES],
+    w: Way,
+    input: &[u8],
+    at: usize,
+) -> Step
+    requires { ⌜ at + headerLength ≤ length (now input) ⌝ }
+    ensures { λ r. ⌜ Settles w (admission side (now (caps .entry)) (now (held .entry)) (headerAt (now (input .entry)) at)) headerLength r ⌝ }
+{
+    settled(w, admit(side, caps, held, header_at(input, at)), HEADER)
 }
 
 // Lays k bytes of input from place `at` on as byte n of the stream of instance i and those that follow it.
@@ -155,22 +201,16 @@ fn lay(
     k: usize,
 )
     requires { ⌜ Area (now caps) i (length (now store)) × (k ≤ getD (now caps) i 0) × (at + k ≤ length (now input)) ⌝ }
-    ensures { λ _. ⌜ now (store .exit) ≡ laid (now (store .entry)) (baseOf (now (caps .entry)) i) (getD (now (caps .entry)) i 0) n (run (now (input .entry)) at k) ⌝ }
+    ensures { λ _. ⌜ now (store .exit)
+        ≡ laid (now (store .entry)) (baseOf (now (caps .entry)) i) (getD (now (caps .entry)) i 0) n (run (now (input .entry)) at k) ⌝ }
 {
     let base = ring::base_of(caps, i);
     let cap = caps[i] as usize;
     ring::write(store, base, cap, n as usize, input, at, k);
 }
 
-// The smaller of two numbers.
-fn smaller(a: u64, b: usize) -> usize
-    ensures { λ r. ⌜ r ≡ min a b ⌝ }
-{
-    if a < b as u64 { a as usize } else { b }
-}
-
 // As many bytes of the payload under way as there are from place `at` on.
-fn payload(
+fn kept(
     caps: &[u64; INSTANCES],
     starts: &[u64; INSTANCES],
     held: &mut [u64; INSTANCES],
@@ -178,12 +218,13 @@ fn payload(
     store: &mut [u8],
     input: &[u8],
     at: usize,
-) -> Turn
+) -> Step
     requires { ⌜ Under (now caps) (now starts) (now held) w (length (now store)) × (at < length (now input)) ⌝ }
-    ensures { λ r. ⌜ Keeps (now (caps .entry)) (now (starts .entry)) (now (held .entry)) (now (held .exit)) w (now (store .entry)) (now (store .exit)) (now (input .entry)) at r ⌝ }
+    ensures { λ r. ⌜ Lays (now (caps .entry)) (now (starts .entry)) (now (held .entry)) (now (held .exit)) w (now (store .entry))
+        (now (store .exit)) (now (input .entry)) at r ⌝ }
 {
     let i = w.instance as usize;
-    let n = smaller(w.rest, input.len() - at);
+    let n = base::smaller(w.rest as usize, input.len() - at);
     lay(caps, i, starts[i] + held[i], store, input, at, n);
     held[i] = held[i] + n as u64;
     let rest = w.rest - n as u64;
@@ -193,14 +234,15 @@ fn payload(
         instance: instance_for(rest, w.instance),
         rest,
     };
-    Turn {
+    Step {
         way,
         gate: Gate::Open,
         used: n,
     }
 }
 
-// Of the payload under way as many bytes as there are, else one byte of a header.
+// One step: of the payload under way as many bytes as there are; else a header's eight bytes where none has come and all are
+// there, and one byte of it where not.
 fn part(
     side: Side,
     caps: &[u64; INSTANCES],
@@ -210,19 +252,24 @@ fn part(
     store: &mut [u8],
     input: &[u8],
     at: usize,
-) -> Turn
-    requires { ⌜ Ready (now caps) (state (now starts) (now held) w Open (now store)) ⌝ }
+) -> Step
+    requires { ⌜ Sound (now caps) (reception (now starts) (now held) w Open (now store)) ⌝ }
     requires { ⌜ at < length (now input) ⌝ }
-    ensures { λ r. ⌜ Turns side (now (caps .entry)) (now (starts .entry)) (now (held .entry)) (now (held .exit)) w (now (store .entry)) (now (store .exit)) (now (input .entry)) at r ⌝ }
+    ensures { λ r. ⌜ Steps side (now (caps .entry)) (now (starts .entry)) (now (held .entry)) (now (held .exit)) w (now (store .entry))
+        (now (store .exit)) (now (input .entry)) at r ⌝ }
 {
-    if w.rest == 0 {
-        return header_byte(side, caps, held, w, input[at]);
+    if 0 < w.rest {
+        return kept(caps, starts, held, w, store, input, at);
     }
-    payload(caps, starts, held, w, store, input, at)
+    let header = w.header;
+    if base::and(header.count == 0, HEADER <= input.len() - at) {
+        return header_whole(side, caps, held, w, input, at);
+    }
+    headed(side, caps, held, w, input[at])
 }
 
 // All of input, or up to the byte that closes; used counts from its front.
-fn turns(
+fn steps(
     side: Side,
     caps: &[u64; INSTANCES],
     starts: &[u64; INSTANCES],
@@ -230,10 +277,14 @@ fn turns(
     w: Way,
     store: &mut [u8],
     input: &[u8],
-) -> Turn
-    requires { ⌜ Ready (now caps) (state (now starts) (now held) w Open (now store)) ⌝ }
-    ensures { λ r. ⌜ state (now (starts .entry)) (now (held .exit)) (r .way) (r .gate) (now (store .exit)) ≡ fed side (now (caps .entry)) (state (now (starts .entry)) (now (held .entry)) w Open (now (store .entry))) (now (input .entry)) ⌝ }
-    ensures { λ r. ⌜ r .used ≡ used side (now (caps .entry)) (state (now (starts .entry)) (now (held .entry)) w Open (now (store .entry))) (now (input .entry)) ⌝ }
+) -> Step
+    requires { ⌜ Sound (now caps) (reception (now starts) (now held) w Open (now store)) ⌝ }
+    ensures { λ r. ⌜ reception (now (starts .entry)) (now (held .exit)) (r .way) (r .gate) (now (store .exit))
+        ≡ fed side (now (caps .entry)) (reception (now (starts .entry)) (now (held .entry)) w Open (now (store .entry)))
+        (now (input .entry)) ⌝ }
+    ensures { λ r. ⌜ r .used
+        ≡ used side (now (caps .entry)) (reception (now (starts .entry)) (now (held .entry)) w Open (now (store .entry)))
+        (now (input .entry)) ⌝ }
 {
     let mut way = w;
     let mut at: usize = 0;
@@ -242,15 +293,15 @@ fn turns(
         way = t.way;
         at += t.used;
         let gate = t.gate;
-        if !connection::parts::is_open(gate) {
-            return Turn {
+        if !is_open(gate) {
+            return Step {
                 way,
                 gate,
                 used: at,
             };
         }
     }
-    Turn {
+    Step {
         way,
         gate: Gate::Open,
         used: at,
@@ -258,7 +309,7 @@ fn turns(
 }
 
 // The number of the closing that is left, or 0.
-fn number_left(g: Gate) -> u64
+fn left(g: Gate) -> u64
     ensures { λ r. ⌜ r ≡ left g ⌝ }
 {
     match g {
@@ -267,6 +318,7 @@ fn number_left(g: Gate) -> u64
     }
 }
 
+// The refusal number that a closing names.
 fn number_of(x: Closing) -> u64
     ensures { λ r. ⌜ r ≡ numberOf x ⌝ }
 {
@@ -276,17 +328,21 @@ fn number_of(x: Closing) -> u64
     }
 }
 
-// Feed's answer: the number, how many bytes were used, and the record.
-pub struct Fed {
-    pub number: u64,
-    pub used: usize,
-    pub connection: Connection,
+// The record as it was given, and no byte used.
+fn refused(c: Connection, number: u64) -> Fed
+    ensures { λ r. ⌜ r ≡ refused c number ⌝ }
+{
+    Fed {
+        number,
+        used: 0,
+        connection: c,
+    }
 }
 
 // The bytes of an open connection in range.
-fn taken(c: Connection, store: &mut [u8], input: &[u8]) -> Fed
+fn feed_open(c: Connection, store: &mut [u8], input: &[u8]) -> Fed
     requires { ⌜ (receives c (length (now store)) ≡ true) × (c .gate ≡ Open) ⌝ }
-    ensures { λ r. ⌜ told r (now (store .exit)) ≡ taken c (now (store .entry)) (now (input .entry)) ⌝ }
+    ensures { λ r. ⌜ told r (now (store .exit)) ≡ feedOpen c (now (store .entry)) (now (input .entry)) ⌝ }
 {
     let settings = c.settings;
     let side = settings.side;
@@ -300,7 +356,7 @@ fn taken(c: Connection, store: &mut [u8], input: &[u8]) -> Fed
         instance: r.instance,
         rest: r.rest,
     };
-    let t = turns(side, &caps, &starts, &mut held, way, store, input);
+    let t = steps(side, &caps, &starts, &mut held, way, store, input);
     let gate = t.gate;
     let w = t.way;
     let header = w.header;
@@ -312,30 +368,22 @@ fn taken(c: Connection, store: &mut [u8], input: &[u8]) -> Fed
         rest: w.rest,
     };
     Fed {
-        number: number_left(gate),
+        number: left(gate),
         used: t.used,
-        connection: connection::parts::with_receiving(c, receiving, gate),
+        connection: with_receiving(c, receiving, gate),
     }
 }
 
-// Feeds a run of bytes.
+// Feeds a run of bytes: 23, 20, and else the bytes up to the one that closes.
 pub fn feed(c: Connection, store: &mut [u8], input: &[u8]) -> Fed
     ensures { λ r. ⌜ told r (now (store .exit)) ≡ feedOf c (now (store .entry)) (now (input .entry)) ⌝ }
 {
-    if !connection::range::receives(c, store.len()) {
-        return Fed {
-            number: 23,
-            used: 0,
-            connection: c,
-        };
+    if !receives(c, store.len()) {
+        return refused(c, 23);
     }
     let gate = c.gate;
-    if !connection::parts::is_open(gate) {
-        return Fed {
-            number: 20,
-            used: 0,
-            connection: c,
-        };
+    if !is_open(gate) {
+        return refused(c, 20);
     }
-    taken(c, store, input)
+    feed_open(c, store, input)
 }

@@ -5,6 +5,9 @@ use super::text;
 use libc::STDOUT_FILENO;
 use rows::Protocol;
 
+// What a lent buffer is filled with.
+const FILL: u8 = 0xee;
+
 pub fn all() {
     handshake();
     chain_sync();
@@ -241,9 +244,9 @@ fn widths() {
 
 // A buffer as long as the message; one byte shorter; none at all, for a message and for parts that make none.
 fn room() {
-    let mut seven = [0xeeu8; 7];
-    let mut six = [0xeeu8; 6];
-    let mut none = [0xeeu8; 0];
+    let mut seven = [FILL; 7];
+    let mut six = [FILL; 6];
+    let mut none = [FILL; 0];
     into(
         Protocol::ChainSync,
         2,
@@ -295,10 +298,11 @@ fn made(
     first: &[u8],
     second: &[u8],
 ) {
-    let mut buf = [0xeeu8; 32];
+    let mut buf = [FILL; 32];
     into(p, instance, kind, numbers, runs, first, second, &mut buf);
 }
 
+// Builds into a lent buffer, and prints the line.
 fn into(
     p: Protocol,
     instance: u64,
@@ -335,6 +339,7 @@ fn told(p: Protocol, number: u64, buf: &[u8], n: usize) {
     read_back(p, &buf[..n]);
 }
 
+// The bytes of the message, and what they are read as.
 fn read_back(p: Protocol, message: &[u8]) {
     text(b" ");
     hex(message);
@@ -342,10 +347,11 @@ fn read_back(p: Protocol, message: &[u8]) {
     show(p, message, 0);
 }
 
+// The buffer is as it was from a place on.
 fn kept(buf: &[u8], from: usize) -> bool {
     let mut i = from;
     while i < buf.len() {
-        if buf[i] != 0xee {
+        if buf[i] != FILL {
             return false;
         }
         i += 1;
@@ -353,6 +359,7 @@ fn kept(buf: &[u8], from: usize) -> bool {
     true
 }
 
+// Each byte in two digits.
 fn hex(bytes: &[u8]) {
     let mut i: usize = 0;
     while i < bytes.len() {

@@ -6,6 +6,8 @@ mod built;
 
 use item::Verdict;
 use libc::STDOUT_FILENO;
+use messages::MOST_NUMBERS;
+use messages::MOST_PLACES;
 use messages::Message;
 use messages::Reading;
 use rows::Protocol;
@@ -260,6 +262,7 @@ fn show(p: Protocol, bytes: &[u8], from: usize)
     told(reading, message);
 }
 
+// The line of what reading comes to.
 fn told(reading: Reading, m: Message) {
     match reading {
         Reading::Read => print(m),
@@ -270,12 +273,14 @@ fn told(reading: Reading, m: Message) {
     }
 }
 
+// The element at this place of the array is wrong.
 fn field(i: u64) {
     text(b"15 field ");
     io::print_decimal(STDOUT_FILENO, i);
     text(b"\n");
 }
 
+// What a message says.
 fn print(m: Message) {
     text(b"0 ");
     io::print_decimal(STDOUT_FILENO, m.kind);
@@ -291,7 +296,7 @@ fn numbers(m: Message) {
     let numbers = m.numbers;
     let count = m.count;
     let mut i: usize = 0;
-    while i < 3 {
+    while i < MOST_NUMBERS {
         if i < count {
             text(b" ");
             io::print_decimal(STDOUT_FILENO, numbers[i]);
@@ -305,7 +310,7 @@ fn places(m: Message) {
     let places = m.places;
     let parts = m.parts;
     let mut i: usize = 0;
-    while i < 2 {
+    while i < MOST_PLACES {
         if i < parts {
             text(b" ");
             io::print_decimal(STDOUT_FILENO, places[i * 2] as u64);

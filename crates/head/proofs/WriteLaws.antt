@@ -15,7 +15,7 @@ use lib.Seq.{sets, sets-eq, length-take-le, append-snoc, drop-at, take-at, getD-
 use borrow.Author.Tests.{lt-ltb, leb-true, ltb-true, ltb-false, ne-eqb}
 use Rattle.base.specs.Numbers.{Bytes, number, octets}
 use Rattle.base.proofs.Conds.{by-test, cond-cases}
-use Rattle.base.proofs.NumberLaws.{length-octets, number-octets, number-below, bytes-take, bytes-drop}
+use Rattle.base.proofs.NumberLaws.{length-octets, octets-bytes, number-octets, number-below, bytes-take, bytes-drop}
 use Rattle.ring.specs.Ring.{run}
 use Rattle.ring.proofs.Runs.{run-length}
 use Rattle.head.specs.Initial.{majorOf, initialOf, initial}
@@ -217,3 +217,17 @@ unfolding Least
 none-shorter bs at m v next b e =
     let room : at + 1 + widthOf v .bytes ≤ next = subst (Least (at + 1)) e (least bs b at) in
     omega (arith, shortest-length m v)
+
+-- what an initial byte says is below 32
+info-low : (v : ℕ) → widthOf v .info < 32
+info-low v =
+    let Low : Width → Type 0 = λ w. w .info < 32 in
+    cond-cases Low (ltb v 24) (λ t. omega (arith, ltb-true v 24 t))
+    (λ _.
+    cond-cases Low (ltb v (2 ^ 8)) (λ _. omega arith)
+    (λ _. cond-cases Low (ltb v (2 ^ 16)) (λ _. omega arith) (λ _. cond-cases Low (ltb v (2 ^ 32)) (λ _. omega arith) (λ _. omega arith))))
+
+-- and it is bytes
+pub shortest-bytes : (m v : ℕ) → m < 8 → Bytes (shortest m v)
+unfolding shortest Bytes
+shortest-bytes m v h = (omega (arith, info-low v), octets-bytes (widthOf v .bytes) v)

@@ -1,10 +1,28 @@
 // Heads of CBOR data items (RFC 8949, section 3): what an initial byte says; in `read` a head read at a place, in
-// `write` one written as short as can be.
+// `write` one written as short as can be. What was written is read back, and no shorter head says the same.
 pub mod read;
 pub mod write;
 
 ghost use mathlib.Core.Path.{_≡_};
 ghost use Rattle.head.specs.Initial.{majorOf, openOf, initial};
+
+// Major types by number, the upper three bits of an initial byte: integers from 0 on and below, strings, containers, tags,
+// and simple values with floats.
+pub const UNSIGNED: u8 = 0;
+
+pub const NEGATIVE: u8 = 1;
+
+pub const BYTES: u8 = 2;
+
+pub const TEXT: u8 = 3;
+
+pub const ARRAY: u8 = 4;
+
+pub const MAP: u8 = 5;
+
+pub const TAG: u8 = 6;
+
+pub const SIMPLE: u8 = 7;
 
 // What a major type begins. Major types 0, 1 and 7 are one: a number, after whose head nothing follows.
 pub enum Major {
@@ -27,37 +45,37 @@ pub enum Initial {
     Reserved,
 }
 
-// The major type by its number, the upper three bits.
-pub fn major_of(m: u8) -> Major
+// What a major type begins, by its number.
+fn major_of(m: u8) -> Major
     ensures { λ r. ⌜ r ≡ majorOf m ⌝ }
 {
-    if m == 2 {
+    if m == BYTES {
         return Major::Bytes;
     }
-    if m == 3 {
+    if m == TEXT {
         return Major::Text;
     }
-    if m == 4 {
+    if m == ARRAY {
         return Major::Array;
     }
-    if m == 5 {
+    if m == MAP {
         return Major::Map;
     }
-    if m == 6 {
+    if m == TAG {
         return Major::Tag;
     }
     Major::Number
 }
 
-// Additional information 31.
+// Additional information 31: no argument.
 fn open_of(m: u8) -> Initial
     ensures { λ r. ⌜ r ≡ openOf m ⌝ }
 {
-    if m == 7 {
+    if m == SIMPLE {
         return Initial::Break;
     }
-    if 2 <= m {
-        if m <= 5 {
+    if BYTES <= m {
+        if m <= MAP {
             return Initial::Indefinite(major_of(m));
         }
     }
@@ -74,7 +92,7 @@ pub fn initial_of(b: u8) -> Initial
         return Initial::Short(major_of(m), i as u64);
     }
     if i == 24 {
-        if m == 7 {
+        if m == SIMPLE {
             return Initial::Simple;
         }
         return Initial::Long(major_of(m), 0);

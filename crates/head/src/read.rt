@@ -1,12 +1,14 @@
 // A head read at a place of a slice, or of the bytes of a ring.
 use super::Initial;
+use super::SIMPLE;
 use super::initial_of;
+use base::number::wide;
 ghost use mathlib.Core.Path.{_≡_};
 ghost use Prim.Native.Nat.{_+_, _≤_, _<_, _^_};
-ghost use lib.ListN.{length, getD};
+ghost use lib.ListN.{length};
 ghost use Rattle.base.specs.Numbers.{number};
 ghost use Rattle.ring.specs.Ring.{run, around};
-ghost use Rattle.head.specs.Read.{headAt, headBy, longAt, simpleAt};
+ghost use Rattle.head.specs.Read.{headAt, longAt, simpleAt};
 
 // What stands at a place: a head with its major type, 0 to 7, its argument and the place behind it; one of indefinite
 // length; a break; a head whose bytes are not all there; or bytes that begin no head.
@@ -27,14 +29,8 @@ pub enum Head {
     Bad,
 }
 
-fn wide(x: u8) -> u64
-    ensures { λ r. ⌜ (r ≡ x) × (r < 256) ⌝ }
-{
-    x as u64
-}
-
 // The number that the k bytes at the place `at` spell, in the n bytes of a ring from the place `from` on.
-fn number_at(s: &[u8], from: usize, n: usize, at: usize, k: usize) -> u64
+pub fn number_at(s: &[u8], from: usize, n: usize, at: usize, k: usize) -> u64
     requires { ⌜ (from ≤ length (now s)) × (n ≤ length (now s)) × (at + k ≤ n) × (k ≤ 8) ⌝ }
     ensures { λ r. ⌜ (r ≡ number (run (around (now (s .entry)) from n) at k)) × (r < 256 ^ k) ⌝ }
 {
@@ -75,7 +71,7 @@ fn simple_at(s: &[u8], from: usize, n: usize, at: usize) -> Head
         return Head::Bad;
     }
     Head::Definite {
-        major: 7,
+        major: SIMPLE,
         argument: v,
         next: at + 1,
     }
@@ -105,11 +101,4 @@ pub fn head_around(s: &[u8], from: usize, n: usize, at: usize) -> Head
         Initial::Break => Head::Break { next },
         Initial::Reserved => Head::Bad,
     }
-}
-
-// The head at the place `at` of a slice: a ring that does not wrap.
-pub fn head_at(s: &[u8], at: usize) -> Head
-    ensures { λ r. ⌜ r ≡ headAt (now (s .entry)) at ⌝ }
-{
-    head_around(s, 0, s.len(), at)
 }

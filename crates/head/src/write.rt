@@ -11,6 +11,7 @@ pub struct Width {
     pub bytes: usize,
 }
 
+// The fewest bytes that the argument needs.
 fn width_of(argument: u64) -> Width
     ensures { λ r. ⌜ (r ≡ widthOf argument) × (r .info < 28) × (r .bytes ≤ 8) ⌝ }
 {

@@ -1,5 +1,5 @@
 -- The verdict from any stack is exactly what the grammar says (`exact`), and no other verdict is (`only`): whatever is
--- wanted can be met by octets (`alive`), `met` says when nothing is wanted, and a byte moves the stack as the grammar
+-- wanted can be met by bytes (`alive`), `met` says when nothing is wanted, and a byte moves the stack as the grammar
 -- asks.
 -- Assumes nothing.
 use Prim.Native.Nat.{ℕ, zero, suc, _+_, _*_, _≤_, _<_}
@@ -9,29 +9,30 @@ use mathlib.Core.Option.{Option, none, some}
 use mathlib.Core.Path.{_≡_, refl, sym, ap, subst, subst⁻¹, _∙_}
 use lib.ListN.{length, take}
 use native.Mathlib.Omega.{arith}
+use Rattle.base.specs.Numbers.{Bytes}
 use Rattle.head.specs.Initial.{initial}
 use Rattle.head.specs.declared.Major.{Major}
-use Rattle.head.specs.declared.Major.the-variants.{Number, Bytes, Text, Array, Map, Tag}
+use Rattle.head.specs.declared.Major.the-variants as major
 use Rattle.head.specs.declared.Initial.the-variants.{Break}
 use Rattle.item.specs.declared.Verdict.{Verdict}
 use Rattle.item.specs.declared.Verdict.the-variants.{Whole, Bad, Incomplete}
 use Rattle.item.specs.Grammar.{Frame, One, Items, Elements, Pairs, Value, Chunks, Content, Second, Argument, content, enter, nest, Reads, one}
 use Rattle.item.specs.Grammar.{no-more, item, end-array, element, end-map, key, value, end-string, no-byte, byte, simple, last, digit}
 use Rattle.item.specs.Verdict.{Stack, nil, push, step, met, onward, judge}
-use Rattle.item.specs.Theorem.{Octets}
 use Rattle.item.proofs.Derivative.{Rest, done, then, After, forth, back}
 
--- bytes that meet what a frame wants, before the bytes cs, octets where those are
+-- bytes that meet what a frame wants, before the bytes cs, each a byte where those are
 abbrev Meets : ℕ → Frame → List ℕ → Type 0
-Meets d f cs = (bs : List ℕ) × Reads d f bs cs × (Octets cs → Octets bs)
+Meets d f cs = (bs : List ℕ) × Reads d f bs cs × (Bytes cs → Bytes bs)
 
 bytes : (d n : ℕ) (cs : List ℕ) → Meets d (Content n) cs
+unfolding Bytes
 bytes d zero cs = (cs, no-byte, λ o. o)
 bytes d (suc n) cs = let r = bytes d n cs in (0 ∷ r .0, byte (r .1), λ o. (omega arith, r .2 o))
 
 -- nought is an item
 nought : (d : ℕ) (cs : List ℕ) → Meets d One cs
-unfolding enter initial nest
+unfolding enter initial nest Bytes
 nought d cs = (0 ∷ cs, one {f = Content 0} refl no-byte, λ o. (omega arith, o))
 
 items : (d n : ℕ) (cs : List ℕ) → Meets d (Items n) cs
@@ -39,14 +40,15 @@ items d zero cs = (cs, no-more, λ o. o)
 items d (suc n) cs = let r = items d n cs in let q = nought d (r .0) in (q .0, item (q .1) (r .1), λ o. q .2 (r .2 o))
 
 contents : (d : ℕ) (m : Major) (v : ℕ) (cs : List ℕ) → Meets d (content m v) cs
-contents d Number v cs = bytes d 0 cs
-contents d Bytes v cs = bytes d v cs
-contents d Text v cs = bytes d v cs
-contents d Array v cs = items d _ cs
-contents d Map v cs = items d _ cs
-contents d Tag v cs = nought d cs
+contents d major.Number v cs = bytes d 0 cs
+contents d major.Bytes v cs = bytes d v cs
+contents d major.Text v cs = bytes d v cs
+contents d major.Array v cs = items d _ cs
+contents d major.Map v cs = items d _ cs
+contents d major.Tag v cs = nought d cs
 
 arguments : (d : ℕ) (m : Major) (v k : ℕ) (cs : List ℕ) → Meets d (Argument m v k) cs
+unfolding Bytes
 arguments d m v zero cs = let r = contents d m (v * 256 + 0) cs in (0 ∷ r .0, last (r .1), λ o. (omega arith, r .2 o))
 arguments d m v (suc k) cs = let r = arguments d m (v * 256 + 0) k cs in (0 ∷ r .0, digit (r .1), λ o. (omega arith, r .2 o))
 
@@ -55,6 +57,7 @@ unfolding initial
 breaks = refl
 
 meets : (d : ℕ) (f : Frame) (cs : List ℕ) → Meets d f cs
+unfolding Bytes
 meets d One cs = nought d cs
 meets d (Items n) cs = items d n cs
 meets d Elements cs = (255 ∷ cs, end-array breaks, λ o. (omega arith, o))
@@ -65,7 +68,8 @@ meets d (Content n) cs = bytes d n cs
 meets d Second cs = (32 ∷ cs, simple {x = 32} (omega arith), λ o. (omega arith, o))
 meets d (Argument m v k) cs = arguments d m v k cs
 
-pub alive : (fs : Stack) → (bs : List ℕ) × Rest fs bs × Octets bs
+pub alive : (fs : Stack) → (bs : List ℕ) × Rest fs bs × Bytes bs
+unfolding Bytes
 alive nil = ([], done, tt)
 alive (push d f fs) = let r = alive fs in let q = meets d f (r .0) in (q .0, then (q .1) (r .1), q .2 (r .2))
 
@@ -116,7 +120,7 @@ met-none (then no-byte r) (then no-byte q) = met-none r q
 
 -- What each verdict says of the bytes from the place `at` on, where the stack is wanted.
 abbrev pub Begun : Stack → List ℕ → Type 0
-Begun fs bs = (b : ℕ) × (cs : List ℕ) × Rest fs (bs ++ (b ∷ cs)) × Octets (b ∷ cs)
+Begun fs bs = (b : ℕ) × (cs : List ℕ) × Rest fs (bs ++ (b ∷ cs)) × Bytes (b ∷ cs)
 
 abbrev pub Exact : Stack → List ℕ → ℕ → Verdict → Type 0
 Exact fs bs at (Whole n) = (m : ℕ) × (n ≡ at + m) × (m ≤ length bs) × Rest fs (take m bs)
@@ -127,7 +131,7 @@ Exact fs bs at Incomplete = Begun fs bs
 begun : (fs : Stack) → met fs ≡ false → Begun fs []
 begun fs p = let r = alive fs in go (r .0) (r .1) (r .2)
   where
-    go : (bs : List ℕ) → Rest fs bs → Octets bs → Begun fs []
+    go : (bs : List ℕ) → Rest fs bs → Bytes bs → Begun fs []
     go [] r o = absurd (clash (sym p ∙ rest-met r))
     go (b ∷ bs) r o = (b, bs, r, o)
 

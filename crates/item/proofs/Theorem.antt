@@ -4,13 +4,13 @@ use Prim.Native.Nat.{ℕ, suc, _+_}
 use mathlib.Core.List.{List, [], _∷_, _++_}
 use mathlib.Core.Path.{_≡_, refl, sym, ap, subst, _∙_}
 use native.Mathlib.Omega.{arith}
-use lib.ListN.{length, take, drop, replicate, length-append}
+use lib.ListN.{length, take, drop, length-append, replicate}
 use lib.Seq.{take-at, drop-at}
 use Rattle.head.specs.Initial.{initial}
 use Rattle.item.specs.declared.Verdict.{Verdict}
 use Rattle.item.specs.declared.Verdict.the-variants.{Whole, Bad, Incomplete}
 use Rattle.item.specs.Grammar.{Frame, Reads, Item, nest, indefinite, enter, alike, enterChunk}
-use Rattle.item.specs.Verdict.{nil, push, step, met, judge, tally, heads, start, verdict, headsOf}
+use Rattle.item.specs.Verdict.{nil, push, step, met, judge, tally, heads, start, headsOf}
 use Rattle.item.specs.Theorem.{Begun, Begins, Says, Exactly, BadIsNeither, NestingMonotone, OneEnd}
 use Rattle.item.proofs.Derivative.{Rest, done, then}
 use Rattle.item.proofs.Exact.{Exact, exact, only}
@@ -77,37 +77,9 @@ one-end d f bs cs ds g h = of (cuts g) (cuts h)
         let l : length b ≡ length a = cc in
         sym (drop-at a cs (length a) refl) ∙ ap (drop (length a)) (sym p ∙ q) ∙ drop-at b ds (length a) l
 
--- P7 to P10 of document 01; chunks of the same type; pairs; and lengths of 64 bits, which are merely incomplete
-p7 : (verdict (0xf8 ∷ 0x1f ∷ []) ≡ Bad 1) × (verdict (0xf8 ∷ 0x20 ∷ []) ≡ Whole 2) × (verdict (0xf8 ∷ []) ≡ Incomplete)
-unfolding judge step met initial enter nest indefinite alike enterChunk
-p7 = (refl, refl, refl)
-
-p8 : (verdict (0x9f ∷ 0xff ∷ []) ≡ Whole 2) × (verdict (0xff ∷ []) ≡ Bad 0)
-unfolding judge step met initial enter nest indefinite alike enterChunk
-p8 = (refl, refl)
-
-p9 : verdict (0xbf ∷ 0x00 ∷ 0xff ∷ []) ≡ Bad 2
-unfolding judge step met initial enter nest indefinite alike enterChunk
-p9 = refl
-
-p10 : (verdict (replicate 16 0x81 ++ (0x00 ∷ [])) ≡ Whole 17) × (verdict (replicate 17 0x81) ≡ Bad 16) × (verdict (replicate 16 0x81 ++ (0x98 ∷ [])) ≡ Bad 16)
-unfolding judge step met initial enter nest indefinite alike enterChunk
-p10 = (refl, refl, refl)
-
-strings : (verdict (0x5f ∷ 0x41 ∷ 0x00 ∷ 0xff ∷ []) ≡ Whole 4) × (verdict (0x5f ∷ 0x61 ∷ []) ≡ Bad 1) × (verdict (0x7f ∷ 0x61 ∷ 0x00 ∷ 0xff ∷ []) ≡ Whole 4)
-unfolding judge step met initial enter nest indefinite alike enterChunk
-strings = (refl, refl, refl)
-
-maps : (verdict (0xa1 ∷ 0x00 ∷ 0x01 ∷ []) ≡ Whole 3) × (verdict (0xa1 ∷ 0x00 ∷ []) ≡ Incomplete)
-unfolding judge step met initial enter nest indefinite alike enterChunk
-maps = (refl, refl)
-
-huge : (verdict (0xbb ∷ replicate 8 0xff) ≡ Incomplete) × (verdict (0x5b ∷ replicate 8 0xff) ≡ Incomplete)
-unfolding judge step met initial enter nest indefinite alike enterChunk
-huge = (refl, refl)
-
--- heads: a break and a chunk's head count, f820 is one, the bad one does not count, nor what follows the item
+-- Heads, which no program prints: a break and a chunk's head count, f820 is one, a map of one pair has two items, the bad one does not count, be it
+-- a break or one nested too deep, nor what follows the item.
 counted : (headsOf (0x9f ∷ 0x18 ∷ 0x20 ∷ 0xff ∷ 0x00 ∷ []) ≡ 3) × (headsOf (0x5f ∷ 0x42 ∷ 0 ∷ 0 ∷ 0xff ∷ []) ≡ 3) × (headsOf (0xf8 ∷ 0x20 ∷ []) ≡ 1)
-    × (headsOf (0x82 ∷ 0x00 ∷ 0xff ∷ []) ≡ 2)
+    × (headsOf (0xa1 ∷ 0x00 ∷ 0x01 ∷ 0x02 ∷ []) ≡ 3) × (headsOf (0x82 ∷ 0x00 ∷ 0xff ∷ []) ≡ 2) × (headsOf (replicate 17 0x81) ≡ 16)
 unfolding heads tally step met initial enter nest indefinite alike enterChunk
-counted = (refl, refl, refl, refl)
+counted = (refl, refl, refl, refl, refl, refl)

@@ -1,22 +1,19 @@
 -- What the verdict means (document 01, "CBOR"), as statements; the proofs are in proofs/Theorem.antt.
 use Prim.Native.Nat.{ℕ, suc, _+_, _≤_, _<_}
-use mathlib.Core.List.{List, [], _∷_, _++_}
+use mathlib.Core.List.{List, _∷_, _++_}
 use mathlib.Core.Path.{_≡_}
 use mathlib.Core.Logic.{_↔_}
 use lib.ListN.{length, take}
+use Rattle.base.specs.Numbers.{Bytes}
 use Rattle.item.specs.declared.Verdict.{Verdict}
 use Rattle.item.specs.declared.Verdict.the-variants.{Whole, Bad, Incomplete}
 use Rattle.item.specs.Grammar.{Frame, Reads, one, no-more, item, end-array, element, end-map, key, value, end-string, chunk, no-byte, byte}
 use Rattle.item.specs.Grammar.{simple, last, digit, Item}
 use Rattle.item.specs.Verdict.{judge, heads, start}
 
-abbrev pub Octets : List ℕ → Type 0
-Octets [] = Unit {0}
-Octets (x ∷ xs) = (x < 256) × Octets xs
-
 -- Incomplete: a proper prefix of a well-formed item within the nesting.
 abbrev pub Begun : ℕ → List ℕ → Type 0
-Begun d bs = (b : ℕ) × (cs : List ℕ) × Item d (bs ++ (b ∷ cs)) × Octets (b ∷ cs)
+Begun d bs = (b : ℕ) × (cs : List ℕ) × Item d (bs ++ (b ∷ cs)) × Bytes (b ∷ cs)
 
 -- The first n bytes are a well-formed item within the nesting.
 abbrev pub Begins : ℕ → List ℕ → ℕ → Type 0

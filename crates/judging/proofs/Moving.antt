@@ -2,7 +2,6 @@
 -- Assumes nothing.
 use mathlib.Core.Path.{_≡_, refl, sym, ap, _∙_}
 use mathlib.Core.Bool.{Bool, true, false, not, _&&_, _||_}
-use mathlib.Core.List.{List}
 use mathlib.Core.Logic.{_≢_}
 use Prim.Native.Nat.{ℕ, _≤_, _<_}
 use native.Mathlib.Omega.{arith}
@@ -16,19 +15,16 @@ use Rattle.wire.specs.Instances.{instances}
 use Rattle.rows.specs.declared.Protocol.{Protocol}
 use Rattle.rows.specs.declared.Protocol.the-variants.{Handshake}
 use Rattle.rows.specs.declared.Agency.the-variants.{Nobody}
-use Rattle.rows.specs.declared.Next.{Next}
-use Rattle.rows.specs.declared.Next.the-variants.{To, None}
+use Rattle.rows.specs.declared.Next.the-variants.{To}
 use Rattle.rows.specs.Rows.{Row, fits, rowsOf, rowIn, nextOf, doneOf, placeIn}
 use Rattle.rows.specs.Spoken.{speaks}
 use Rattle.rows.proofs.RowLaws.{thirty}
-use Rattle.messages.specs.declared.Message.{Message}
-use Rattle.messages.specs.Reading.{messageOf, numberOf, flagOf}
 use Rattle.connection.specs.declared.Talk.{Talk}
 use Rattle.connection.specs.declared.Connection.{Connection}
 use Rattle.connection.specs.Shapes.{Shaped}
 use Rattle.connection.specs.Parts.{withTalk}
 use Rattle.connection.proofs.RangeLaws.{Ranged}
-use Rattle.judging.specs.Judging.{movedBy, byRow, judgedOf}
+use Rattle.judging.specs.Judging.{movedBy}
 
 -- ---- where a row leads
 
@@ -80,22 +76,6 @@ marked t k f n d e m =
 unmarked : (b : Bool) → (b || false) ≡ true → b ≡ true
 unmarked true m = refl
 unmarked false m = m
-
--- what is judged a message leads where its row says
-led : (p : Protocol) (state n : ℕ) (m : Message) (x : Next) → nextOf p state (m .kind) (flagOf p m) ≡ x → byRow n m x .number ≡ 0
-    → nextOf p state (byRow n m x .message .kind) (flagOf p (byRow n m x .message)) ≡ To (byRow n m x .next)
-led p state n m (To next) e z = e
-led p state n m None e z = absurd (omega arith)
-
-pub judged-leads : (p : Protocol) (state : ℕ) (bs : List ℕ) → judgedOf p state bs .number ≡ 0
-    → nextOf p state (judgedOf p state bs .message .kind) (flagOf p (judgedOf p state bs .message)) ≡ To (judgedOf p state bs .next)
-unfolding judgedOf
-judged-leads p state bs z =
-    let a = messageOf p bs in
-    let m = a .message in
-    by-test (eqb (numberOf (a .reading)) 0)
-    (λ q. rw q (led p state (length bs) m (nextOf p state (m .kind) (flagOf p m)) refl (rw q at z)))
-    (λ q. absurd (eqb-false (numberOf (a .reading)) 0 q (rw q at z)))
 
 -- ---- the record once a message has moved instance i
 

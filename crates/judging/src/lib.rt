@@ -4,6 +4,7 @@
 // One reader and one row search serve both. Nothing here changes anything: what is judged is told, with the number that
 // a refusal has.
 use connection::Talk;
+use connection::parts::at;
 use connection::parts::changed;
 use item::Verdict;
 use messages::Message;
@@ -14,7 +15,7 @@ use rows::Protocol;
 use wire::instances::Side;
 ghost use mathlib.Core.Path.{_≡_};
 ghost use Prim.Native.Nat.{_≤_, _<_};
-ghost use lib.ListN.{length};
+ghost use lib.ListN.{length, getD};
 ghost use Rattle.ring.specs.Ring.{around};
 ghost use Rattle.wire.specs.Instances.{instances};
 ghost use Rattle.item.specs.declared.Verdict.the-variants.{Whole};
@@ -31,8 +32,11 @@ pub struct Judged {
     pub next: u64,
 }
 
+// The number of Accept, among Handshake's messages.
+const ACCEPT: u64 = 1;
+
 // Whether agency is with us, as initiator or not.
-fn is_ours(initiator: bool, agency: Agency) -> bool
+fn holds(initiator: bool, agency: Agency) -> bool
     ensures { λ r. ⌜ r ≡ holds initiator agency ⌝ }
 {
     match agency {
@@ -42,13 +46,22 @@ fn is_ours(initiator: bool, agency: Agency) -> bool
     }
 }
 
+// The present state of instance i.
+pub fn state(t: Talk, i: usize) -> u64
+    requires { ⌜ i < instances ⌝ }
+    ensures { λ r. ⌜ r ≡ getD (t .states) i 0 ⌝ }
+{
+    let states = t.states;
+    at(states, i)
+}
+
 // Whether we have agency in a state of instance i. At Done nobody has.
 pub fn ours(side: Side, i: usize, state: u64) -> bool
     requires { ⌜ i < instances ⌝ }
     ensures { λ r. ⌜ r ≡ ours side i state ⌝ }
 {
     let agency = rows::agent(rows::spoken::protocol(i), state);
-    is_ours(wire::instances::mode(side, i) == 0, agency)
+    holds(wire::instances::mode(side, i) == 0, agency)
 }
 
 // Whether Handshake, which hasn't ended in Accept, bars instance i.
@@ -59,12 +72,12 @@ pub fn barred(t: Talk, i: usize) -> bool
 }
 
 // The states, and the mark of Accept, once a message of this kind has moved instance i to the next state.
-pub fn moved(t: Talk, i: usize, kind: u64, next: u64) -> Talk
+pub fn moved_by(t: Talk, i: usize, kind: u64, next: u64) -> Talk
     requires { ⌜ i < instances ⌝ }
     ensures { λ r. ⌜ r ≡ movedBy t i kind next ⌝ }
 {
     let states = t.states;
-    let accept = base::and(i == 0, kind == 1);
+    let accept = base::and(i == 0, kind == ACCEPT);
     Talk {
         states: changed(states, i, next),
         accepted: base::or(t.accepted, accept),
@@ -72,7 +85,7 @@ pub fn moved(t: Talk, i: usize, kind: u64, next: u64) -> Talk
 }
 
 // A refusal or a notice.
-pub fn refused(number: u64) -> Judged
+pub fn unjudged(number: u64) -> Judged
     ensures { λ r. ⌜ r ≡ unjudged number ⌝ }
 {
     Judged {
@@ -96,12 +109,12 @@ fn led(n: usize, message: Message, next: u64) -> Judged
 }
 
 // Where a message of n bytes leads, if it has a row.
-fn leads(n: usize, message: Message, next: Next) -> Judged
+fn by_row(n: usize, message: Message, next: Next) -> Judged
     ensures { λ r. ⌜ r ≡ byRow n message next ⌝ }
 {
     match next {
         Next::To(state) => led(n, message, state),
-        Next::None => refused(16),
+        Next::None => unjudged(16),
     }
 }
 
@@ -128,17 +141,17 @@ pub fn judge(p: Protocol, state: u64, s: &[u8], from: usize, n: usize) -> Judged
     let message = answer.message;
     let number = number_of(reading);
     if number != 0 {
-        return refused(number);
+        return unjudged(number);
     }
     let next = rows::find(p, state, message.kind, messages::flag(p, message));
-    leads(n, message, next)
+    by_row(n, message, next)
 }
 
 // Bytes that are not exactly one item are no message.
 fn no_message() -> Judged
     ensures { λ r. ⌜ r ≡ unjudged (numberOf Reading.NotArray) ⌝ }
 {
-    refused(number_of(Reading::NotArray))
+    unjudged(number_of(Reading::NotArray))
 }
 
 // The slice, whose first n bytes are an item.

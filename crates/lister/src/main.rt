@@ -9,18 +9,18 @@ fn main() {
     lines::print_last(known);
 }
 
-// A proved loop has to end, and nothing says that the input does. So the loop counts its turns down, from a
+// A proved loop has to end, and nothing says that the input does. So the loop counts its reads down, from a
 // number that no run uses up.
 fn read_all(l: Listing, space: &mut [u8]) -> Listing {
     let mut known = l;
-    let mut turns = u64::MAX;
-    while 0 < turns {
+    let mut reads = u64::MAX;
+    while 0 < reads {
         let n = io::count(libc::read(STDIN_FILENO, space), space);
         if n == 0 {
             return known;
         }
         known = lines::print_run(known, &space[..n]);
-        turns -= 1;
+        reads -= 1;
     }
     known
 }

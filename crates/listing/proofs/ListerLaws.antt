@@ -1,4 +1,4 @@
--- Laws of the lister. T17 is `lister`; that a turn's contract leaves one answer is `once`.
+-- Laws of the lister. T17 is `lister`; that a step's contract leaves one answer is `once`.
 -- Assumes nothing.
 use mathlib.Core.Path.{_≡_, refl, sym, ap, subst, _∙_}
 use mathlib.Core.Bool.{Bool, true, false, cond}
@@ -7,31 +7,32 @@ use Prim.Native.Nat.{ℕ, zero, suc, _+_, _-_, _%_, _^_, _≤_, _<_, min}
 use native.Mathlib.Omega.{arith}
 use native.Mathlib.Nat.{add-zero, add-assoc, sub-zero, mod-add-mod, min-zero, zero-add, le-refl}
 use lib.Dec.{eqb, leb, ltb}
-use lib.ListN.{length, getD, take, drop, set, replicate, length-append, length-replicate, length-drop, take-append-drop, drop-of-length-le}
-use lib.Seq.{set-at, take-suc, take-all, drop-cons, drop-drop, take-length, length-take-le}
+use lib.ListN.{length, getD, take, drop, length-append, length-drop, take-append-drop, drop-of-length-le}
+use lib.Seq.{take-suc, take-all, drop-cons, drop-drop, length-take-le}
 use borrow.Author.Tests.{lt-ltb, le-ltb, le-leb, lt-leb, ltb-true, ltb-false, ne-eqb}
 use Rattle.base.proofs.Conds.{by-test, cond-cases}
 use Rattle.wire.specs.declared.segment.Header.{Header}
 use Rattle.wire.specs.declared.segment.Segment.{Segment}
 use Rattle.wire.specs.Segments.{headerLength, empty, added, decoded, Carried, Divided, in-header, in-payload, whole}
+use Rattle.wire.proofs.SegmentLaws.{part, add-part}
 use Rattle.listing.specs.declared.Listing.{Listing}
 use Rattle.listing.specs.declared.Line.{Line}
 use Rattle.listing.specs.declared.Line.the-variants.{None, Whole}
-use Rattle.listing.specs.declared.Turn.{Turn}
-use Rattle.listing.specs.Lister.{Listed, plus, going, ending, after, headByte, step, then, fed, begun, ended, linesOf, told, usedOf, Turned, Lists, Lister, Once}
+use Rattle.listing.specs.declared.Step.{Step}
+use Rattle.listing.specs.Lister.{Listed, plus, going, ending, after, headByte, byte, then, fed, begun, ended, linesOf, told, usedOf, Stepped, Lists, Lister, Once}
 
 -- ---- runs
 
 cuts : (l : Listing) (xs ys : List ℕ) → fed l (xs ++ ys) ≡ then (fed l xs) (fed (fed l xs .listing) ys)
 unfolding fed
 cuts l [] ys = refl
-cuts l (b ∷ xs) ys = rw (cuts (step l b .listing) xs ys, append-assoc)
+cuts l (b ∷ xs) ys = rw (cuts (byte l b .listing) xs ys, append-assoc)
 
 -- counts in 64 bits, one after the other
 pub plus-plus : (n j k : ℕ) → plus (plus n j) k ≡ plus n (j + k)
 plus-plus n j k = mod-add-mod (n + j) (2 ^ 64) k ∙ rw (add-assoc n j k)
 
-pub fed-one : (l : Listing) (b : ℕ) → fed l (b ∷ []) ≡ step l b
+pub fed-one : (l : Listing) (b : ℕ) → fed l (b ∷ []) ≡ byte l b
 unfolding fed
 fed-one l b = rw append-nil
 
@@ -59,13 +60,15 @@ after-shorter l k =
     rw (e, p)
 
 -- a payload byte
-paid : (l : Listing) (b : ℕ) → 0 < l .rest → step l b ≡ after l (l .header) (l .rest - 1) 1
-unfolding step
+paid : (l : Listing) (b : ℕ) → 0 < l .rest → byte l b ≡ after l (l .header) (l .rest - 1) 1
+unfolding byte
 paid l b h = rw (lt-ltb 0 (l .rest) h)
 
-paid-more : (l : Listing) (b : ℕ) → 1 < l .rest → step l b ≡ record { listing = shorter l; lines = [] }
+paid-more : (l : Listing) (b : ℕ) → 1 < l .rest → byte l b ≡ record { listing = shorter l; lines = [] }
 unfolding after
-paid-more l b h = paid l b (omega arith) ∙ rw (lt-ltb 0 (l .rest - 1) (omega arith))
+paid-more l b h =
+    paid l b (omega arith)
+    ∙ ap (λ (t : Bool). cond t (going l (l .header) (l .rest - 1) 1) (ending l (l .header) 1)) (lt-ltb 0 (l .rest - 1) (omega arith))
 
 -- some payload bytes, as many as are to come at the most
 pub fed-payload : (l : Listing) (xs : List ℕ) → 0 < length xs → length xs ≤ l .rest
@@ -79,18 +82,18 @@ fed-payload l (b ∷ c ∷ xs) some few =
     next : fed l (b ∷ c ∷ xs) ≡ fed (shorter l) (c ∷ xs)
     next = rw (paid-more l b (omega arith))
 
--- ---- the ways out of a turn
+-- ---- the ways out of a step
 
 -- past the end of the run
-pub turned-none : (l : Listing) (run : List ℕ) (from : ℕ) → length run ≤ from → Turned l (drop from run) (record { listing = l; used = 0; line = None })
+pub stepped-none : (l : Listing) (run : List ℕ) (from : ℕ) → length run ≤ from → Stepped l (drop from run) (record { listing = l; used = 0; line = None })
 unfolding usedOf fed
-turned-none l run from h = rw (drop-of-length-le run {i = from} h) (record { used = sym (min-zero (cond (ltb 0 (l .rest)) (l .rest) 1)); comes = refl })
+stepped-none l run from h = rw (drop-of-length-le run {i = from} h) (record { used = sym (min-zero (cond (ltb 0 (l .rest)) (l .rest) 1)); comes = refl })
 
 -- in a payload
-pub turned-payload : (l : Listing) (bs : List ℕ) (r : Turn) → 0 < l .rest → 0 < length bs → r .used ≡ min (l .rest) (length bs)
-    → told r ≡ after l (l .header) (l .rest - min (l .rest) (length bs)) (min (l .rest) (length bs)) → Turned l bs r
+pub stepped-payload : (l : Listing) (bs : List ℕ) (r : Step) → 0 < l .rest → 0 < length bs → r .used ≡ min (l .rest) (length bs)
+    → told r ≡ after l (l .header) (l .rest - min (l .rest) (length bs)) (min (l .rest) (length bs)) → Stepped l bs r
 unfolding usedOf
-turned-payload l bs r some more u e =
+stepped-payload l bs r some more u e =
     let k = min (l .rest) (length bs) in
     let n : length (take k bs) ≡ k = length-take-le k bs (omega arith) in
     record {
@@ -99,25 +102,25 @@ turned-payload l bs r some more u e =
     }
 
 -- in a header
-pub turned-header : (l : Listing) (run : List ℕ) (from : ℕ) (r : Turn) → l .rest ≡ 0 → from < length run → r .used ≡ 1
-    → told r ≡ headByte l (getD run from 0) → Turned l (drop from run) r
-unfolding usedOf step
-turned-header l run from r none more u e =
+pub stepped-header : (l : Listing) (run : List ℕ) (from : ℕ) (r : Step) → l .rest ≡ 0 → from < length run → r .used ≡ 1
+    → told r ≡ headByte l (getD run from 0) → Stepped l (drop from run) r
+unfolding usedOf byte
+stepped-header l run from r none more u e =
     let n : min 1 (length (drop from run)) ≡ 1 = omega (arith, length-drop from run) in
     record {
       used = rw (le-ltb 0 (l .rest) (omega arith)) (u ∙ sym n);
       comes = rw (u, drop-cons run from 0 more, fed-one) (e ∙ rw (le-ltb 0 (l .rest) (omega arith)));
     }
 
--- ---- turn after turn
+-- ---- step after step
 
--- a turn uses some bytes where there are some, and the rest come to what all of them did
-pub record Onward (l : Listing) (run : List ℕ) (from : ℕ) (r : Turn) : Type 0 where
+-- a step uses some bytes where there are some, and the rest come to what all of them did
+pub record Onward (l : Listing) (run : List ℕ) (from : ℕ) (r : Step) : Type 0 where
   pub some : 0 < r .used
   pub few : from + r .used ≤ length run
   pub same : fed (r .listing) (drop (from + r .used) run) .listing ≡ fed l (drop from run) .listing
 
-pub onward : (l : Listing) (run : List ℕ) (from : ℕ) (r : Turn) → from < length run → Turned l (drop from run) r → Onward l run from r
+pub onward : (l : Listing) (run : List ℕ) (from : ℕ) (r : Step) → from < length run → Stepped l (drop from run) r → Onward l run from r
 unfolding usedOf
 onward l run from r more t =
     let bs = drop from run in
@@ -135,21 +138,6 @@ onward l run from r more t =
 
 -- ---- a header
 
--- the header record with the bytes hs, of which there are eight at the most
-abbrev part : List ℕ → Header
-part hs = record { bytes = hs ++ replicate (headerLength - length hs) 0; count = length hs }
-
-add-part : (hs : List ℕ) (b : ℕ) → length hs < headerLength → added (part hs) b ≡ part (hs ++ (b ∷ []))
-unfolding added
-add-part hs b h =
-    let n = length hs in
-    let e : headerLength - n ≡ suc (headerLength - suc n) = omega arith in
-    let l : length (hs ++ (b ∷ [])) ≡ suc n = length-append hs (b ∷ []) ∙ omega arith in
-    let s : set (hs ++ replicate (headerLength - n) 0) n b ≡ hs ++ (b ∷ replicate (headerLength - suc n) 0) =
-    ap (λ (k : ℕ). set (hs ++ replicate k 0) n b) e ∙ set-at hs 0 (replicate (headerLength - suc n) 0) b n refl in
-    rw (lt-ltb n headerLength h, s, l, append-assoc)
-    (ap (λ (k : ℕ). record { bytes = hs ++ (b ∷ replicate (headerLength - suc n) 0); count = k }) (omega arith))
-
 -- so far s segments and x bytes, and of the next header the bytes hs
 abbrev here : List ℕ → ℕ → ℕ → Listing
 here hs s x = record { header = part hs; rest = 0; segments = s % 2 ^ 64; bytes = x % 2 ^ 64 }
@@ -158,10 +146,10 @@ here hs s x = record { header = part hs; rest = 0; segments = s % 2 ^ 64; bytes 
 further : (x k : ℕ) → plus (x % 2 ^ 64) k ≡ (x + k) % 2 ^ 64
 further x k = mod-add-mod x (2 ^ 64) k
 
-step-part : (hs : List ℕ) (s x b : ℕ) → suc (length hs) < headerLength
-    → step (here hs s x) b ≡ record { listing = here (hs ++ (b ∷ [])) s (x + 1); lines = [] }
-unfolding step headByte
-step-part hs s x b h =
+byte-part : (hs : List ℕ) (s x b : ℕ) → suc (length hs) < headerLength
+    → byte (here hs s x) b ≡ record { listing = here (hs ++ (b ∷ [])) s (x + 1); lines = [] }
+unfolding byte headByte
+byte-part hs s x b h =
     let l : length (hs ++ (b ∷ [])) ≡ suc (length hs) = length-append hs (b ∷ []) ∙ omega arith in
     rw (add-part hs b (omega arith), lt-leb headerLength (length (hs ++ (b ∷ []))) (omega arith), further x 1)
 
@@ -173,21 +161,21 @@ gather hs [] s x h = rw (append-nil, add-zero)
 gather hs (b ∷ xs) s x h =
     let l : length (hs ++ (b ∷ [])) ≡ suc (length hs) = length-append hs (b ∷ []) ∙ omega arith in
     let e : x + 1 + length xs ≡ x + suc (length xs) = omega arith in
-    rw (step-part hs s x b (omega arith), gather (hs ++ (b ∷ [])) xs s (x + 1) (omega arith), append-assoc hs (b ∷ []) xs, e)
+    rw (byte-part hs s x b (omega arith), gather (hs ++ (b ∷ [])) xs s (x + 1) (omega arith), append-assoc hs (b ∷ []) xs, e)
 
 -- the whole header h, with what it says
 abbrev full : List ℕ → Header
 full h = record { bytes = h; count = headerLength }
 
-step-whole : (hs : List ℕ) (s x b : ℕ) → suc (length hs) ≡ headerLength
-    → step (here hs s x) b ≡ after (here hs s x) (full (hs ++ (b ∷ []))) (decoded (hs ++ (b ∷ [])) .len) 1
-unfolding step headByte
-step-whole hs s x b h =
+byte-whole : (hs : List ℕ) (s x b : ℕ) → suc (length hs) ≡ headerLength
+    → byte (here hs s x) b ≡ after (here hs s x) (full (hs ++ (b ∷ []))) (decoded (hs ++ (b ∷ [])) .len) 1
+unfolding byte headByte
+byte-whole hs s x b h =
     let l : length (hs ++ (b ∷ [])) ≡ headerLength = length-append hs (b ∷ []) ∙ omega arith in
     let n : headerLength - length (hs ++ (b ∷ [])) ≡ 0 = omega arith in
     rw (add-part hs b (omega arith), n, append-nil, l)
 
--- a turn's way on counts its bytes, wherever the header's bytes are held
+-- a step's way on counts its bytes, wherever the header's bytes are held
 after-here : (hs : List ℕ) (s x k j n : ℕ) (h : Header) → after (here hs s (x + k)) h n j ≡ after (here [] s x) h n (k + j)
 unfolding after
 after-here hs s x k j n h = rw (further (x + k) j, further x (k + j), add-assoc)
@@ -204,7 +192,7 @@ fed-header h s x e =
     gather [] hs s x (omega arith) ∙ ap {B = Listed} (λ (k : ℕ). record { listing = here hs s (x + k); lines = [] }) n in
     rw (last-byte h e)
     (cuts (here [] s x) hs (b ∷ [])
-    ∙ rw q (fed-one (here hs s (x + 7)) b ∙ step-whole hs s (x + 7) b (omega arith) ∙ after-here hs s x 7 1 (decoded (hs ++ (b ∷ [])) .len) (full (hs ++ (b ∷ [])))))
+    ∙ rw q (fed-one (here hs s (x + 7)) b ∙ byte-whole hs s (x + 7) b (omega arith) ∙ after-here hs s x 7 1 (decoded (hs ++ (b ∷ [])) .len) (full (hs ++ (b ∷ [])))))
 
 -- the header h is in, and n payload bytes are to come
 abbrev opened : List ℕ → ℕ → ℕ → Listing
@@ -338,8 +326,8 @@ same-lines None (Whole s) e = absurd (let z : _≡_ {A = ℕ} 0 1 = cc in omega 
 same-lines (Whole s) None e = absurd (let z : _≡_ {A = ℕ} 0 1 = cc in omega arith)
 same-lines (Whole s) (Whole q) e = cc
 
-abbrev turnOf : Listing → ℕ → Line → Turn
-turnOf l n k = record { listing = l; used = n; line = k }
+abbrev stepOf : Listing → ℕ → Line → Step
+stepOf l n k = record { listing = l; used = n; line = k }
 
 pub once : Once
 once l bs r q x y =
@@ -347,5 +335,5 @@ once l bs r q x y =
     let e : told r ≡ told q = x .comes ∙ ap (λ (k : ℕ). fed l (take k bs)) u ∙ sym (y .comes) in
     let i : r .listing ≡ q .listing = ap (λ (m : Listed). m .listing) e in
     let j : r .line ≡ q .line = same-lines (r .line) (q .line) (ap (λ (m : Listed). m .lines) e) in
-    let k : turnOf (r .listing) (r .used) (r .line) ≡ turnOf (q .listing) (q .used) (q .line) = rw (i, j, u) in
+    let k : stepOf (r .listing) (r .used) (r .line) ≡ stepOf (q .listing) (q .used) (q .line) = rw (i, j, u) in
     k

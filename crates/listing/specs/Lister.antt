@@ -11,7 +11,7 @@ use Rattle.wire.specs.Segments.{headerLength, empty, added, decoded, Carried, D
 use Rattle.listing.specs.declared.Listing.{Listing}
 use Rattle.listing.specs.declared.Line.{Line}
 use Rattle.listing.specs.declared.Line.the-variants.{None, Whole}
-use Rattle.listing.specs.declared.Turn.{Turn}
+use Rattle.listing.specs.declared.Step.{Step}
 
 -- what bytes come to, and the segments that ended on the way
 pub record Listed : Type 0 where
@@ -45,8 +45,8 @@ headByte l b =
     cond (leb headerLength (h .count)) (after l h (decoded (h .bytes) .len) 1) (going l h 0 1)
 
 -- one byte more, of a payload where one is under way
-unfoldable pub step : Listing → ℕ → Listed
-step l b = cond (ltb 0 (l .rest)) (after l (l .header) (l .rest - 1) 1) (headByte l b)
+unfoldable pub byte : Listing → ℕ → Listed
+byte l b = cond (ltb 0 (l .rest)) (after l (l .header) (l .rest - 1) 1) (headByte l b)
 
 -- first the one, then the other
 abbrev pub then : Listed → Listed → Listed
@@ -55,13 +55,13 @@ then r q = record { listing = q .listing; lines = r .lines ++ q .lines }
 -- the bytes one after the other
 unfoldable pub fed : Listing → List ℕ → Listed
 fed l [] = record { listing = l; lines = [] }
-fed l (b ∷ bs) = then (step l b) (fed (step l b .listing) bs)
+fed l (b ∷ bs) = then (byte l b) (fed (byte l b .listing) bs)
 
 -- no byte yet
 abbrev pub begun : Listing
 begun = record { header = empty; rest = 0; segments = 0; bytes = 0 }
 
--- the bytes end with a whole segment: `end`, else `cut`
+-- the bytes break off inside no segment: `end`, else `cut`
 abbrev pub ended : Listing → Bool
 ended l = eqb (l .header .count) 0
 
@@ -69,15 +69,15 @@ abbrev pub linesOf : Line → List Segment
 linesOf None = []
 linesOf (Whole s) = s ∷ []
 
-abbrev pub told : Turn → Listed
+abbrev pub told : Step → Listed
 told r = record { listing = r .listing; lines = linesOf (r .line) }
 
--- a turn uses one byte of a header, or the payload bytes that are there
+-- a step uses one byte of a header, or the payload bytes that are there
 unfoldable pub usedOf : Listing → List ℕ → ℕ
 usedOf l bs = min (cond (ltb 0 (l .rest)) (l .rest) 1) (length bs)
 
--- a turn comes to what the bytes that it uses come to one after the other
-pub record Turned (l : Listing) (bs : List ℕ) (r : Turn) : Type 0 where
+-- a step comes to what the bytes that it uses come to one after the other
+pub record Stepped (l : Listing) (bs : List ℕ) (r : Step) : Type 0 where
   pub used : r .used ≡ usedOf l bs
   pub comes : told r ≡ fed l (take (r .used) bs)
 
@@ -94,6 +94,6 @@ pub record Lister : Type 0 where
   pub lists : (xs left : List ℕ) (cs : List Carried) → Divided xs cs left → Lists xs cs left
   pub cuts : (l : Listing) (xs ys : List ℕ) → fed l (xs ++ ys) ≡ then (fed l xs) (fed (fed l xs .listing) ys)
 
--- the contract of a turn leaves one answer
+-- the contract of a step leaves one answer
 abbrev pub Once : Type 0
-Once = (l : Listing) (bs : List ℕ) (r q : Turn) → Turned l bs r → Turned l bs q → r ≡ q
+Once = (l : Listing) (bs : List ℕ) (r q : Step) → Stepped l bs r → Stepped l bs q → r ≡ q

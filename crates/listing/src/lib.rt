@@ -1,14 +1,14 @@
 // The lister's core: the segments of one direction of a connection, by their layout alone.
 //
-// Bytes come in runs cut anywhere. Each turn takes the next bytes of a run, as far as one step of the layout
-// goes, and hands out a segment when its last byte is in. After all bytes, by whatever runs they came, the
+// Bytes come in runs cut anywhere. Each step takes the next bytes of a run, one of a header or those of a
+// payload that are there, and hands out a segment when its last byte is in. After all bytes, by whatever runs they came, the
 // segments handed out are those of the whole, in order, and both counts are right.
 use wire::segment::Header;
 use wire::segment::Segment;
 ghost use mathlib.Core.Path.{_≡_};
 ghost use Prim.Native.Nat.{_-_, min};
 ghost use lib.ListN.{drop};
-ghost use Rattle.listing.specs.Lister.{told, going, after, headByte, begun, ended, Turned};
+ghost use Rattle.listing.specs.Lister.{told, going, after, headByte, begun, ended, Stepped};
 
 // What is known after some bytes: the header, whole while its payload is under way; the payload bytes that are
 // still to come; the whole segments and the bytes so far, both modulo 2^64.
@@ -19,14 +19,14 @@ pub struct Listing {
     pub bytes: u64,
 }
 
-// Whether a turn ended a segment.
+// Whether a step ended a segment.
 pub enum Line {
     None,
     Whole(Segment),
 }
 
-// What a turn came to, and how many bytes it used.
-pub struct Turn {
+// What a step came to, and how many bytes it used.
+pub struct Step {
     pub listing: Listing,
     pub used: usize,
     pub line: Line,
@@ -45,7 +45,7 @@ impl Listing {
         }
     }
 
-    // Whether the bytes end with a whole segment.
+    // Whether the bytes break off inside no segment.
     pub fn at_end(self) -> bool
         ensures { λ r. ⌜ r ≡ ended self ⌝ }
     {
@@ -54,11 +54,11 @@ impl Listing {
     }
 
     // The next bytes of a run, from a place on.
-    pub fn turn(self, run: &[u8], from: usize) -> Turn
-        ensures { λ r. ⌜ Turned self (drop from (now (run .entry))) r ⌝ }
+    pub fn step(self, run: &[u8], from: usize) -> Step
+        ensures { λ r. ⌜ Stepped self (drop from (now (run .entry))) r ⌝ }
     {
         if run.len() <= from {
-            return Turn {
+            return Step {
                 listing: self,
                 used: 0,
                 line: Line::None,
@@ -72,7 +72,7 @@ impl Listing {
 }
 
 // The header is h and n payload bytes are to come, after k bytes more.
-fn under_way(l: Listing, h: Header, n: usize, k: usize) -> Turn
+fn under_way(l: Listing, h: Header, n: usize, k: usize) -> Step
     ensures { λ r. ⌜ (told r ≡ going l h n k) × (r .used ≡ k) ⌝ }
 {
     let listing = Listing {
@@ -81,7 +81,7 @@ fn under_way(l: Listing, h: Header, n: usize, k: usize) -> Turn
         segments: l.segments,
         bytes: std::num::wrapping_add_u64(l.bytes, k as u64),
     };
-    Turn {
+    Step {
         listing,
         used: k,
         line: Line::None,
@@ -89,7 +89,7 @@ fn under_way(l: Listing, h: Header, n: usize, k: usize) -> Turn
 }
 
 // The same, and where no payload bytes are to come, the segment has ended.
-fn then(l: Listing, h: Header, n: usize, k: usize) -> Turn
+fn then(l: Listing, h: Header, n: usize, k: usize) -> Step
     ensures { λ r. ⌜ (told r ≡ after l h n k) × (r .used ≡ k) ⌝ }
 {
     if 0 < n {
@@ -101,7 +101,7 @@ fn then(l: Listing, h: Header, n: usize, k: usize) -> Turn
         segments: std::num::wrapping_add_u64(l.segments, 1),
         bytes: std::num::wrapping_add_u64(l.bytes, k as u64),
     };
-    Turn {
+    Step {
         listing,
         used: k,
         line: Line::Whole(h.segment()),
@@ -109,7 +109,7 @@ fn then(l: Listing, h: Header, n: usize, k: usize) -> Turn
 }
 
 // One byte more of a header.
-fn header_byte(l: Listing, b: u8) -> Turn
+fn header_byte(l: Listing, b: u8) -> Step
     ensures { λ r. ⌜ (told r ≡ headByte l b) × (r .used ≡ 1) ⌝ }
 {
     let old = l.header;
@@ -122,7 +122,7 @@ fn header_byte(l: Listing, b: u8) -> Turn
 }
 
 // As many of n bytes as the payload has still to come.
-fn payload(l: Listing, n: usize) -> Turn
+fn payload(l: Listing, n: usize) -> Step
     ensures { λ r. ⌜ (told r ≡ after l (l .header) (l .rest - min (l .rest) n) (min (l .rest) n)) × (r .used ≡ min (l .rest) n) ⌝ }
 {
     let h = l.header;

@@ -1,8 +1,9 @@
 // The lister's lines for inputs that are easy to get wrong, each cut into runs of one byte, of three, and in one:
 // a line with the runs' size, and then what the lister prints.
+use base::smaller;
 use libc::STDOUT_FILENO;
 use listing::Listing;
-ghost use Prim.Native.Nat.{_<_, _≤_};
+ghost use Prim.Native.Nat.{_<_};
 
 fn main() {
     // no bytes at all
@@ -38,20 +39,9 @@ fn cut(bytes: &[u8], size: usize)
     let mut known = Listing::begin();
     let mut from = 0;
     while from < bytes.len() {
-        let to = end(bytes.len(), from, size);
+        let to = from + smaller(size, bytes.len() - from);
         known = lines::print_run(known, &bytes[from..to]);
         from = to;
     }
     lines::print_last(known);
-}
-
-// Where a run from a place on ends.
-fn end(all: usize, from: usize, size: usize) -> usize
-    requires { ⌜ (from < all) × (0 < size) ⌝ }
-    ensures { λ r. ⌜ (from < r) × (r ≤ all) ⌝ }
-{
-    if all - from <= size {
-        return all;
-    }
-    from + size
 }

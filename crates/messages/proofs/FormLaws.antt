@@ -4,12 +4,13 @@ use mathlib.Core.Path.{_≡_, refl, ap, _∙_}
 use mathlib.Core.Bool.{Bool, true, false}
 use mathlib.Core.List.{List, [], _∷_, _++_, map}
 use mathlib.Core.Option.{none, some}
-use Prim.Native.Nat.{ℕ, zero, suc, _+_, _-_, _<_, _≤_}
+use Prim.Native.Nat.{ℕ, suc, _+_, _-_, _<_, _≤_}
 use native.Mathlib.Omega.{arith}
 use native.Mathlib.Numerals.{add-one}
 use lib.Dec.{T, eqb, leb, leb→le}
 use lib.ListN.{length, getD, take, drop, length-map, List·getD-append}
 use lib.Seq.{drop-cons, getD-take}
+use Rattle.base.proofs.ListLaws.{getD-map}
 use Rattle.base.proofs.Table.{every, at}
 use Rattle.rows.specs.declared.Protocol.{Protocol}
 use Rattle.rows.specs.declared.Protocol.the-variants.{Handshake, ChainSync, BlockFetch, TxSubmission, KeepAlive}
@@ -35,14 +36,9 @@ forms-end BlockFetch = omega arith
 forms-end TxSubmission = omega arith
 forms-end KeepAlive = omega arith
 
-getD-map : {A B : Type 0} (f : A → B) (l : List A) (n : ℕ) (d : A) (e : B) → n < length l → getD (map f l) n e ≡ f (getD l n d)
-getD-map f [] n d e h = absurd (omega arith)
-getD-map f (x ∷ l) zero d e h = refl
-getD-map f (x ∷ l) (suc n) d e h = getD-map f l n d e (omega arith)
-
--- the table's cells are the forms' columns
-pub cell-form : (i c : ℕ) → i < formCount → getD (getD (map columns allForms) i []) c 0 ≡ getD (columns (formAt i)) c 0
-cell-form i c h = ap (λ (r : List ℕ). getD r c 0) (getD-map columns allForms i (form 0 []) [] h)
+-- the table's rows are document 01's forms, column by column
+pub row-at : (i : ℕ) → i < formCount → getD (map columns allForms) i [] ≡ columns (formAt i)
+row-at i h = getD-map columns allForms i (form 0 []) [] h
 
 -- no form has more than three fields
 few : ℕ → Form → Bool

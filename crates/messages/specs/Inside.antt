@@ -1,4 +1,4 @@
--- What only this crate's own functions cite: how the table of forms is laid out.
+-- What only functions below the operations cite, here and in `build`: how the table of forms is laid out.
 use Prim.Native.Nat.{ℕ, _<_}
 use mathlib.Core.Path.{_≡_}
 use mathlib.Core.Bool.{cond}

@@ -7,7 +7,7 @@ use mathlib.Core.Option.{some}
 use lib.ListN.{length, getD, set, drop}
 use Rattle.head.specs.Read.{headAt}
 use Rattle.head.specs.declared.read.Head.the-variants.{Definite}
-use Rattle.item.specs.Grammar.{Frame, One, Items, Reads}
+use Rattle.item.specs.Grammar.{nesting, Frame, One, Items, Reads}
 use Rattle.rows.specs.declared.Protocol.{Protocol}
 use Rattle.messages.specs.declared.forms.Field.{Field}
 use Rattle.messages.specs.declared.forms.Field.the-variants as field
@@ -66,13 +66,13 @@ True = 0xf5
 
 -- The message's own array counts in the nesting, and so do a list, a pair and a map.
 abbrev pub inMessage : ℕ
-inMessage = 15
+inMessage = nesting - 1
 
 abbrev pub inList : ℕ
-inList = 14
+inList = nesting - 2
 
 abbrev pub inPair : ℕ
-inPair = 13
+inPair = nesting - 3
 
 -- k pairs [item, size], from place p up to place q.
 pub data PairsAt (bs : List ℕ) : ℕ → ℕ → ℕ → Type 0 where

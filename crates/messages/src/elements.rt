@@ -3,7 +3,11 @@
 // Nothing is walked twice that need not be: the bytes are known to be one item, so that its last element ends where
 // they end. Places past the end are met by no head and no item.
 use super::forms::Field;
+use head::ARRAY;
+use head::MAP;
+use head::UNSIGNED;
 use head::read::Head;
+use item::NESTING;
 use item::Verdict;
 ghost use mathlib.Core.Path.{_≡_};
 ghost use mathlib.Core.Bool.{true, cond};
@@ -12,6 +16,7 @@ ghost use lib.Dec.{ltb, eqb};
 ghost use lib.ListN.{length, getD};
 ghost use Rattle.ring.specs.Ring.{around};
 ghost use Rattle.head.specs.Read.{headAt};
+ghost use Rattle.item.specs.Grammar.{nesting};
 ghost use Rattle.messages.specs.Matching.{inMessage, inList};
 ghost use Rattle.messages.specs.Reading.{onEnd, leads, ended, unsignedAt, opensAt, itemEnd, sizeEnd, sizedEnd, pairEnd, pairsEnd, keyAt, versionAt, versionsEnd, below, upTo, boolOf, partOf};
 
@@ -34,26 +39,19 @@ pub enum Part {
     Wrong,
 }
 
-// Major types.
-pub const UNSIGNED: u8 = 0;
-
-pub const ARRAY: u8 = 4;
-
-pub const MAP: u8 = 5;
-
 // The message's own array counts in the nesting, and so do a list, a pair and a map.
-pub const IN_MESSAGE: usize = 15;
+pub const IN_MESSAGE: usize = NESTING - 1;
 
-pub const IN_LIST: usize = 14;
+pub const IN_LIST: usize = NESTING - 2;
 
-const IN_PAIR: usize = 13;
+const IN_PAIR: usize = NESTING - 3;
 
 // Versions and sizes are below 2^32, w is below 2^16.
-pub const VERSIONS: u64 = 4294967296;
+pub const VERSION_LIMIT: u64 = 4294967296;
 
-const SIZES: u64 = 4294967296;
+const SIZE_LIMIT: u64 = 4294967296;
 
-pub const WORDS: u64 = 65536;
+pub const WORD_LIMIT: u64 = 65536;
 
 // A bool is one byte.
 const FALSE: u8 = 0xf4;
@@ -114,6 +112,7 @@ pub fn opens_at(s: &[u8], from: usize, n: usize, major: u8, at: usize) -> Number
     leading(s, from, n, major, at)
 }
 
+// Where the item that a verdict is about ends.
 fn end_of(v: Verdict) -> End
     ensures { λ r. ⌜ r ≡ ended v ⌝ }
 {
@@ -126,7 +125,7 @@ fn end_of(v: Verdict) -> End
 
 // Where the item at a place ends, within the nesting d.
 pub fn item_end(s: &[u8], from: usize, n: usize, at: usize, d: usize) -> End
-    requires { ⌜ (from ≤ length (now s)) × (n ≤ length (now s)) × (d ≤ 16) ⌝ }
+    requires { ⌜ (from ≤ length (now s)) × (n ≤ length (now s)) × (d ≤ nesting) ⌝ }
     ensures { λ r. ⌜ r ≡ itemEnd (around (now (s .entry)) from n) d at ⌝ }
 {
     if n < at {
@@ -149,7 +148,7 @@ fn size_end(s: &[u8], from: usize, n: usize, at: usize) -> End
 {
     let size = unsigned_at(s, from, n, at);
     match size {
-        Number::Is(v, q) => end_if(v < SIZES, q),
+        Number::Is(v, q) => end_if(v < SIZE_LIMIT, q),
         Number::Not => End::Nowhere,
     }
 }
@@ -213,7 +212,7 @@ fn key_at(s: &[u8], from: usize, n: usize, low: u64, at: usize) -> Number
 {
     let key = unsigned_at(s, from, n, at);
     match key {
-        Number::Is(v, q) => number_if(base::and(low <= v, v < VERSIONS), v, q),
+        Number::Is(v, q) => number_if(base::and(low <= v, v < VERSION_LIMIT), v, q),
         Number::Not => Number::Not,
     }
 }
@@ -267,21 +266,12 @@ fn up_to(a: usize, e: End) -> Part
     ensures { λ r. ⌜ r ≡ upTo a e ⌝ }
 {
     match e {
-        End::At(q) => Part::Place(a, less(q, a), q),
+        End::At(q) => Part::Place(a, base::less(q, a), q),
         End::Nowhere => Part::Wrong,
     }
 }
 
-// How far q is behind a.
-fn less(q: usize, a: usize) -> usize
-    ensures { λ r. ⌜ r ≡ q - a ⌝ }
-{
-    if a < q {
-        return q - a;
-    }
-    0
-}
-
+// What a field says that is a number which a test lets pass.
 fn part_if(test: bool, v: u64, q: usize) -> Part
     ensures { λ r. ⌜ r ≡ cond test (Part.Number v q) Part.Wrong ⌝ }
 {
@@ -301,6 +291,7 @@ fn limited(limit: u64, number: Number) -> Part
     }
 }
 
+// A bool: one byte.
 fn bool_at(s: &[u8], from: usize, n: usize, at: usize) -> Part
     requires { ⌜ (from ≤ length (now s)) × (n ≤ length (now s)) ⌝ }
     ensures { λ r. ⌜ r ≡ boolOf (getD (around (now (s .entry)) from n) at 0) at ⌝ }
@@ -375,8 +366,8 @@ pub fn part_at(s: &[u8], from: usize, n: usize, f: Field, at: usize, last: bool)
         Field::Items => items_at(s, from, n, at, last),
         Field::Pairs => pairs_at(s, from, n, at),
         Field::Versions => versions_at(s, from, n, at),
-        Field::Word => limited(WORDS, unsigned_at(s, from, n, at)),
+        Field::Word => limited(WORD_LIMIT, unsigned_at(s, from, n, at)),
         Field::Bool => bool_at(s, from, n, at),
-        Field::Version => limited(VERSIONS, unsigned_at(s, from, n, at)),
+        Field::Version => limited(VERSION_LIMIT, unsigned_at(s, from, n, at)),
     }
 }

@@ -1,4 +1,6 @@
 // The forms as one table, searched by protocol and kind.
+//
+// The table is document 01's: what is found is the form of this kind, and none is found exactly if the protocol has none.
 use rows::Protocol;
 ghost use mathlib.Core.Path.{_≡_};
 ghost use Prim.Native.Nat.{_<_, _≤_};
@@ -25,22 +27,32 @@ pub enum Listed {
 }
 
 // The fields by number.
-const ITEM: u64 = 0;
+const ITEM: u8 = 0;
 
-const ITEMS: u64 = 1;
+const ITEMS: u8 = 1;
 
-const PAIRS: u64 = 2;
+const PAIRS: u8 = 2;
 
-const VERSIONS: u64 = 3;
+const VERSIONS: u8 = 3;
 
-const WORD: u64 = 4;
+const WORD: u8 = 4;
 
-const BOOL: u64 = 5;
+const BOOL: u8 = 5;
 
-const VERSION: u64 = 6;
+const VERSION: u8 = 6;
 
-// Kind, number of fields, the fields; 0 where there is none.
-const FORMS: [[u64; 5]; 26] = [
+// No form has more fields.
+pub const MOST_FIELDS: usize = 3;
+
+// The columns: kind, number of fields, and from the third on the fields.
+const KIND: usize = 0;
+
+const FIELDS: usize = 1;
+
+const FIRST_FIELD: usize = 2;
+
+// A row for each form; 0 where there is no field.
+const FORMS: [[u8; FIRST_FIELD + MOST_FIELDS]; 26] = [
     // Handshake: Propose, Accept, Refuse
     [0, 1, VERSIONS, 0, 0],
     [1, 2, VERSION, ITEM, 0],
@@ -101,21 +113,23 @@ fn count(p: Protocol) -> usize
 }
 
 // What stands in a column of row i.
-fn at(i: usize, column: usize) -> u64
+fn at(i: usize, column: usize) -> u8
     requires { ⌜ (i < formCount) × (column < 5) ⌝ }
     ensures { λ r. ⌜ r ≡ getD (columns (formAt i)) column 0 ⌝ }
 {
     FORMS[i][column]
 }
 
-// The row of a kind.
+// The row of a kind. The table is made anew wherever it is named: so once, before the search.
 pub fn find(p: Protocol, kind: u64) -> Listed
     ensures { λ r. ⌜ Finds p kind r ⌝ }
 {
+    let table = FORMS;
     let mut i = first(p);
     let end = i + count(p);
     while i < end {
-        if at(i, 0) == kind {
+        let row = table[i];
+        if row[KIND] as u64 == kind {
             return Listed::Row(i);
         }
         i += 1;
@@ -128,11 +142,11 @@ pub fn fields(i: usize) -> usize
     requires { ⌜ i < formCount ⌝ }
     ensures { λ r. ⌜ (r ≡ length (formAt i .fields)) × (r ≤ 3) ⌝ }
 {
-    at(i, 1) as usize
+    at(i, FIELDS) as usize
 }
 
 // The field that a number in the table stands for.
-fn field_of(mark: u64) -> Field
+fn field_of(mark: u8) -> Field
     ensures { λ r. ⌜ r ≡ fieldOf mark ⌝ }
 {
     if mark == ITEM {
@@ -161,5 +175,5 @@ pub fn field_at(i: usize, j: usize) -> Field
     requires { ⌜ (i < formCount) × (j < length (formAt i .fields)) ⌝ }
     ensures { λ r. ⌜ r ≡ getD (formAt i .fields) j Item ⌝ }
 {
-    field_of(at(i, 2 + j))
+    field_of(at(i, FIRST_FIELD + j))
 }

@@ -9,6 +9,7 @@ use elements::End;
 use elements::Number;
 use elements::Part;
 use forms::Listed;
+use head::ARRAY;
 use rows::Protocol;
 ghost use mathlib.Core.Path.{_≡_};
 ghost use mathlib.Core.Bool.{cond};
@@ -38,40 +39,43 @@ pub enum Reading {
     WrongField(u64),
 }
 
+// No form has more numbers, nor more items, lists and maps.
+pub const MOST_NUMBERS: usize = 3;
+
+pub const MOST_PLACES: usize = 2;
+
 // What a message says: its number, the numbers in it, and the start and length of each item, list and map, in order.
-// What is not set is 0.
+// `count` is how many numbers it has, and `parts` how many items, lists and maps. What is not set is 0.
 pub struct Message {
     pub kind: u64,
-    pub numbers: [u64; 3],
+    pub numbers: [u64; MOST_NUMBERS],
     pub count: usize,
-    pub places: [usize; 4],
+    pub places: [usize; 2 * MOST_PLACES],
     pub parts: usize,
 }
 
+// What reading answers: the case, and the message where it is one.
 pub struct Answer {
     pub reading: Reading,
     pub message: Message,
 }
 
-// The major type of an array.
-const ARRAY: u8 = 4;
-
 // The numbers, and the places, with one set. No form has more of them than there is room for.
-fn set_number(a: [u64; 3], i: usize, v: u64) -> [u64; 3]
+fn set_number(a: [u64; MOST_NUMBERS], i: usize, v: u64) -> [u64; MOST_NUMBERS]
     ensures { λ r. ⌜ r ≡ set a i v ⌝ }
 {
     let mut b = a;
-    if i < 3 {
+    if i < MOST_NUMBERS {
         b[i] = v;
     }
     b
 }
 
-fn set_place(a: [usize; 4], i: usize, v: usize) -> [usize; 4]
+fn set_place(a: [usize; 2 * MOST_PLACES], i: usize, v: usize) -> [usize; 2 * MOST_PLACES]
     ensures { λ r. ⌜ r ≡ set a i v ⌝ }
 {
     let mut b = a;
-    if i < 4 {
+    if i < 2 * MOST_PLACES {
         b[i] = v;
     }
     b
@@ -83,9 +87,9 @@ pub fn begin(kind: u64) -> Message
 {
     Message {
         kind,
-        numbers: [0u64; 3],
+        numbers: [0u64; MOST_NUMBERS],
         count: 0,
-        places: [0usize; 4],
+        places: [0usize; 2 * MOST_PLACES],
         parts: 0,
     }
 }
@@ -100,6 +104,7 @@ fn fail(reading: Reading) -> Answer
     }
 }
 
+// The message so far with one number more, and with one item, list or map more.
 fn with_number(m: Message, v: u64) -> Message
     requires { ⌜ m .count < 3 ⌝ }
     ensures { λ r. ⌜ r ≡ withNumber m v ⌝ }
@@ -204,6 +209,7 @@ fn formed(
     }
 }
 
+// The same of the form in a row.
 fn filled(s: &[u8], from: usize, n: usize, row: usize, count: u64, kind: u64, next: usize) -> Answer
     requires { ⌜ (from ≤ length (now s)) × (n ≤ length (now s)) × (row < formCount) ⌝ }
     requires { ⌜ ItemsAt (around (now s) from n) inMessage (count - 1) next n ⌝ }

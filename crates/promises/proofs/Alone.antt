@@ -4,7 +4,7 @@ use mathlib.Core.Path.{_≡_, refl, sym, ap, _∙_}
 use mathlib.Core.Bool.{Bool, true, false, cond, not, _&&_}
 use mathlib.Core.List.{List, [], _∷_, _++_, flatMap}
 use mathlib.Core.Logic.{_≢_}
-use Prim.Native.Nat.{ℕ, _+_, _≤_, _<_}
+use Prim.Native.Nat.{ℕ, _≤_, _<_}
 use native.Mathlib.Omega.{arith}
 use borrow.Author.Tests.{ne-eqb, eqb-true, eqb-false, lt-ltb, ltb-true}
 use lib.Dec.{eqb, ltb}
@@ -31,8 +31,10 @@ use Rattle.messages.specs.declared.Answer as messages
 use Rattle.messages.specs.Matching.{begun}
 use Rattle.connection.specs.declared.Settings.{Settings}
 use Rattle.connection.specs.declared.Connection.{Connection}
-use Rattle.connection.specs.Closings.{isOpen}
-use Rattle.connection.specs.Ranges.{receives}
+use Rattle.connection.specs.declared.Gate.{Gate}
+use Rattle.connection.specs.declared.Gate.the-variants.{Open, Closed}
+use Rattle.connection.specs.Closings.{isOpen, closingOf}
+use Rattle.connection.specs.Parts.{firstHeld, heldOf}
 use Rattle.judging.specs.declared.Judged.{Judged}
 use Rattle.judging.specs.Judging.{stateOf, ours, unjudged, byRow, byReading, judgedOf}
 use Rattle.taking.specs.Taking as taking
@@ -41,12 +43,11 @@ use Rattle.promises.specs.Calls as calls
 use Rattle.promises.specs.Calls.{Answer, taken, World, step, first}
 use Rattle.promises.specs.Reached.{Reached}
 use Rattle.promises.specs.History.{Past, bytesIn, Act, messageIn, acts, handedBy, handedFor, receivedIn, Moves, Walks, rests, moves}
-use Rattle.promises.specs.History.{firstFault, Tells}
-use Rattle.promises.specs.Alone.{Seen, seenBy, but, twentyForOne, Alone, Alike}
-use Rattle.promises.proofs.Ways.{Judges, no-message, message, judges}
-use Rattle.promises.proofs.HistoryCalls.{Good, good-receives}
-use Rattle.promises.proofs.HistoryRuns.{good}
-use Rattle.promises.proofs.Reached.{in-range-for-ever}
+use Rattle.promises.specs.History.{Tells}
+use Rattle.promises.specs.Alone.{Seen, anyClosing, seenBy, but, twentyForOne, Alone, Alike}
+use Rattle.judging.proofs.JudgingLaws.{Judges, not-read, not-led, message, judges}
+use Rattle.promises.proofs.Reached.{reached-receives, in-range-for-ever}
+use Rattle.promises.proofs.HistoryCalls.{Good, good}
 use Rattle.promises.proofs.History.{history}
 
 -- ---- the function
@@ -104,7 +105,8 @@ give-refused bs buf n z h = rw (ne-eqb n 0 z) (same-number n (begun 0) 0 buf h)
 give-judged : (bs buf : List ℕ) {p : Protocol} {state : ℕ} {xs : List ℕ} (j : Judged) → Judges p state xs j
     → give bs buf j ≡ twentyForOne (give bs buf j)
 unfolding give
-give-judged bs buf j (no-message n low high) = give-refused bs buf n (λ z. omega arith) (λ z. omega arith)
+give-judged bs buf j (not-read e) = give-refused bs buf 15 (λ z. omega arith) (λ z. omega arith)
+give-judged bs buf j (not-led m e x) = give-refused bs buf 16 (λ z. omega arith) (λ z. omega arith)
 give-judged bs buf j (message m to r q) =
     cond-cases (λ (a : Answer). a ≡ twentyForOne a) (ltb (length buf) _) (λ t. refl) (λ t. refl)
 
@@ -142,14 +144,14 @@ closes i v buf =
 -- ---- take, by what is held
 
 abbrev answerOf : taking.Told → Answer
-answerOf r = taken (r .taken .number) (r .taken .len) (r .taken .message) (r .buffer)
+answerOf r = taken (r .answer .number) (r .answer .len) (r .answer .message) (r .buffer)
 
 module _ (w : World) (i : ℕ) (buf : List ℕ) where
   abbrev c : Connection
   c = w .connection
 
   abbrev held : List ℕ
-  held = taking.heldOf c (w .receive) i
+  held = heldOf c (w .receive) i
 
   abbrev count : ℕ
   count = getD (c .receiving .held) i 0
@@ -158,7 +160,7 @@ module _ (w : World) (i : ℕ) (buf : List ℕ) where
   held-long = stream-length (w .receive) _ _ _ count
 
   -- the first bytes that are held
-  held-take : (n : ℕ) → n ≤ count → taking.bytesOf c (w .receive) i n ≡ lists.take n held
+  held-take : (n : ℕ) → n ≤ count → firstHeld c (w .receive) i n ≡ lists.take n held
   held-take n l =
       sym (stream-take (w .receive) (baseOf (c .settings .receive) i) (getD (c .settings .receive) i 0) (getD (c .receiving .starts) i 0) n count l)
 
@@ -172,7 +174,8 @@ module _ (w : World) (i : ℕ) (buf : List ℕ) where
       (λ t. rw t (by-test (taking.faulty (j .number)) (λ q. rw q) (λ q. rw q)))
 
   judged-short : {xs : List ℕ} {p : Protocol} {state : ℕ} (j : Judged) → Judges p state xs j → j .number ≡ 0 → j .len ≡ length xs
-  judged-short j (no-message n low high) e = absurd (omega arith)
+  judged-short j (not-read q) e = absurd (omega arith)
+  judged-short j (not-led m q x) e = absurd (omega arith)
   judged-short j (message m to r q) e = refl
 
   verdicts : (v : Verdict) → verdict held ≡ v
@@ -183,7 +186,7 @@ module _ (w : World) (i : ℕ) (buf : List ℕ) where
   verdicts (Bad at) e = gives _ (λ z. absurd (omega arith))
   verdicts (Whole n) e =
       let l : n ≤ count = rw held-long at (exactly 16 held (Whole n) .0 e .0) in
-      let xs : List ℕ = taking.bytesOf c (w .receive) i n in
+      let xs : List ℕ = firstHeld c (w .receive) i n in
       let long : length xs ≡ n = stream-length (w .receive) _ _ _ n in
       let j : Judged = judgedOf (speaks i) (stateOf c i) xs in
       gives j (λ z. omega (arith, judged-short j (judges (speaks i) (stateOf c i) xs) z))
@@ -195,12 +198,12 @@ module _ (w : World) (i : ℕ) (buf : List ℕ) where
   unfolding step taking.takeOf taking.judgeOf judge early
   take-is g l =
       let n : ℕ = taking.earlyOf c i in
-      rw (good-receives w g, lt-ltb i instances l, held-long)
+      rw (reached-receives g, lt-ltb i instances l, held-long)
       (by-test (eqb n 0) (λ t. rw t (verdicts (verdict held) refl)) (λ t. rw t (gives (unjudged n) (λ z. absurd (eqb-false n 0 t z)))))
 
   take-beyond : Good w → ltb i instances ≡ false → step w (calls.take i buf) .answer ≡ taken 10 0 (begun 0) buf
   unfolding step taking.takeOf
-  take-beyond g t = rw (good-receives w g, t)
+  take-beyond g t = rw (reached-receives g, t)
 
 -- ---- by the history
 
@@ -225,9 +228,10 @@ give-same : (i : ℕ) (buf : List ℕ) {side side′ : Side} {state state′ : �
     → give hs buf (judge side i state a o hs) ≡ give hs′ buf (judge side′ i state′ a′ o′ hs′)
 give-same i buf p q r t u = rw (p, q, r, t, u)
 
-not-not : (b : Bool) → b ≡ not (not b)
-not-not true = refl
-not-not false = refl
+-- open, or there is a closing
+open-or-closed : (g : Gate) → isOpen g ≡ not (anyClosing (closingOf g))
+open-or-closed Open = refl
+open-or-closed (Closed x) = refl
 
 -- a take in a world that the history tells of
 take-seen : (s : Settings) (past : Past) (w : World) → Reached s w → Tells s past w → (segments : List Carried) (left : List ℕ)
@@ -239,13 +243,13 @@ take-seen s past w k t segments left d i buf =
     (λ y.
     let l : i < instances = ltb-true i instances y in
     let q = divided-once (bytesIn past) left (t .receives .left) segments (t .receives .carried) d (t .receives .divided) in
-    let came : receivedIn (s .side) i segments left ≡ flatMap handedBy (acts i past) ++ taking.heldOf (w .connection) (w .receive) i =
+    let came : receivedIn (s .side) i segments left ≡ flatMap handedBy (acts i past) ++ heldOf (w .connection) (w .receive) i =
     rw (q .0, q .1) (t .receives .received i l) in
     rw y
     (take-is w i buf (good k) l
     ∙ give-same i buf (ap (λ (u : Settings). u .side) (k .settings)) (sym (state-is (t .talks .states i l))) (t .talks .accepted)
-    (ap isOpen (t .closes) ∙ not-not (isOpen (firstFault (s .side) [] past)))
-    (unread-is (seenBy (s .side) past segments left i) (taking.heldOf (w .connection) (w .receive) i) came)))
+    (rw (← t .closes) (open-or-closed (w .connection .gate)))
+    (unread-is (seenBy (s .side) past segments left i) (heldOf (w .connection) (w .receive) i) came)))
     (λ y. rw y (take-beyond w i buf (good k) y))
 
 -- T14

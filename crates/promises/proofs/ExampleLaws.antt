@@ -25,6 +25,6 @@ pub examples : Examples
 unfolding allBelow spelled octets baseOf laid stream headAt headBy longAt simpleAt initial nest indefinite enter alike enterChunk step met judge
     added decoded encoded find routeOf placeIn formIn unsignedAt opensAt itemEnd partOf fieldsOf numberedOf messageOf
     wordOf countOf lowestFrom seek settingsOk speaks inRange statusOf serve nextOf made
-    feeding.feedOf feeding.taken feeding.used feeding.fed feeding.step feeding.kept feeding.headed feeding.admission
+    feeding.feedOf feeding.feedOpen feeding.used feeding.fed feeding.step feeding.kept feeding.headed feeding.admission
 examples =
-    ((refl, refl, refl, refl), ((refl, refl, refl, refl), (refl, (refl, (refl, (refl, (refl, (refl, (refl, (refl, (refl, (refl, (refl, (refl, (refl, (refl, ((refl, refl), tt)))))))))))))))))
+    ((refl, refl, refl, refl, refl), ((refl, refl, refl, refl, refl), (refl, (refl, (refl, (refl, (refl, (refl, (refl, (refl, (refl, (refl, (refl, (refl, (refl, (refl, ((refl, refl), tt)))))))))))))))))

@@ -2,7 +2,7 @@
 -- Handshake, each of which one of the segments made takes away.
 -- Assumes nothing.
 use mathlib.Core.Path.{_≡_, refl, sym, ap, subst, _∙_}
-use mathlib.Core.List.{List, [], _∷_, _++_}
+use mathlib.Core.List.{List, [], _∷_, _++_, flatMap}
 use mathlib.Core.Logic.{_≢_}
 use Prim.Native.Nat.{ℕ, zero, suc, _+_, _-_, _*_, _/_, _≤_, _<_}
 use native.Mathlib.Omega.{arith}
@@ -30,7 +30,7 @@ use Rattle.promises.specs.Reached.{waits, Reached}
 use Rattle.promises.specs.Fairness.{queue, segments, payload, Sent, enough, FairFrom, Serves, Fair}
 use Rattle.promises.proofs.ReachedHandshake.{spare, spare-none}
 use Rattle.promises.proofs.Reached.{toPut, handshake, Sound, sound-first, sound-step, sound-run}
-use Rattle.promises.proofs.Reached.{reached-sends, chosen-inside}
+use Rattle.promises.proofs.Reached.{reached-sends}
 use Rattle.promises.proofs.FairRound.{rounds, reach, Found, it, nearer, chosen-found, chosen-zero}
 use Rattle.promises.proofs.FairCalls.{Quiet, Served, share, Moves, quiet, served, moves}
 use Rattle.promises.proofs.FairSent.{of-same, of-other, sent-now, sent-other, sent-later}
@@ -161,7 +161,7 @@ module _ (s : Settings) (w w′ : World) (i : ℕ) (some : 1 ≤ i) (inside : i 
       → Sent (s .side) i p (byteAt w i p) (bs ∷ list.take k ss)
   other-step j p k bs q ne D h =
       sent-other (s .side) i (byteAt w i p) bs (list.take k ss) p
-      (of-other (s .side) i j bs inside (chosen-inside s w sound j (q .who)) ne (q .mode) (q .protocol))
+      (of-other (s .side) i j bs inside (sending.chosen-waiting _ (sound .reached .shaped) j (q .who) .0) ne (q .mode) (q .protocol))
       (subst (λ (b : ℕ). Sent (s .side) i p b (list.take k ss)) (ap (λ (l : List ℕ). getD l p 0) (q .others i ne)) (rest p k D h))
 
   -- a segment of i's own
@@ -283,14 +283,14 @@ serves-always s w r =
 
 due : (s : Settings) (i : ℕ) → 1 ≤ i → i < instances → (cs : List Call) (w : World) → AllReal cs → Sound s w
     → Rest s w i (segments (trace step w cs))
-unfolding segments trace AllReal
+unfolding segments trace AllReal flatMap
 due s i some inside [] w a k = λ p n D h. absurd (omega (arith, D .budget))
 due s i some inside (c ∷ cs) w (b, a) k =
     let k′ = sound-step s w c b k in
     by-move s w i some inside (moves s w k c b) k k′ (segments (trace step (step w c .world) cs)) (due s i some inside cs (step w c .world) a k′)
 
 zeroth : (s : Settings) (cs : List Call) (w : World) → AllReal cs → Sound s w → Next s w (segments (trace step w cs))
-unfolding segments trace AllReal
+unfolding segments trace AllReal flatMap
 zeroth s [] w a k = λ p n there h. absurd (omega arith)
 zeroth s (c ∷ cs) w (b, a) k =
     by-next s w (moves s w k c b) k (segments (trace step (step w c .world) cs))

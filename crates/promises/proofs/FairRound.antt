@@ -48,11 +48,8 @@ reach n t i low high some within = elim (decLt i t) [
       )
 ]
 
-pub after-some : (n i : ℕ) → 1 ≤ afterOf n i
+after-some : (n i : ℕ) → 1 ≤ afterOf n i
 after-some n i = cond-cases (λ (k : ℕ). 1 ≤ k) (eqb (i + 1) n) (λ t. omega arith) (λ t. omega arith)
-
-same-instance : (i j : ℕ) → Instance i ≡ Instance j → i ≡ j
-same-instance i j e = cc
 
 -- instance j, found on the way to i, is i, or i is nearer to the one after j
 pub data Found (n i d : ℕ) : ℕ → Type 0 where
@@ -64,7 +61,7 @@ found-later it = it
 found-later (nearer j e some lt r) = nearer j e some (omega arith) r
 
 -- a search that would come to i after d steps finds somebody, who is i or before it
-pub sought : (ws : List ℕ) (d k t i : ℕ) → 1 ≤ t → rounds (length ws) d t ≡ i → d < k → 0 < getD ws i 0
+sought : (ws : List ℕ) (d k t i : ℕ) → 1 ≤ t → rounds (length ws) d t ≡ i → d < k → 0 < getD ws i 0
     → (j : ℕ) × (seek ws t k ≡ Instance j) × Found (length ws) i d j
 unfolding rounds seek
 sought ws d zero t i some r h has = absurd (omega arith)
@@ -83,9 +80,10 @@ pub chosen-found : (ws : List ℕ) (n turn i d j : ℕ) → length ws ≡ n → 
 chosen-found ws n turn i d j e none some r h has who =
     let (j′, q, f) = sought ws d (length ws - 1) turn i some (rw e r) (omega arith) has in
     let who′ : seek ws turn (length ws - 1) ≡ Instance j = rw (le-ltb 0 (getD ws 0 0) (omega arith)) at who in
-    let same : j′ ≡ j = same-instance j′ j (sym q ∙ who′) in
+    let one : Instance j′ ≡ Instance j = sym q ∙ who′ in
+    let same : j′ ≡ j = cc in
     subst (λ (m : ℕ). Found m i d j) e (subst (λ (m : ℕ). Found (length ws) i d m) same f)
 
 -- and where it has
 pub chosen-zero : (ws : List ℕ) (turn j : ℕ) → 0 < getD ws 0 0 → chosen ws turn ≡ Instance j → j ≡ 0
-chosen-zero ws turn j h who = same-instance j 0 (sym who ∙ rw (lt-ltb 0 (getD ws 0 0) h))
+chosen-zero ws turn j h who = let one : Instance 0 ≡ Instance j = rw (lt-ltb 0 (getD ws 0 0) h) at who in cc

@@ -2,7 +2,7 @@
 -- Assumes nothing.
 use mathlib.Core.Path.{_≡_, refl, sym, ap, _∙_}
 use mathlib.Core.Bool.{true, false}
-use mathlib.Core.List.{List, [], _∷_}
+use mathlib.Core.List.{List, [], _∷_, flatMap}
 use mathlib.Core.Logic.{_≢_}
 use Prim.Native.Nat.{ℕ, _+_, _-_, _≤_, _<_}
 use native.Mathlib.Omega.{arith}
@@ -10,8 +10,7 @@ use native.Mathlib.Nat.{sub-zero}
 use lib.Dec.{eqb}
 use lib.ListN.{length, getD, length-append}
 use borrow.Author.Tests.{eq-eqb, eqb-true}
-use Rattle.base.proofs.Conds.{by-test}
-use Rattle.feeding.proofs.Bytes.{both-true}
+use Rattle.base.proofs.Conds.{by-test, both-true}
 use Rattle.wire.specs.declared.instances.Side.{Side}
 use Rattle.wire.specs.declared.instances.Route.the-variants.{To}
 use Rattle.wire.specs.Instances.{instances, routeOf, protocolOf, modeOf}
@@ -41,7 +40,7 @@ of-other side i j bs h l ne m p =
 module _ (side : Side) (i b : ℕ) (bs : List ℕ) (ss : List (List ℕ)) where
   pub sent-now : (p : ℕ) → isOf side i bs ≡ true → header bs .len ≡ length (payload bs) → p < length (payload bs) → getD (payload bs) p 0 ≡ b
       → Sent side i p b (bs ∷ ss)
-  unfolding sentBy
+  unfolding sentBy flatMap
   sent-now p of whole h e =
       record {
         front = [];
@@ -56,7 +55,7 @@ module _ (side : Side) (i b : ℕ) (bs : List ℕ) (ss : List (List ℕ)) where
       }
 
   pub sent-other : (p : ℕ) → isOf side i bs ≡ false → Sent side i p b ss → Sent side i p b (bs ∷ ss)
-  unfolding sentBy
+  unfolding sentBy flatMap
   sent-other p of k =
       record {
         front = bs ∷ k .front;
@@ -71,7 +70,7 @@ module _ (side : Side) (i b : ℕ) (bs : List ℕ) (ss : List (List ℕ)) where
       }
 
   pub sent-later : (p : ℕ) → isOf side i bs ≡ true → length (payload bs) ≤ p → Sent side i (p - length (payload bs)) b ss → Sent side i p b (bs ∷ ss)
-  unfolding sentBy
+  unfolding sentBy flatMap
   sent-later p of h k =
       let n = length (payload bs) in
       let q = length (sentBy side i (k .front)) in

@@ -2,7 +2,7 @@
 -- Assumes nothing.
 use mathlib.Core.Path.{_≡_, refl, sym, ap, _∙_, subst}
 use mathlib.Core.List.{List, [], _∷_, _++_}
-use Prim.Native.Nat.{ℕ, zero, suc, _+_, _-_, _<_}
+use Prim.Native.Nat.{ℕ, zero, suc, _+_, _<_}
 use native.Mathlib.Omega.{arith}
 use native.Mathlib.Nat.{add-zero, add-suc, suc-add}
 use borrow.Author.Tests.{eq-eqb, ne-eqb}
@@ -17,9 +17,9 @@ use Rattle.promises.specs.Trace.{Out, event, run, trace}
 use Rattle.promises.specs.Calls.{Call, Answer, told, World, step, Real, AllReal, Opened, first}
 use Rattle.promises.specs.Reached.{Reached}
 use Rattle.promises.specs.History.{Past, bytesIn, Talks, Closes, Tells, Gives, History, Reports, StatusTells}
-use Rattle.promises.proofs.HistoryCalls.{tells}
 use Rattle.promises.proofs.Reached.{in-range-for-ever}
-use Rattle.promises.proofs.HistoryRuns.{good, along}
+use Rattle.promises.proofs.HistoryCalls.{good, tells}
+use Rattle.promises.proofs.HistoryRuns.{along}
 use Rattle.promises.proofs.HistoryTalks.{talks-first, talks-next}
 use Rattle.promises.proofs.HistoryReceives.{Held, held-first, held-after, receives}
 use Rattle.promises.proofs.HistoryCloses.{closes-first, closes-after}
@@ -37,10 +37,10 @@ ties-next : (s : Settings) (past : Past) (w : World) (c : Call) → Real c → R
     → Ties s (past ++ (event step w c ∷ [])) (step w c .world)
 ties-next s past w c real k k′ t =
     record {
-      held = held-after s past w c real k k′ (t .held);
+      held = held-after s past w c k (t .held);
       waits = waits-after s past w c real k (t .waits);
-      talks = talks-next s past w c real k k′ (t .talks);
-      closes = closes-after s past w c k k′ (t .held) (t .closes);
+      talks = talks-next s past w c k (t .talks);
+      closes = closes-after s past w c k (t .held) (t .closes);
     }
 
 -- ---- status

@@ -3,36 +3,33 @@
 -- Assumes nothing.
 use mathlib.Core.Path.{_≡_, refl, sym, ap, _∙_}
 use mathlib.Core.Bool.{true, false, true≢false, cond}
-use mathlib.Core.List.{List, [], _∷_, _++_, append-nil, append-assoc, flatMap}
-use mathlib.Core.Logic.{_≢_}
+use mathlib.Core.List.{List, [], _∷_, _++_, append-nil, append-assoc}
 use Prim.Native.Nat.{ℕ, suc, _+_, _-_, _≤_, _<_}
 use native.Mathlib.Omega.{arith}
 use borrow.Author.Tests.{eq-eqb, ne-eqb, eqb-true, eqb-false, leb-true, leb-false}
 use lib.Dec.{eqb, leb}
 use lib.ListN.{length, getD, take, length-set, length-append}
-use lib.Seq.{getD-set-same, getD-set-other}
 use Rattle.base.proofs.Conds.{by-test, cond-cases}
 use Rattle.ring.specs.Ring.{baseOf, together, stream}
-use Rattle.ring.proofs.Stores.{stream-behind}
-use Rattle.ring.proofs.Areas.{area-in-store, stream-stays}
 use Rattle.wire.specs.declared.segment.Header.{Header}
 use Rattle.wire.specs.declared.instances.Side.{Side}
 use Rattle.wire.specs.declared.instances.Route.{Route}
 use Rattle.wire.specs.declared.instances.Route.the-variants.{Unknown, Wrong, To}
 use Rattle.wire.specs.Segments.{headerLength, empty, added, decoded, Carried, Divided, in-header, in-payload}
 use Rattle.wire.specs.Instances.{instances, routeOf}
+use Rattle.wire.proofs.SegmentLaws.{part, add-part, part-whole}
 use Rattle.connection.specs.declared.Receiving.{Receiving}
 use Rattle.connection.specs.Closings.{isOpen}
 use Rattle.feeding.specs.declared.Admission.{Admission}
-use Rattle.feeding.specs.Feeding.{State, admitted, admission, settled, headed, kept, step, fed, used}
+use Rattle.feeding.specs.Feeding.{Reception, admitted, admission, settled, headed, kept, step, fed, used}
 use Rattle.feeding.proofs.Bytes.{step-headed, step-kept, fed-closed}
 use Rattle.feeding.proofs.Keeping.{Kept, kept-fed}
 use Rattle.promises.specs.History.{payloadFor, receivedIn}
-use Rattle.promises.proofs.HistoryLayout.{part, add-part, part-whole, divided-on, divided-whole, none-for, for-append, received-head}
-use Rattle.promises.proofs.HistoryLayout.{received-in, received-whole}
+use Rattle.promises.proofs.Streams.{queue-laid}
+use Rattle.promises.proofs.HistoryLayout.{divided-on, divided-whole, none-for, for-append, received-head, received-in, received-whole}
 
 -- the bytes held for instance i
-abbrev pub heldIn : List ℕ → State → ℕ → List ℕ
+abbrev pub heldIn : List ℕ → Reception → ℕ → List ℕ
 heldIn caps s i =
     stream (s .store) (baseOf caps i) (getD caps i 0) (getD (s .receiving .starts) i 0) (getD (s .receiving .held) i 0)
 
@@ -42,7 +39,7 @@ pub data Reading (side : Side) (r : Receiving) (left : List ℕ) : Type 0 where
   in-pay : (h p : List ℕ) → left ≡ h ++ p → length h ≡ headerLength → 0 < r .rest → length p + r .rest ≡ decoded h .len → r .header ≡ empty
       → routeOf side (decoded h .protocol) (decoded h .mode) ≡ To (r .instance) → Reading side r left
 
-pub record Tied (side : Side) (caps : List ℕ) (handed : ℕ → List ℕ) (bs : List ℕ) (s : State) : Type 0 where
+pub record Tied (side : Side) (caps : List ℕ) (handed : ℕ → List ℕ) (bs : List ℕ) (s : Reception) : Type 0 where
   pub carried : List Carried
   pub left : List ℕ
   pub divided : Divided bs carried left
@@ -55,9 +52,6 @@ pub record Tied (side : Side) (caps : List ℕ) (handed : ℕ → List ℕ) (bs 
 module _ (side : Side) (bs : List ℕ) (b : ℕ) (cs : List Carried) (left : List ℕ) (d : Divided bs cs left) where
   abbrev H : List ℕ
   H = left ++ (b ∷ [])
-
-  abbrev flat : ℕ → List ℕ
-  flat i = flatMap (λ (c : Carried). payloadFor side i (c .header) (c .payload)) cs
 
   -- a header that is not whole with it
   head-part : length H < headerLength → Divided (bs ++ (b ∷ [])) cs H
@@ -115,13 +109,13 @@ module _ (side : Side) (bs : List ℕ) (b : ℕ) (cs : List Carried) (h p : List
 module _ (side : Side) (caps : List ℕ) (handed : ℕ → List ℕ) (wide : length caps ≡ instances)
     (some : (i : ℕ) → i < instances → 0 < getD caps i 0) where
   -- a whole header
-  module _ (bs : List ℕ) (b : ℕ) (s : State) (t : Tied side caps handed bs s) (short : length (t .left) < headerLength)
+  module _ (bs : List ℕ) (b : ℕ) (s : Reception) (t : Tied side caps handed bs s) (short : length (t .left) < headerLength)
       (eight : length (t .left ++ (b ∷ [])) ≡ headerLength) where
     abbrev new : List ℕ
     new = t .left ++ (b ∷ [])
 
     -- the division, however long the payload, with what stands behind it
-    tied-with : (s′ : State) → s′ .store ≡ s .store → s′ .receiving .starts ≡ s .receiving .starts → s′ .receiving .held ≡ s .receiving .held
+    tied-with : (s′ : Reception) → s′ .store ≡ s .store → s′ .receiving .starts ≡ s .receiving .starts → s′ .receiving .held ≡ s .receiving .held
         → (decoded new .len ≡ 0 → isOpen (s′ .gate) ≡ true → Reading side (s′ .receiving) [])
         → (0 < decoded new .len → isOpen (s′ .gate) ≡ true → Reading side (s′ .receiving) new)
         → Tied side caps handed (bs ++ (b ∷ [])) s′
@@ -164,7 +158,7 @@ module _ (side : Side) (caps : List ℕ) (handed : ℕ → List ℕ) (wide : len
         (λ q. tied-with _ refl refl refl (λ z y. never y) (λ z y. never y))
 
   -- a byte of a header
-  tied-headed : (bs : List ℕ) (b : ℕ) (s : State) (t : Tied side caps handed bs s) → isOpen (s .gate) ≡ true → s .receiving .rest ≡ 0
+  tied-headed : (bs : List ℕ) (b : ℕ) (s : Reception) (t : Tied side caps handed bs s) → isOpen (s .gate) ≡ true → s .receiving .rest ≡ 0
       → length (t .left) < headerLength → s .receiving .header ≡ part (t .left) → Tied side caps handed (bs ++ (b ∷ [])) (headed side caps s b)
   unfolding headed admission
   tied-headed bs b s t o z short e =
@@ -188,33 +182,22 @@ module _ (side : Side) (caps : List ℕ) (handed : ℕ → List ℕ) (wide : len
       }))
 
   -- what is held with a byte more of the payload under way
-  held-more : (b : ℕ) (s : State) → length (s .receiving .held) ≡ instances → length (s .store) ≡ together caps → s .receiving .instance < instances
+  held-more : (b : ℕ) (s : Reception) → length (s .receiving .held) ≡ instances → length (s .store) ≡ together caps → s .receiving .instance < instances
       → getD (s .receiving .held) (s .receiving .instance) 0 < getD caps (s .receiving .instance) 0
       → (i : ℕ) → i < instances → heldIn caps (kept caps s (b ∷ [])) i ≡ heldIn caps s i ++ cond (eqb (s .receiving .instance) i) (b ∷ []) []
   unfolding kept
   held-more b s many areas inside room i l =
-      let j = s .receiving .instance in
-      let held = s .receiving .held in
-      by-test (eqb j i)
-      (λ q.
-      let e : j ≡ i = eqb-true j i q in
-      rw (q, ← e, getD-set-same held j (getD held j 0 + 1) 0 (omega arith))
-      (stream-behind (s .store) (baseOf caps j) (getD caps j 0) (getD (s .receiving .starts) j 0) (getD held j 0) (b ∷ []) (omega arith)
-      (area-in-store (s .store) caps j areas (omega arith))))
-      (λ q.
-      let n : i ≢ j = λ e. eqb-false j i q (sym e) in
-      rw (q, append-nil, getD-set-other held j i (getD held j 0 + 1) 0 n)
-      (stream-stays (s .store) caps i j (getD (s .receiving .starts) i 0) (getD held i 0) (getD (s .receiving .starts) j 0 + getD held j 0) (b ∷ []) n
-      (some i l) (some j inside)))
+      queue-laid (s .store) caps (s .receiving .starts) (s .receiving .held) (s .receiving .instance) (b ∷ []) areas (λ j h. some j (omega arith))
+      (omega arith) (omega arith) (omega arith) i (omega arith)
 
   -- a byte of a payload
-  module _ (bs : List ℕ) (b : ℕ) (s : State) (t : Tied side caps handed bs s) (areas : length (s .store) ≡ together caps)
+  module _ (bs : List ℕ) (b : ℕ) (s : Reception) (t : Tied side caps handed bs s) (areas : length (s .store) ≡ together caps)
       (inside : s .receiving .instance < instances)
       (room : getD (s .receiving .held) (s .receiving .instance) 0 < getD caps (s .receiving .instance) 0)
       (h p : List ℕ) (e : t .left ≡ h ++ p) (eight : length h ≡ headerLength) (more : 0 < s .receiving .rest)
       (n : length p + s .receiving .rest ≡ decoded h .len) (z : s .receiving .header ≡ empty)
       (to : routeOf side (decoded h .protocol) (decoded h .mode) ≡ To (s .receiving .instance)) where
-    abbrev after : State
+    abbrev after : Reception
     after = kept caps s (b ∷ [])
 
     was : Divided bs (t .carried) (h ++ p)
@@ -257,7 +240,7 @@ module _ (side : Side) (caps : List ℕ) (handed : ℕ → List ℕ) (wide : len
           many = many-after;
         })
 
-  pub tied-read : (bs : List ℕ) (b : ℕ) (s : State) (starts : List ℕ) (n : ℕ) (t : Tied side caps handed bs s) → isOpen (s .gate) ≡ true
+  tied-read : (bs : List ℕ) (b : ℕ) (s : Reception) (starts : List ℕ) (n : ℕ) (t : Tied side caps handed bs s) → isOpen (s .gate) ≡ true
       → Kept caps starts n s → n ≡ together caps → Reading side (s .receiving) (t .left) → Tied side caps handed (bs ++ (b ∷ [])) (step side caps s b)
   tied-read bs b s starts n t o k long (in-head z short e) =
       rw (step-headed side caps s b o z) (tied-headed bs b s t o z short e)
@@ -268,7 +251,7 @@ module _ (side : Side) (caps : List ℕ) (handed : ℕ → List ℕ) (wide : len
       rw (step-kept side caps s b o more) (tied-kept bs b s t (k .long ∙ long) inside (omega arith) h p e eight more m z to)
 
   -- ---- a run: the bytes that are used
-  pub tied-fed : (xs bs : List ℕ) (s : State) (starts : List ℕ) (n : ℕ) → Tied side caps handed bs s → Kept caps starts n s → n ≡ together caps
+  pub tied-fed : (xs bs : List ℕ) (s : Reception) (starts : List ℕ) (n : ℕ) → Tied side caps handed bs s → Kept caps starts n s → n ≡ together caps
       → Tied side caps handed (bs ++ take (used side caps s xs) xs) (fed side caps s xs)
   unfolding fed used
   tied-fed [] bs s starts n t k long = rw append-nil t

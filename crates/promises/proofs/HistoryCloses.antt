@@ -1,33 +1,34 @@
 -- The closing (T11 e): each call keeps that the gate is closed by the first fault answered.
 -- Assumes nothing.
 use mathlib.Core.Path.{_≡_, refl, sym, ap, _∙_, subst}
-use mathlib.Core.Bool.{true, true≢false, cond}
+use mathlib.Core.Bool.{true, true≢false, cond, _&&_}
 use mathlib.Core.List.{List, [], _∷_, _++_, append-assoc, flatMap}
+use mathlib.Core.Option.{Option, none, some, orElse}
 use Prim.Native.Nat.{ℕ, _+_, _-_, _≤_, _<_}
 use native.Mathlib.Omega.{arith}
-use borrow.Author.Tests.{eqb-true, le-leb}
-use lib.Dec.{eqb}
+use borrow.Author.Tests.{le-leb}
+use lib.Dec.{leb}
 use lib.ListN as lists
 use lib.ListN.{length, getD, length-append}
 use lib.Seq.{take-append-add, take-length, drop-at}
-use Rattle.base.proofs.Conds.{by-test}
 use Rattle.ring.specs.Ring.{together}
 use Rattle.wire.specs.declared.segment.Header.{Header}
 use Rattle.wire.specs.declared.instances.Side.{Side}
 use Rattle.wire.specs.declared.instances.Route.{Route}
 use Rattle.wire.specs.Segments.{headerLength, added, decoded, Carried, Divided, in-header, in-payload, whole}
 use Rattle.wire.specs.Instances.{instances, routeOf}
+use Rattle.wire.proofs.SegmentLaws.{part, add-part, part-whole}
 use Rattle.connection.specs.declared.Settings.{Settings}
 use Rattle.connection.specs.declared.Closing.{Closing}
-use Rattle.connection.specs.declared.Closing.the-variants.{Bare, Of}
+use Rattle.connection.specs.declared.Closing.the-variants.{Of}
 use Rattle.connection.specs.declared.Gate.{Gate}
 use Rattle.connection.specs.declared.Gate.the-variants.{Open, Closed}
 use Rattle.connection.specs.Closings as closings
-use Rattle.connection.specs.Closings.{isOpen, closedBy, faultLeaves, gateOk}
+use Rattle.connection.specs.Closings.{closingOf, isOpen, closedBy}
 use Rattle.connection.proofs.RangeLaws.{ranged}
 use Rattle.feeding.specs.Feeding as feeding
-use Rattle.feeding.specs.Feeding.{State, used, left, given}
-use Rattle.feeding.specs.Feeds.{Eighth}
+use Rattle.feeding.specs.Feeding.{Reception, used, left, given}
+use Rattle.feeding.specs.Numbers.{Eighth}
 use Rattle.feeding.proofs.Keeping.{Kept, kept-given}
 use Rattle.feeding.proofs.Faults.{Cause, unknown, wrong, overflow, cause, Refuses, fault-found, fault-leaves, used-all}
 use Rattle.taking.specs.Taking as taking
@@ -35,14 +36,14 @@ use Rattle.putting.specs.Putting as putting
 use Rattle.sending.specs.NextSegment as sending
 use Rattle.promises.specs.Trace.{Out, Event, event}
 use Rattle.promises.specs.Calls.{Call, feed, take, put, next, status, Answer, fed, World, step, Opened, first}
-use Rattle.promises.specs.Reached.{Reached, numberOf}
-use Rattle.promises.specs.History.{Past, usedBy, bytesIn, handedFor, lastRoute, instanceOf, faultBy, orElse, firstFault, Closes}
+use Rattle.promises.specs.Reached.{Reached}
+use Rattle.promises.specs.History.{Past, usedBy, bytesIn, handedFor, lastRoute, routed, faultBy, firstFault, Closes}
 use Rattle.promises.proofs.Ways.{Takes, refuses, faults, hands, Puts, queues, Nexts, serves}
-use Rattle.promises.proofs.HistoryCalls.{Good, ends, uses, Feeds, shut, bytes, feeds, takes, puts, makes, afterTake, afterPut, afterNext}
-use Rattle.promises.proofs.HistoryLayout.{part, add-part, part-whole}
+use Rattle.promises.proofs.ReachedFeed.{ends, uses, Feeds, shut, bytes}
+use Rattle.promises.proofs.Reached.{opens-fresh}
+use Rattle.promises.proofs.HistoryCalls.{Good, good, feeds, takes, puts, makes, afterFeed, afterTake, afterPut, afterNext}
 use Rattle.promises.proofs.HistoryBytes.{Reading, in-head, in-pay, Tied, tied-fed}
 use Rattle.promises.proofs.HistoryReceives.{Held}
-use Rattle.promises.proofs.HistoryRuns.{good, opens-fresh}
 
 -- ---- the header that is refused
 
@@ -64,7 +65,7 @@ last-at side front h e =
 module _ (side : Side) (caps : List ℕ) (handed : ℕ → List ℕ) (wide : length caps ≡ instances)
     (some : (i : ℕ) → i < instances → 0 < getD caps i 0) where
   -- a byte that makes a header whole
-  header-last : (bs : List ℕ) (b : ℕ) (m : State) (t : Tied side caps handed bs m) → Reading side (m .receiving) (t .left) → m .receiving .rest ≡ 0
+  header-last : (bs : List ℕ) (b : ℕ) (m : Reception) (t : Tied side caps handed bs m) → Reading side (m .receiving) (t .left) → m .receiving .rest ≡ 0
       → headerLength ≤ added (m .receiving .header) b .count
       → let d = decoded (added (m .receiving .header) b .bytes) in lastRoute side (bs ++ (b ∷ [])) ≡ routeOf side (d .protocol) (d .mode)
   header-last bs b m t (in-head z short e) idle enough =
@@ -78,14 +79,14 @@ module _ (side : Side) (caps : List ℕ) (handed : ℕ → List ℕ) (wide : len
   header-last bs b m t (in-pay h p e eight more n z to) idle enough = absurd (omega arith)
 
   -- it stands at the end of the bytes that were used
-  refused-last : (xs bs : List ℕ) (s : State) (starts : List ℕ) (n : ℕ) (x : Closing) → Tied side caps handed bs s
+  refused-last : (xs bs : List ℕ) (s : Reception) (starts : List ℕ) (n : ℕ) (x : Closing) → Tied side caps handed bs s
       → Kept caps starts n s → n ≡ together caps
       → isOpen (s .gate) ≡ true → feeding.fed side caps s xs .gate ≡ Closed x
       → (held : List ℕ) × (m : ℕ) × Cause caps held m (lastRoute side (bs ++ lists.take (used side caps s xs) xs)) x
   refused-last xs bs s starts n x t k long o e =
       let f : Eighth side caps s xs (Refuses side caps x) = fault-found side caps s xs x o e in
       let front : List ℕ = f .front in
-      let m : State = feeding.fed side caps s front in
+      let m : Reception = feeding.fed side caps s front in
       let all : used side caps s front ≡ length front = used-all side caps s front (f .reached) in
       let t′ : Tied side caps handed (bs ++ front) m =
       rw (all, take-length) at (tied-fed side caps handed wide some front bs s starts n t k long) in
@@ -105,24 +106,22 @@ module _ (side : Side) (caps : List ℕ) (handed : ℕ → List ℕ) (wide : len
 
 -- ---- the first fault
 
-or-open : (a : Gate) → orElse a Open ≡ a
-or-open Open = refl
-or-open (Closed x) = refl
+or-none : (a : Option (ℕ × Option ℕ)) → orElse a none ≡ a
+unfolding orElse
+or-none none = refl
+or-none (some x) = refl
 
-or-when-open : (a b : Gate) → isOpen a ≡ true → orElse a b ≡ b
-or-when-open Open b e = refl
-or-when-open (Closed x) b e = absurd (true≢false (sym e))
-
-or-or : (a b c : Gate) → orElse (orElse a b) c ≡ orElse a (orElse b c)
-or-or Open b c = refl
-or-or (Closed x) b c = refl
+or-or : (a b c : Option (ℕ × Option ℕ)) → orElse (orElse a b) c ≡ orElse a (orElse b c)
+unfolding orElse
+or-or none b c = refl
+or-or (some x) b c = refl
 
 -- a fault more is the first only if there was none
 first-next : (side : Side) (bs : List ℕ) (past : Past) (e : Event Call Answer)
     → firstFault side bs (past ++ (e ∷ []))
     ≡ orElse (firstFault side bs past) (faultBy side (bs ++ (bytesIn past ++ usedBy (e .call) (e .answer))) (e .call) (e .answer))
-unfolding firstFault bytesIn flatMap
-first-next side bs [] e = or-open (faultBy side (bs ++ usedBy (e .call) (e .answer)) (e .call) (e .answer))
+unfolding firstFault bytesIn flatMap orElse
+first-next side bs [] e = or-none (faultBy side (bs ++ usedBy (e .call) (e .answer)) (e .call) (e .answer))
 first-next side bs (d ∷ past) e =
     let now : List ℕ = bs ++ usedBy (d .call) (d .answer) in
     let rest : List ℕ = bytesIn past ++ usedBy (e .call) (e .answer) in
@@ -135,75 +134,79 @@ first-next side bs (d ∷ past) e =
 -- ---- a call
 
 -- the closing that feed leaves, by its number and the last header
-fault-gate : {caps held : List ℕ} {n : ℕ} {r : Route} {x : Closing} → Cause caps held n r x → faultLeaves x ≡ true
-    → Closed x
-    ≡ cond (eqb (closings.numberOf x) 11) (Closed (Bare 11))
-    (cond (eqb (closings.numberOf x) 12) (Closed (Of 12 0)) (cond (eqb (closings.numberOf x) 13) (Closed (Of 13 (instanceOf r))) Open))
-fault-gate unknown ok = refl
-fault-gate (wrong i) ok = let z : i ≡ 0 = by-test (eqb i 0) (λ t. eqb-true i 0 t) (λ t. absurd (true≢false (sym (rw t at ok)))) in rw z
-fault-gate (overflow i h) ok = refl
+cause-tells : {caps held : List ℕ} {n : ℕ} {r : Route} {x : Closing} → Cause caps held n r x
+    → closingOf (Closed x) ≡ cond (leb 11 (closings.numberOf x) && leb (closings.numberOf x) 13) (some (closings.numberOf x, routed r)) none
+cause-tells unknown = refl
+cause-tells (wrong i) = refl
+cause-tells (overflow i h) = refl
 
-closed-or : (g : Gate) (x : Closing) → closedBy g x ≡ orElse g (Closed x)
+-- a closing is kept
+closed-or : (g : Gate) (x : Closing) → closingOf (closedBy g x) ≡ orElse (closingOf g) (closingOf (Closed x))
+unfolding orElse
 closed-or Open x = refl
 closed-or (Closed y) x = refl
+
+open-or : (g : Gate) (b : Option (ℕ × Option ℕ)) → isOpen g ≡ true → orElse (closingOf g) b ≡ b
+unfolding orElse
+open-or Open b e = refl
+open-or (Closed x) b e = absurd (true≢false (sym e))
 
 module _ (w : World) (g : Good w) (past : Past) (t : Held (w .connection .settings) past w) where
   abbrev side : Side
   side = w .connection .settings .side
 
-  -- the gate after a call
+  -- the closing after a call
   abbrev Gated : Call → Out World Answer → Type 0
   Gated a o =
-      o .world .connection .gate
-      ≡ orElse (w .connection .gate) (faultBy side (bytesIn past ++ usedBy a (o .answer)) a (o .answer))
+      closingOf (o .world .connection .gate)
+      ≡ orElse (closingOf (w .connection .gate)) (faultBy side (bytesIn past ++ usedBy a (o .answer)) a (o .answer))
 
-  gated-feed : (xs : List ℕ) {o : Out World Answer} → Feeds w xs o → gateOk (o .world .connection .gate) ≡ true → Gated (feed xs) o
-  gated-feed xs (shut y) ok = sym (or-open (w .connection .gate))
-  gated-feed xs (bytes y) ok = of (ends w xs .gate) refl ∙ sym (or-when-open (w .connection .gate) _ y)
+  gated-feed : (xs : List ℕ) {x : feeding.Told} → Feeds (w .connection) (w .receive) xs x → Gated (feed xs) (afterFeed w x)
+  gated-feed xs (shut y) = sym (or-none (closingOf (w .connection .gate)))
+  gated-feed xs (bytes y) = of (ends (w .connection) (w .receive) xs .gate) refl ∙ sym (open-or (w .connection .gate) _ y)
     where
-      of : (q : Gate) → ends w xs .gate ≡ q → q ≡ faultBy side (bytesIn past ++ lists.take (uses w xs) xs) (feed xs) (fed (left q) (uses w xs))
+      of : (q : Gate) → ends (w .connection) (w .receive) xs .gate ≡ q
+          → let n = uses (w .connection) (w .receive) xs in closingOf q ≡ faultBy side (bytesIn past ++ lists.take n xs) (feed xs) (fed (left q) n)
       of Open e = refl
       of (Closed x) e =
-          let k =
-          refused-last side (w .connection .settings .receive) (λ i. handedFor i past) (g .shaped .receive)
-          (λ i l. let q = ranged (w .connection) (g .in-range) .set .receive i l in omega arith) xs (bytesIn past)
+          cause-tells
+          (refused-last side (w .connection .settings .receive) (λ i. handedFor i past) (g .shaped .receive)
+          (λ i l. let q = ranged (w .connection) (g .ranged) .set .receive i l in omega arith) xs (bytesIn past)
           (given (w .connection) (w .receive)) (w .connection .receiving .starts) (length (w .receive)) x (t .tied)
-          (kept-given (w .connection) (w .receive) (g .in-range)) (g .receive-long) y e in
-          fault-gate (k .2) (rw e at ok)
+          (kept-given (w .connection) (w .receive) (g .ranged)) (g .receive) y e .2)
 
   gated-take : (j : ℕ) (buf : List ℕ) {x : taking.Told} → Takes (w .connection) (w .receive) j buf x → Gated (take j buf) (afterTake w x)
-  gated-take j buf (refuses n z y f) = rw f (sym (or-open (w .connection .gate)))
+  gated-take j buf (refuses n z y f) = rw f (sym (or-none (closingOf (w .connection .gate))))
   gated-take j buf (faults n low high h) = rw (le-leb 14 n low, le-leb n 17 high) (closed-or (w .connection .gate) (Of n j))
-  gated-take j buf (hands n m to h e l b r q) = sym (or-open (w .connection .gate))
+  gated-take j buf (hands n m to h e l b r q) = sym (or-none (closingOf (w .connection .gate)))
 
   gated-put : (j : ℕ) (xs : List ℕ) {x : putting.Told} → Puts (w .connection) (w .send) j xs x → Gated (put j xs) (afterPut w x)
-  gated-put j xs (refuses n z y) = sym (or-open (w .connection .gate))
-  gated-put j xs (queues m to h y free u r q short fit) = sym (or-open (w .connection .gate))
+  gated-put j xs (refuses n z y) = sym (or-none (closingOf (w .connection .gate)))
+  gated-put j xs (queues m to h y free u r q short fit) = sym (or-none (closingOf (w .connection .gate)))
 
   gated-next : (time : ℕ) (buf : List ℕ) {x : sending.Told} → Nexts (w .connection) (w .send) time buf x → Gated (next time buf) (afterNext w x)
-  gated-next time buf (refuses n z y) = sym (or-open (w .connection .gate))
-  gated-next time buf (serves i who l) = sym (or-open (w .connection .gate))
+  gated-next time buf (refuses n z y) = sym (or-none (closingOf (w .connection .gate)))
+  gated-next time buf (serves i who l) = sym (or-none (closingOf (w .connection .gate)))
 
-  gated : (a : Call) → gateOk (step w a .world .connection .gate) ≡ true → Gated a (step w a)
+  gated : (a : Call) → Gated a (step w a)
   unfolding step
-  gated (feed xs) ok = gated-feed xs (feeds w g xs) ok
-  gated (take j buf) ok = gated-take j buf (takes w g j buf)
-  gated (put j xs) ok = gated-put j xs (puts w g j xs)
-  gated (next time buf) ok = gated-next time buf (makes w g time buf)
-  gated status ok = sym (or-open (w .connection .gate))
+  gated (feed xs) = gated-feed xs (feeds w g xs)
+  gated (take j buf) = gated-take j buf (takes w g j buf)
+  gated (put j xs) = gated-put j xs (puts w g j xs)
+  gated (next time buf) = gated-next time buf (makes w g time buf)
+  gated status = sym (or-none (closingOf (w .connection .gate)))
 
-  closes-call : (a : Call) → gateOk (step w a .world .connection .gate) ≡ true → Closes (w .connection .settings) past w
+  closes-call : (a : Call) → Closes (w .connection .settings) past w
       → Closes (w .connection .settings) (past ++ (event step w a ∷ [])) (step w a .world)
-  closes-call a ok e =
-      let new : Gate = faultBy side (bytesIn past ++ usedBy a (step w a .answer)) a (step w a .answer) in
-      gated a ok ∙ ap (λ (q : Gate). orElse q new) e ∙ sym (first-next side [] past (event step w a))
+  closes-call a e =
+      let new : Option (ℕ × Option ℕ) = faultBy side (bytesIn past ++ usedBy a (step w a .answer)) a (step w a .answer) in
+      gated a ∙ ap (λ (q : Option (ℕ × Option ℕ)). orElse q new) e ∙ sym (first-next side [] past (event step w a))
 
-pub closes-after : (s : Settings) (past : Past) (w : World) (a : Call) → Reached s w → Reached s (step w a .world) → Held s past w → Closes s past w
+pub closes-after : (s : Settings) (past : Past) (w : World) (a : Call) → Reached s w → Held s past w → Closes s past w
     → Closes s (past ++ (event step w a ∷ [])) (step w a .world)
-closes-after s past w a k k′ t e =
-    subst (λ (u : Settings). Closes u (past ++ (event step w a ∷ [])) (step w a .world)) (k .settings)
-    (closes-call w (good k) past (subst (λ (u : Settings). Held u past w) (sym (k .settings)) t) a
-    (ranged (step w a .world .connection) (k′ .ranged) .closing) (subst (λ (u : Settings). Closes u past w) (sym (k .settings)) e))
+closes-after s past w a k =
+    subst (λ (u : Settings). Held u past w → Closes u past w → Closes u (past ++ (event step w a ∷ [])) (step w a .world)) (k .settings)
+    (λ t. closes-call w (good k) past t a)
 
 pub closes-first : {s : Settings} {receive send : List ℕ} → Opened s receive send → Closes s [] (first s receive send)
 unfolding firstFault

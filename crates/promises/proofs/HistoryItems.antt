@@ -1,28 +1,24 @@
 -- What is handed out (T11 a): one item, the first that was held; and bytes begin with so many items in one way.
 -- Assumes nothing.
 use mathlib.Core.Path.{_≡_, refl, sym, ap, _∙_}
-use mathlib.Core.Bool.{true, true≢false}
 use mathlib.Core.List.{List, [], _∷_, _++_, append-assoc, flatten}
-use Prim.Native.Nat.{ℕ, _+_}
+use Prim.Native.Nat.{ℕ}
 use native.Mathlib.Omega.{arith}
-use borrow.Author.Tests.{eqb-true}
 use lib.ListN as lists
 use lib.ListN.{length, getD, length-append}
-use lib.Seq.{sets, length-sets, take-at, take-length, drop-at}
-use Rattle.base.proofs.Conds.{by-test}
+use lib.Seq.{sets, length-sets, take-at, drop-at}
 use Rattle.ring.specs.Ring.{baseOf}
 use Rattle.ring.proofs.Stores.{stream-length, stream-take}
-use Rattle.item.specs.declared.Verdict.{Verdict}
-use Rattle.item.specs.declared.Verdict.the-variants.{Whole, Bad, Incomplete}
+use Rattle.item.specs.declared.Verdict.the-variants.{Whole}
 use Rattle.item.specs.Grammar.{Item, nesting}
 use Rattle.item.specs.Verdict.{verdict}
 use Rattle.item.proofs.Theorem.{exactly}
 use Rattle.rows.specs.declared.Protocol.{Protocol}
 use Rattle.rows.specs.Spoken.{speaks}
 use Rattle.messages.specs.declared.Message.{Message}
-use Rattle.messages.specs.declared.Answer.{Answer}
-use Rattle.messages.specs.declared.Reading.the-variants.{NotArray}
-use Rattle.messages.specs.Reading.{messageOf, read, failed, wholly, numberOf}
+use Rattle.messages.specs.Reading.{messageOf, read}
+use Rattle.messages.proofs.Theorem.{reads-forms, message-is-item}
+use Rattle.connection.specs.Parts.{firstHeld}
 use Rattle.taking.specs.Taking as taking
 use Rattle.promises.specs.Calls as calls
 use Rattle.promises.specs.Calls.{World, step, taken}
@@ -33,20 +29,9 @@ use Rattle.promises.proofs.HistoryLaws.{front}
 
 -- ---- one item
 
-wholly-whole : (v : Verdict) (n : ℕ) → wholly v n ≡ true → v ≡ Whole n
-wholly-whole (Whole q) n e = ap Whole (eqb-true q n e)
-wholly-whole (Bad q) n e = absurd (true≢false (sym e))
-wholly-whole Incomplete n e = absurd (true≢false (sym e))
-
 -- what reads as a message is one item
 pub message-item : (p : Protocol) (bs : List ℕ) (m : Message) → messageOf p bs ≡ read m → Item nesting bs
-unfolding messageOf
-message-item p bs m e =
-    by-test (wholly (verdict bs) (length bs))
-    (λ t.
-    let q = exactly nesting bs (Whole (length bs)) .0 (wholly-whole (verdict bs) (length bs) t) in
-    rw take-length at (q .1))
-    (λ t. absurd (let q : failed NotArray ≡ read m = rw t at e in omega (arith, ap (λ (a : Answer). numberOf (a .reading)) q)))
+message-item p bs m e = let (kind, xs, k, q) = reads-forms p bs m .0 e in message-is-item p bs kind xs k
 
 -- ---- handing out
 
@@ -57,7 +42,7 @@ hands-of w i len m buf after (faults n low high h) e = absurd (let z : n ≡ 0 =
 hands-of w i len m buf after (hands n k to h z l b r q) e =
     let c = w .connection in
     let caps = c .settings .receive in
-    let xs : List ℕ = taking.bytesOf c (w .receive) i n in
+    let xs : List ℕ = firstHeld c (w .receive) i n in
     let long : length xs ≡ n = stream-length _ _ _ _ n in
     let el : n ≡ len = cc in
     let em : k ≡ m = cc in

@@ -1,4 +1,4 @@
--- Laws of histories: what one event more adds.
+-- What one event more adds to what a history tells: all is gathered event by event, so what the event tells stands behind the rest.
 -- Assumes nothing.
 use mathlib.Core.Path.{_≡_, refl, ap}
 use mathlib.Core.List.{List, [], _∷_, _++_, append-nil, append-assoc, flatMap}
@@ -13,7 +13,7 @@ use lib.Seq.{sets, sets-eq, take-at}
 use Rattle.wire.specs.declared.instances.Side.{Side}
 use Rattle.promises.specs.Trace.{Event}
 use Rattle.promises.specs.Calls.{Call, Answer}
-use Rattle.promises.specs.Fairness.{segmentOf, segments, sentBy}
+use Rattle.promises.specs.Fairness.{segmentOf, segments, payload, isOf, sentBy}
 use Rattle.promises.specs.History.{Past, usedBy, bytesIn, Act, actsBy, acts, putBy, putFor, handedBy, handedFor, sentFor}
 
 pub flat-append : {A B : Type 0} (f : A → List B) (xs ys : List A) → flatMap f (xs ++ ys) ≡ flatMap f xs ++ flatMap f ys
@@ -63,13 +63,11 @@ front buf xs n e h = rw (sets-eq xs buf 0 (omega arith)) (take-at xs (drop (0 + 
 
 pub segments-next : (past : Past) (e : Event Call Answer) → segments (past ++ (e ∷ [])) ≡ segments past ++ segmentOf (e .answer)
 unfolding segments
-segments-next [] e = append-nil (segmentOf (e .answer))
-segments-next (d ∷ past) e = rw (segments-next past e, append-assoc)
+segments-next past e = flat-next (λ (d : Event Call Answer). segmentOf (d .answer)) past e
 
 pub sent-append : (side : Side) (i : ℕ) (ss ts : List (List ℕ)) → sentBy side i (ss ++ ts) ≡ sentBy side i ss ++ sentBy side i ts
 unfolding sentBy
-sent-append side i [] ts = refl
-sent-append side i (bs ∷ ss) ts = rw (sent-append side i ss ts, append-assoc)
+sent-append side i ss ts = flat-append (λ (bs : List ℕ). cond (isOf side i bs) (payload bs) []) ss ts
 
 pub sent-next : (side : Side) (i : ℕ) (past : Past) (e : Event Call Answer)
     → sentFor side i (past ++ (e ∷ [])) ≡ sentFor side i past ++ sentBy side i (segmentOf (e .answer))

@@ -1,43 +1,18 @@
--- Bytes by the layout, one more at a time: what the header record has of them, and what of their payload is for an instance.
+-- Bytes by the layout, one more at a time: how they are divided, and what of their payload is for an instance.
 -- Assumes nothing.
-use mathlib.Core.Path.{_≡_, refl, ap, _∙_}
+use mathlib.Core.Path.{_≡_, refl, _∙_}
 use mathlib.Core.Bool.{Bool, true, false, cond}
 use mathlib.Core.List.{List, [], _∷_, _++_, append-nil, append-assoc, flatMap}
-use Prim.Native.Nat.{ℕ, suc, _+_, _-_, _≤_, _<_}
+use Prim.Native.Nat.{ℕ, _≤_}
 use native.Mathlib.Omega.{arith}
-use borrow.Author.Tests.{lt-ltb}
-use lib.ListN.{length, set, replicate, length-append, drop-of-length-le}
-use lib.Seq.{set-at, take-at, drop-at}
-use Rattle.wire.specs.declared.segment.Header.{Header}
+use lib.ListN.{length, drop-of-length-le}
+use lib.Seq.{take-at, drop-at}
 use Rattle.wire.specs.declared.segment.Segment.{Segment}
 use Rattle.wire.specs.declared.instances.Side.{Side}
-use Rattle.wire.specs.Segments.{headerLength, added, decoded, Carried, Divided, in-header, in-payload, whole}
+use Rattle.wire.specs.Segments.{headerLength, decoded, Carried, Divided, in-header, in-payload, whole}
 use Rattle.wire.specs.Instances.{routeOf}
 use Rattle.promises.specs.History.{isFor, payloadFor, receivedIn}
 use Rattle.promises.proofs.HistoryLaws.{flat-next}
-
--- ---- the header record
-
--- the header record with the bytes hs, of which there are eight at the most
-abbrev pub part : List ℕ → Header
-part hs = record { bytes = hs ++ replicate (headerLength - length hs) 0; count = length hs }
-
-pub add-part : (hs : List ℕ) (b : ℕ) → length hs < headerLength → added (part hs) b ≡ part (hs ++ (b ∷ []))
-unfolding added
-add-part hs b h =
-    let n = length hs in
-    let e : headerLength - n ≡ suc (headerLength - suc n) = omega arith in
-    let l : length (hs ++ (b ∷ [])) ≡ suc n = length-append hs (b ∷ []) ∙ omega arith in
-    let s : set (hs ++ replicate (headerLength - n) 0) n b ≡ hs ++ (b ∷ replicate (headerLength - suc n) 0) =
-    ap (λ (k : ℕ). set (hs ++ replicate k 0) n b) e ∙ set-at hs 0 (replicate (headerLength - suc n) 0) b n refl in
-    rw (lt-ltb n headerLength h, s, l, append-assoc)
-    (ap (λ (k : ℕ). record { bytes = hs ++ (b ∷ replicate (headerLength - suc n) 0); count = k }) (omega arith))
-
--- a whole header has its bytes and no others
-pub part-whole : (hs : List ℕ) → length hs ≡ headerLength → part hs .bytes ≡ hs
-part-whole hs e =
-    let z : headerLength - length hs ≡ 0 = omega arith in
-    ap (λ (k : ℕ). hs ++ replicate k 0) z ∙ append-nil hs
 
 -- ---- the division
 

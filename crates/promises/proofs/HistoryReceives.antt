@@ -3,16 +3,13 @@
 use mathlib.Core.Path.{_≡_, refl, sym, ap, _∙_, subst}
 use mathlib.Core.Bool.{true, true≢false, cond, _&&_}
 use mathlib.Core.List.{List, [], _∷_, _++_, append-nil, append-assoc, flatMap}
-use mathlib.Core.Logic.{_≢_}
-use Prim.Native.Nat.{ℕ, _+_, _-_, _%_, _<_}
+use Prim.Native.Nat.{ℕ, _%_, _<_}
 use native.Mathlib.Omega.{arith}
-use native.Mathlib.Nat.{mod-add-mod, zero-mod}
-use borrow.Author.Tests.{eqb-true, eqb-false}
+use native.Mathlib.Nat.{zero-mod}
 use lib.Dec.{eqb}
 use lib.ListN as lists
-use lib.ListN.{length, getD, set, length-set, length-append, getD-replicate}
-use lib.Seq.{sets, getD-set-same, getD-set-other}
-use Rattle.base.proofs.Conds.{by-test}
+use lib.ListN.{length, getD, length-set, getD-replicate}
+use lib.Seq.{sets}
 use Rattle.ring.specs.Ring.{baseOf, stream}
 use Rattle.ring.proofs.Stores.{stream-length}
 use Rattle.wire.specs.declared.instances.Side.{Side}
@@ -28,22 +25,25 @@ use Rattle.connection.specs.declared.Connection.{Connection}
 use Rattle.connection.specs.Closings.{isOpen, closedBy}
 use Rattle.connection.specs.Statuses.{statusOf}
 use Rattle.connection.proofs.RangeLaws.{ranged}
-use Rattle.feeding.specs.Feeding.{State, given, fed, used}
+use Rattle.feeding.specs.Feeding as feeding
+use Rattle.feeding.specs.Feeding.{Reception, given, fed, used}
 use Rattle.feeding.proofs.Keeping.{kept-given, kept-fed}
+use Rattle.connection.specs.Parts.{firstHeld}
 use Rattle.taking.specs.Taking as taking
 use Rattle.putting.specs.Putting as putting
 use Rattle.sending.specs.NextSegment as sending
 use Rattle.promises.specs.Trace.{Out, Event, event}
-use Rattle.promises.specs.Calls.{Call, feed, take, put, next, status, Answer, told, World, step, Real, Opened, first}
+use Rattle.promises.specs.Calls.{Call, feed, take, put, next, status, Answer, told, World, step, Opened, first}
 use Rattle.promises.specs.Reached.{Reached}
 use Rattle.promises.specs.History.{Past, usedBy, bytesIn, gave, got, actsBy, acts, handedBy, handedFor, receivedIn, Receives}
 use Rattle.promises.proofs.Ways.{Takes, refuses, faults, hands, Puts, queues, Nexts, serves}
-use Rattle.promises.proofs.HistoryCalls.{Good, Feeds, shut, bytes, feeds, takes, puts, makes, afterTake, afterPut, afterNext}
+use Rattle.promises.proofs.ReachedFeed.{Feeds, shut, bytes}
+use Rattle.promises.proofs.Reached.{opens-fresh}
+use Rattle.promises.proofs.HistoryCalls.{Good, good, feeds, takes, puts, makes, afterFeed, afterTake, afterPut, afterNext}
 use Rattle.promises.proofs.HistoryLaws.{no-act-adds, act-adds, act-unseen, front, bytes-next, handed-next}
-use Rattle.promises.proofs.HistoryStreams.{stream-freed, stream-count, stream-place}
+use Rattle.promises.proofs.Streams.{stream-count, stream-place, queue-freed, starts-freed}
 use Rattle.promises.proofs.HistoryLayout.{none-for}
 use Rattle.promises.proofs.HistoryBytes.{heldIn, Reading, in-head, in-pay, Tied, tied-fed}
-use Rattle.promises.proofs.HistoryRuns.{good, opens-fresh}
 
 -- the tie of the bytes, and where each instance's first held byte is
 pub record Held (s : Settings) (past : Past) (w : World) : Type 0 where
@@ -53,7 +53,7 @@ pub record Held (s : Settings) (past : Past) (w : World) : Type 0 where
 -- ---- ties that stay
 
 -- with what is then handed out and held, and a record that stands as it stood
-tied-to : {side : Side} {caps : List ℕ} {handed handed′ : ℕ → List ℕ} {bs bs′ : List ℕ} {s : State} (s′ : State)
+tied-to : {side : Side} {caps : List ℕ} {handed handed′ : ℕ → List ℕ} {bs bs′ : List ℕ} {s : Reception} (s′ : Reception)
     → (t : Tied side caps handed bs s) → bs′ ≡ bs → ((i : ℕ) → i < instances → handed i ++ heldIn caps s i ≡ handed′ i ++ heldIn caps s′ i)
     → (isOpen (s′ .gate) ≡ true → Reading side (s′ .receiving) (t .left)) → length (s′ .receiving .held) ≡ instances → Tied side caps handed′ bs′ s′
 tied-to s′ t e f g n =
@@ -110,21 +110,21 @@ module _ (w : World) (g : Good w) (past : Past) (t : Held (w .connection .settin
   wide = g .shaped .receive
 
   some : (i : ℕ) → i < instances → 0 < getD (s .receive) i 0
-  some i l = let q = ranged c (g .in-range) .set .receive i l in omega arith
+  some i l = let q = ranged c (g .ranged) .set .receive i l in omega arith
 
-  held-feed : (xs : List ℕ) {o : Out World Answer} → Feeds w xs o → After (feed xs) o
+  held-feed : (xs : List ℕ) {x : feeding.Told} → Feeds c (w .receive) xs x → After (feed xs) (afterFeed w x)
   unfolding flatMap
-  held-feed xs {o} (shut y) = held-same (feed xs) o refl (λ i. refl) refl refl (λ q. q)
-  held-feed xs {o} (bytes y) =
-      let ev : Event Call Answer = record { call = feed xs; answer = o .answer } in
-      let same : (i : ℕ) → handedFor i past ≡ handedFor i (with (feed xs) (o .answer)) =
+  held-feed xs {x} (shut y) = held-same (feed xs) (afterFeed w x) refl (λ i. refl) refl refl (λ q. q)
+  held-feed xs {x} (bytes y) =
+      let ev : Event Call Answer = record { call = feed xs; answer = (afterFeed w x) .answer } in
+      let same : (i : ℕ) → handedFor i past ≡ handedFor i (with (feed xs) ((afterFeed w x) .answer)) =
       λ i. sym (handed-next past ev i ∙ append-nil (handedFor i past)) in
-      let st : State = given c (w .receive) in
+      let st : Reception = given c (w .receive) in
       let n : ℕ = used (s .side) (s .receive) st xs in
       let q : Tied (s .side) (s .receive) (λ i. handedFor i past) (bytesIn past ++ lists.take n xs) (fed (s .side) (s .receive) st xs) =
       tied-fed (s .side) (s .receive) (λ i. handedFor i past) wide some xs (bytesIn past) st (c .receiving .starts) (length (w .receive)) (t .tied)
-      (kept-given c (w .receive) (g .in-range)) (g .receive-long) in
-      let k = kept-fed (s .side) (s .receive) (c .receiving .starts) (length (w .receive)) st xs (kept-given c (w .receive) (g .in-range)) in
+      (kept-given c (w .receive) (g .ranged)) (g .receive) in
+      let k = kept-fed (s .side) (s .receive) (c .receiving .starts) (length (w .receive)) st xs (kept-given c (w .receive) (g .ranged)) in
       record {
         tied = tied-to (fed (s .side) (s .receive) st xs) q (bytes-next past ev) (λ i l. rw (← same i)) (q .reading) (q .many);
         starts = λ i l. rw (k .places, ← same i) (t .starts i l);
@@ -137,41 +137,23 @@ module _ (w : World) (g : Good w) (past : Past) (t : Held (w .connection .settin
       (λ q. absurd (not-open (c .gate) (Of n j) q))
   held-take j buf {x} (hands n m to h e l b r q) =
       let ev : Event Call Answer = record { call = take j buf; answer = (afterTake w x) .answer } in
-      let xs : List ℕ = taking.bytesOf c (w .receive) j n in
+      let xs : List ℕ = firstHeld c (w .receive) j n in
       let long : length xs ≡ n = stream-length _ _ _ _ n in
       let at-front : lists.take n (sets buf 0 xs) ≡ xs = front buf xs n long b in
       let now : (i : ℕ) → handedFor i (with (take j buf) ((afterTake w x) .answer)) ≡ handedFor i past ++ cond (eqb j i) xs [] =
       λ i. handed-next past ev i ∙ ap (λ (r : List ℕ). handedFor i past ++ r) (rw at-front (act-adds handedBy (eqb j i) (got xs))) in
       let held = c .receiving .held in
       let start = c .receiving .starts in
-      let free : ℕ = (getD start j 0 + n) % getD (s .receive) j 0 in
-      let less : ℕ = getD held j 0 - n in
-      let held-long : j < length held = omega (arith, g .shaped .held) in
-      let starts-long : j < length start = omega (arith, g .shaped .receive-starts) in
+      let in-starts : j < length start = omega (arith, g .shaped .receive-starts) in
       record {
         tied =
             tied-to (given ((afterTake w x) .world .connection) (w .receive)) (t .tied) (bytes-next past ev ∙ append-nil (bytesIn past))
             (λ i l′.
-            rw (now i)
-            (by-test (eqb j i)
-            (λ y.
-            let p : j ≡ i = eqb-true j i y in
-            rw (y, ← p, getD-set-same held j less 0 held-long, getD-set-same start j free 0 starts-long, append-assoc)
-            (ap (λ (r : List ℕ). handedFor j past ++ r)
-            (stream-freed (w .receive) (baseOf (s .receive) j) (getD (s .receive) j 0) (getD start j 0) (getD held j 0) n l)))
-            (λ y.
-            let p : i ≢ j = λ x. eqb-false j i y (sym x) in
-            rw (y, append-nil, getD-set-other held j i less 0 p, getD-set-other start j i free 0 p))))
+            rw (now i, append-assoc)
+            (ap (λ (r : List ℕ). handedFor i past ++ r)
+            (queue-freed (w .receive) (s .receive) start held j n in-starts (omega (arith, g .shaped .held)) l i)))
             (λ y. reading-freed (s .receive) j n (t .tied .reading y)) (rw length-set (g .shaped .held));
-        starts = λ i l′.
-            rw (now i)
-            (by-test (eqb j i)
-            (λ y.
-            let p : j ≡ i = eqb-true j i y in
-            rw (y, ← p, getD-set-same start j free 0 starts-long, length-append, long, t .starts j h, mod-add-mod))
-            (λ y.
-            let p : i ≢ j = λ x. eqb-false j i y (sym x) in
-            rw (y, append-nil, getD-set-other start j i free 0 p) (t .starts i l′)));
+        starts = λ i l′. rw (now i) (starts-freed (w .receive) (s .receive) start held j n in-starts (handedFor i past) xs long i (t .starts i l′));
       }
 
   held-put : (j : ℕ) (xs : List ℕ) {x : putting.Told} → Puts (w .connection) (w .send) j xs x → After (put j xs) (afterPut w x)
@@ -193,11 +175,11 @@ module _ (w : World) (g : Good w) (past : Past) (t : Held (w .connection .settin
   held-call (next time buf) = held-next time buf (makes w g time buf)
   held-call status = held-same status (record { world = w; answer = told (statusOf c) }) refl (λ i. refl) refl refl (λ q. q)
 
-pub held-after : (s : Settings) (past : Past) (w : World) (a : Call) → Real a → Reached s w → Reached s (step w a .world) → Held s past w
+pub held-after : (s : Settings) (past : Past) (w : World) (a : Call) → Reached s w → Held s past w
     → Held s (past ++ (event step w a ∷ [])) (step w a .world)
-held-after s past w a real k k′ t =
-    subst (λ (u : Settings). Held u (past ++ (event step w a ∷ [])) (step w a .world)) (k .settings)
-    (held-call w (good k) past (subst (λ (u : Settings). Held u past w) (sym (k .settings)) t) a)
+held-after s past w a k =
+    subst (λ (u : Settings). Held u past w → Held u (past ++ (event step w a ∷ [])) (step w a .world)) (k .settings)
+    (λ t. held-call w (good k) past t a)
 
 pub held-first : {s : Settings} {receive send : List ℕ} → Opened s receive send → Held s [] (first s receive send)
 unfolding bytesIn handedFor acts flatMap receivedIn stream
@@ -241,5 +223,4 @@ module _ (past : Past) (w : World) (t : Held (w .connection .settings) past w) w
       }
 
 pub receives : (s : Settings) (past : Past) (w : World) → Reached s w → Held s past w → Receives s past w
-receives s past w k t =
-    subst (λ (u : Settings). Receives u past w) (k .settings) (receives-of past w (subst (λ (u : Settings). Held u past w) (sym (k .settings)) t))
+receives s past w k = subst (λ (u : Settings). Held u past w → Receives u past w) (k .settings) (receives-of past w)

@@ -3,31 +3,25 @@
 use mathlib.Core.Path.{_≡_, refl, sym, ap, _∙_, subst}
 use mathlib.Core.Bool.{true, cond, _&&_}
 use mathlib.Core.List.{List, [], _∷_, _++_, append-nil, append-assoc, flatMap}
-use mathlib.Core.Logic.{_≢_}
-use Prim.Native.Nat.{ℕ, _+_, _-_, _%_, _^_, _≤_, _<_}
+use Prim.Native.Nat.{ℕ, _%_, _^_, _≤_, _<_}
 use native.Mathlib.Omega.{arith}
-use native.Mathlib.Nat.{mod-add-mod, zero-mod}
+use native.Mathlib.Nat.{zero-mod}
 use borrow.Author.Tests.{ne-eqb, eqb-true, eqb-false}
 use lib.Dec.{eqb}
-use lib.ListN as lists
-use lib.ListN.{length, getD, set, length-append, getD-replicate}
-use lib.Seq.{sets, take-at, drop-at, getD-set-same, getD-set-other}
+use lib.ListN.{length, getD, getD-replicate}
 use Rattle.base.proofs.Conds.{by-test}
 use Rattle.ring.specs.Ring.{baseOf, stream}
-use Rattle.ring.proofs.Stores.{stream-length, stream-take, stream-behind}
-use Rattle.ring.proofs.Areas.{area-in-store, stream-stays}
+use Rattle.ring.proofs.Stores.{stream-length}
 use Rattle.wire.specs.declared.segment.Segment.{Segment}
 use Rattle.wire.specs.declared.instances.Side.{Side}
-use Rattle.wire.specs.Segments.{headerLength, decoded, encoded}
 use Rattle.wire.specs.Instances.{instances, protocolOf, modeOf}
-use Rattle.wire.proofs.SegmentLaws.{round-trip}
 use Rattle.connection.specs.declared.Settings.{Settings}
 use Rattle.connection.specs.declared.Connection.{Connection}
 use Rattle.connection.specs.Statuses.{statusOf}
 use Rattle.connection.proofs.RangeLaws.{ranged}
+use Rattle.feeding.specs.Feeding as feeding
 use Rattle.putting.specs.Putting as putting
 use Rattle.sending.specs.NextSegment as sending
-use Rattle.sending.proofs.SendingLaws.{header-long, header-fits}
 use Rattle.taking.specs.Taking as taking
 use Rattle.promises.specs.Trace.{Out, Event, event}
 use Rattle.promises.specs.Calls.{Call, feed, take, put, next, status, Answer, told, World, step, Real, Opened, first}
@@ -36,29 +30,28 @@ use Rattle.promises.specs.Fairness.{queue, segmentOf, segments, header, 
 use Rattle.promises.specs.History.{Past, gave, got, actsBy, acts, putBy, putFor, sentFor, Sends, Segmented}
 use Rattle.promises.proofs.Ways.{Takes, refuses, faults, hands, Puts, queues, Nexts, serves}
 use Rattle.promises.proofs.FairSent.{of-same, of-other}
-use Rattle.promises.proofs.HistoryCalls.{Good, Feeds, shut, bytes, feeds, takes, puts, makes, afterTake, afterPut, afterNext, chosen-waiting}
-use Rattle.promises.proofs.HistoryLaws.{no-act-adds, act-adds, act-unseen, front, put-next, sent-next}
-use Rattle.promises.proofs.HistoryStreams.{stream-freed, stream-count, stream-place}
-use Rattle.promises.proofs.HistoryRuns.{good, opens-fresh}
+use Rattle.promises.proofs.ReachedFeed.{Feeds, shut, bytes}
+use Rattle.promises.proofs.Reached.{opens-fresh}
+use Rattle.promises.proofs.SegmentMade.{Made, made-of}
+use Rattle.promises.proofs.HistoryCalls.{Good, good, feeds, takes, puts, makes, afterFeed, afterTake, afterPut, afterNext}
+use Rattle.promises.proofs.HistoryLaws.{no-act-adds, act-adds, act-unseen, put-next, sent-next}
+use Rattle.promises.proofs.Streams.{stream-count, stream-place, queue-freed, starts-freed, queue-laid}
 
 -- ---- whose segment it is
 
 -- the payload of a segment of instance j, for i
-payload-is : (side : Side) (j i time n : ℕ) (p : List ℕ) → j < instances → i < instances → time < 2 ^ 32 → n ≤ 65535
-    → sentBy side i ((encoded (sending.headed side time j n) ++ p) ∷ []) ≡ cond (eqb j i) p []
-unfolding sentBy
-payload-is side j i time n p l k t m =
-    let h : Segment = sending.headed side time j n in
-    let bs : List ℕ = encoded h ++ p in
-    let says : header bs ≡ h =
-    ap decoded (take-at (encoded h) p headerLength (header-long h)) ∙ round-trip .read-written h (header-fits side j time n l t m) in
-    let mode : header bs .mode ≡ modeOf side j = ap (λ (x : Segment). x .mode) says in
-    let number : header bs .protocol ≡ protocolOf j = ap (λ (x : Segment). x .protocol) says in
+payload-is : (w : World) (time j : ℕ) (bs : List ℕ) → Made w time j bs → (i : ℕ) → i < instances
+    → sentBy (w .connection .settings .side) i (bs ∷ []) ≡ cond (eqb j i) (sending.payloadOf (w .connection) (w .send) j) []
+unfolding sentBy flatMap
+payload-is w time j bs m i l =
+    let side : Side = w .connection .settings .side in
+    let mode : header bs .mode ≡ modeOf side j = ap (λ (h : Segment). h .mode) (m .reads) in
+    let number : header bs .protocol ≡ protocolOf j = ap (λ (h : Segment). h .protocol) (m .reads) in
     let of : isOf side i bs ≡ eqb j i =
     by-test (eqb j i)
     (λ q. let e : j ≡ i = eqb-true j i q in of-same side i bs (mode ∙ ap (modeOf side) e) (number ∙ ap protocolOf e) ∙ sym q)
-    (λ q. of-other side i j bs k l (λ e. eqb-false j i q (sym e)) mode number ∙ sym q) in
-    rw (of, drop-at (encoded h) p headerLength (header-long h), append-nil)
+    (λ q. of-other side i j bs l (m .within) (λ e. eqb-false j i q (sym e)) mode number ∙ sym q) in
+    rw (of, m .carries, append-nil)
 
 -- ---- what a call puts and sends
 
@@ -85,7 +78,7 @@ module _ (w : World) (g : Good w) (past : Past) (t : Waits (w .connection .setti
   waits-same : (a : Call) (o : Out World Answer) → segmentOf (o .answer) ≡ [] → ((i : ℕ) → flatMap putBy (actsBy i a (o .answer)) ≡ [])
       → o .world .connection .sending ≡ c .sending → o .world .connection .settings ≡ c .settings → o .world .send ≡ w .send
       → After a o
-  unfolding sentBy
+  unfolding sentBy flatMap
   waits-same a o none nothing e k f =
       let ev : Event Call Answer = record { call = a; answer = o .answer } in
       let puts-same : (i : ℕ) → putFor i (with a (o .answer)) ≡ putFor i past = λ i. put-next past ev i ∙ rw (nothing i, append-nil) in
@@ -93,11 +86,11 @@ module _ (w : World) (g : Good w) (past : Past) (t : Waits (w .connection .setti
       λ i. sent-next (s .side) i past ev ∙ rw (none, append-nil) in
       record { put = λ i l. rw (puts-same i, sent-same i, e, k, f) (t .put i l); starts = λ i l. rw (sent-same i, e) (t .starts i l) }
 
-  some : (i : ℕ) → i < instances → 0 < getD (s .send) i 0
-  some i l = let q = ranged c (g .in-range) .set .send i l in omega arith
+  some : (i : ℕ) → i < length (s .send) → 0 < getD (s .send) i 0
+  some i l = let q = ranged c (g .ranged) .set .send i (omega (arith, g .shaped .send)) in omega arith
 
   waits-put : (j : ℕ) (xs : List ℕ) {x : putting.Told} → Puts (w .connection) (w .send) j xs x → After (put j xs) (afterPut w x)
-  unfolding sentBy
+  unfolding sentBy flatMap
   waits-put j xs {x} (refuses n z y) = waits-same (put j xs) (afterPut w x) refl (λ i. no-act-adds putBy (eqb j i) n (gave xs) z) refl refl refl
   waits-put j xs {x} (queues m to h y free u r q short fit) =
       let ev : Event Call Answer = record { call = put j xs; answer = (afterPut w x) .answer } in
@@ -105,25 +98,13 @@ module _ (w : World) (g : Good w) (past : Past) (t : Waits (w .connection .setti
       λ i. put-next past ev i ∙ rw (act-adds putBy (eqb j i) (gave xs)) in
       let sent-same : (i : ℕ) → sentFor (s .side) i (with (put j xs) ((afterPut w x) .answer)) ≡ sentFor (s .side) i past =
       λ i. sent-next (s .side) i past ev ∙ append-nil (sentFor (s .side) i past) in
-      let waiting = c .sending .waiting in
-      let start = c .sending .starts in
       record {
         put = λ i l.
             rw (now i, sent-same i, t .put i l, append-assoc)
             (ap (λ (r : List ℕ). sentFor (s .side) i past ++ r)
-            (by-test (eqb j i)
-            (λ b.
-            let e : j ≡ i = eqb-true j i b in
-            rw (b, ← e, getD-set-same waiting j (getD waiting j 0 + length xs) 0 (omega (arith, g .shaped .waiting)))
             (sym
-            (stream-behind (w .send) (baseOf (s .send) j) (getD (s .send) j 0) (getD start j 0) (getD waiting j 0) xs fit
-            (area-in-store (w .send) (s .send) j (g .send-long) (omega (arith, g .shaped .send))))))
-            (λ b.
-            let n : i ≢ j = λ e. eqb-false j i b (sym e) in
-            rw (b, append-nil, getD-set-other waiting j i (getD waiting j 0 + length xs) 0 n)
-            (sym
-            (stream-stays (w .send) (s .send) i j (getD start i 0) (getD waiting i 0) (getD start j 0 + getD waiting j 0) xs n (some i l)
-            (some j h))))));
+            (queue-laid (w .send) (s .send) (c .sending .starts) (c .sending .waiting) j xs (g .send) some (omega (arith, g .shaped .send))
+            (omega (arith, g .shaped .waiting)) fit i (omega (arith, g .shaped .send)))));
         starts = λ i l. rw (sent-same i) (t .starts i l);
       }
 
@@ -132,59 +113,31 @@ module _ (w : World) (g : Good w) (past : Past) (t : Waits (w .connection .setti
   unfolding flatMap
   waits-next time buf small {x} (refuses n z y) = waits-same (next time buf) (afterNext w x) (rw (ne-eqb n 0 z)) (λ i. refl) refl refl refl
   waits-next time buf small {x} (serves j who l) =
-      let h : j < instances = chosen-waiting w g j who .0 in
       let ev : Event Call Answer = record { call = next time buf; answer = (afterNext w x) .answer } in
       let n : ℕ = sending.much c j in
-      let limit = ranged c (g .in-range) .set .limit in
-      let hd : List ℕ = encoded (sending.headed (s .side) time j n) in
       let xs : List ℕ = sending.payloadOf c (w .send) j in
-      let long : length (hd ++ xs) ≡ headerLength + n =
-      length-append hd xs ∙ rw (header-long (sending.headed (s .side) time j n), stream-length) in
-      let seg : lists.take (headerLength + n) (sets buf 0 (hd ++ xs)) ≡ hd ++ xs = front buf (hd ++ xs) (headerLength + n) long l in
+      let m = made-of g time buf j small who l in
       let later : Past = past ++ (ev ∷ []) in
-      let of-seg : (i : ℕ) → i < instances → sentBy (s .side) i (segmentOf (ev .answer)) ≡ cond (eqb j i) xs [] =
-      λ i k. ap (λ (b : List ℕ). sentBy (s .side) i (b ∷ [])) seg ∙ payload-is (s .side) j i time n xs h k small (omega arith) in
       let sent-now : (i : ℕ) → i < instances → sentFor (s .side) i later ≡ sentFor (s .side) i past ++ cond (eqb j i) xs [] =
-      λ i k. sent-next (s .side) i past ev ∙ ap (λ (r : List ℕ). sentFor (s .side) i past ++ r) (of-seg i k) in
+      λ i k. sent-next (s .side) i past ev ∙ ap (λ (r : List ℕ). sentFor (s .side) i past ++ r) (payload-is w time j _ m i k) in
       let puts-same : (i : ℕ) → putFor i later ≡ putFor i past = λ i. put-next past ev i ∙ append-nil (putFor i past) in
       let waiting = c .sending .waiting in
       let start = c .sending .starts in
-      let caps = s .send in
-      let free : ℕ = (getD start j 0 + n) % getD caps j 0 in
-      let starts-long : j < length start = omega (arith, g .shaped .send-starts) in
+      let in-starts : j < length start = omega (arith, m .within, g .shaped .send-starts) in
       record {
         put = λ i k.
             rw (puts-same i, sent-now i k, t .put i k, append-assoc)
             (ap (λ (r : List ℕ). sentFor (s .side) i past ++ r)
-            (by-test (eqb j i)
-            (λ b.
-            let e : j ≡ i = eqb-true j i b in
-            rw (
-              b,
-              ← e,
-              getD-set-same waiting j (getD waiting j 0 - n) 0 (omega (arith, g .shaped .waiting)),
-              getD-set-same start j free 0 starts-long,
-            )
-            (stream-freed (w .send) (baseOf caps j) (getD caps j 0) (getD start j 0) (getD waiting j 0) n (omega arith)))
-            (λ b.
-            let ne : i ≢ j = λ e. eqb-false j i b (sym e) in
-            rw (b, getD-set-other waiting j i (getD waiting j 0 - n) 0 ne, getD-set-other start j i free 0 ne))));
+            (queue-freed (w .send) (s .send) start waiting j n in-starts (omega (arith, m .within, g .shaped .waiting)) (omega arith) i));
         starts = λ i k.
             rw (sent-now i k)
-            (by-test (eqb j i)
-            (λ b.
-            let e : j ≡ i = eqb-true j i b in
-            let xs-long : length xs ≡ n = stream-length _ _ _ _ n in
-            rw (b, ← e, getD-set-same start j free 0 starts-long, length-append, xs-long, t .starts j h, mod-add-mod))
-            (λ b.
-            let ne : i ≢ j = λ e. eqb-false j i b (sym e) in
-            rw (b, append-nil, getD-set-other start j i free 0 ne) (t .starts i k)));
+            (starts-freed (w .send) (s .send) start waiting j n in-starts (sentFor (s .side) i past) xs (stream-length _ _ _ _ n) i (t .starts i k));
       }
 
-  waits-feed : (xs : List ℕ) {o : Out World Answer} → Feeds w xs o → After (feed xs) o
+  waits-feed : (xs : List ℕ) {x : feeding.Told} → Feeds c (w .receive) xs x → After (feed xs) (afterFeed w x)
   unfolding flatMap
-  waits-feed xs {o} (shut y) = waits-same (feed xs) o refl (λ i. refl) refl refl refl
-  waits-feed xs {o} (bytes y) = waits-same (feed xs) o refl (λ i. refl) refl refl refl
+  waits-feed xs {x} (shut y) = waits-same (feed xs) (afterFeed w x) refl (λ i. refl) refl refl refl
+  waits-feed xs {x} (bytes y) = waits-same (feed xs) (afterFeed w x) refl (λ i. refl) refl refl refl
 
   waits-take : (j : ℕ) (buf : List ℕ) {x : taking.Told} → Takes (w .connection) (w .receive) j buf x → After (take j buf) (afterTake w x)
   waits-take j buf {x} (refuses n z y f) =
@@ -204,9 +157,9 @@ module _ (w : World) (g : Good w) (past : Past) (t : Waits (w .connection .setti
 
 pub waits-after : (s : Settings) (past : Past) (w : World) (a : Call) → Real a → Reached s w → Waits s past w
     → Waits s (past ++ (event step w a ∷ [])) (step w a .world)
-waits-after s past w a real k t =
-    subst (λ (u : Settings). Waits u (past ++ (event step w a ∷ [])) (step w a .world)) (k .settings)
-    (waits-call w (good k) past (subst (λ (u : Settings). Waits u past w) (sym (k .settings)) t) a real)
+waits-after s past w a real k =
+    subst (λ (u : Settings). Waits u past w → Waits u (past ++ (event step w a ∷ [])) (step w a .world)) (k .settings)
+    (λ t. waits-call w (good k) past t a real)
 
 pub waits-first : {s : Settings} {receive send : List ℕ} → Opened s receive send → Waits s [] (first s receive send)
 unfolding putFor acts segments sentBy flatMap stream
@@ -235,8 +188,7 @@ sends-of past w t =
     }
 
 pub sends : (s : Settings) (past : Past) (w : World) → Reached s w → Waits s past w → Sends s past w
-sends s past w k t =
-    subst (λ (u : Settings). Sends u past w) (k .settings) (sends-of past w (subst (λ (u : Settings). Waits u past w) (sym (k .settings)) t))
+sends s past w k = subst (λ (u : Settings). Waits u past w → Sends u past w) (k .settings) (sends-of past w)
 
 -- a segment that is made
 segmented-of : (w : World) (g : Good w) (time : ℕ) (buf : List ℕ) → time < 2 ^ 32 → {x : sending.Told} → Nexts (w .connection) (w .send) time buf x
@@ -245,32 +197,24 @@ segmented-of w g time buf small (refuses n z y) bs e =
     let q : [] ≡ bs ∷ [] = rw (ne-eqb n 0 z) at e in
     absurd (omega (arith, ap length q))
 segmented-of w g time buf small {x} (serves j who l) bs e =
-    let h : j < instances = chosen-waiting w g j who .0 in
-    let p : 0 < getD (w .connection .sending .waiting) j 0 = chosen-waiting w g j who .1 in
     let c = w .connection in
-    let caps = c .settings .send in
-    let n : ℕ = sending.much c j in
-    let limit = ranged c (g .in-range) .set .limit in
-    let hd : Segment = sending.headed (c .settings .side) time j n in
-    let xs : List ℕ = sending.payloadOf c (w .send) j in
-    let long : length (encoded hd ++ xs) ≡ headerLength + n = length-append (encoded hd) xs ∙ rw (header-long hd, stream-length) in
-    let seg : lists.take (headerLength + n) (sets buf 0 (encoded hd ++ xs)) ≡ encoded hd ++ xs =
-    front buf (encoded hd ++ xs) (headerLength + n) long l in
-    let is : bs ≡ encoded hd ++ xs = same-one (sym e) ∙ seg in
+    let m : Made w time j bs = subst (Made w time j) (same-one e) (made-of g time buf j small who l) in
+    let limit = ranged c (g .ranged) .set .limit in
     record {
       instance = j;
-      within = h;
-      reads =
-          rw (is, take-at (encoded hd) xs headerLength (header-long hd))
-          (round-trip .read-written hd (header-fits (c .settings .side) j time n h small (omega arith)));
-      some = omega arith;
-      carries =
-          rw (is, drop-at (encoded hd) xs headerLength (header-long hd))
-          (sym (stream-take (w .send) (baseOf caps j) (getD caps j 0) (getD (c .sending .starts) j 0) n (waits w j) (omega arith)));
+      within = m .within;
+      reads = m .reads;
+      some = omega (arith, m .some);
+      carries = m .first;
+      whole = λ z. m .carries ∙ ap (sending.payloadOf c (w .send)) z ∙ rw (all (g .single));
     }
   where
     same-one : {xs ys : List ℕ} → xs ∷ [] ≡ ys ∷ [] → xs ≡ ys
     same-one {xs} {ys} q = cc
+
+    -- what waits of Handshake is no more than S
+    all : waits w 0 ≤ w .connection .settings .limit → sending.much (w .connection) 0 ≡ waits w 0
+    all h = omega arith
 
 pub segmented : (s : Settings) (w : World) (time : ℕ) (buf : List ℕ) → Reached s w → Real (next time buf)
     → (bs : List ℕ) → segmentOf (step w (next time buf) .answer) ≡ bs ∷ [] → Segmented s w time bs

@@ -3,6 +3,7 @@
 use mathlib.Core.Path.{_≡_, refl, ap, _∙_}
 use mathlib.Core.Bool.{false, true≢false, cond, _&&_}
 use mathlib.Core.List.{List, [], _∷_, _++_, flatMap}
+use mathlib.Core.Option.{Option, some}
 use mathlib.Core.Logic.{_≢_}
 use Prim.Native.Nat.{ℕ}
 use native.Mathlib.Omega.{arith}
@@ -14,7 +15,7 @@ use Rattle.connection.specs.declared.Closing.{Closing}
 use Rattle.connection.specs.declared.Closing.the-variants.{Of}
 use Rattle.connection.specs.declared.Gate.{Gate}
 use Rattle.connection.specs.declared.Gate.the-variants.{Open, Closed}
-use Rattle.connection.specs.Closings.{isOpen, closedBy}
+use Rattle.connection.specs.Closings.{closingOf, isOpen, closedBy}
 use Rattle.connection.specs.Parts.{withGate}
 use Rattle.feeding.specs.Feeding as feeding
 use Rattle.putting.specs.Putting as putting
@@ -26,10 +27,10 @@ use Rattle.promises.specs.Reached.{Reached, numberOf}
 use Rattle.promises.specs.Fairness.{segmentOf, segments}
 use Rattle.promises.specs.History.{Past, usedBy, bytesIn, gave, got, actsBy, acts, putBy, putFor, Shut, Nothing, AfterFault}
 use Rattle.promises.proofs.Ways.{Takes, refuses, faults, hands}
-use Rattle.promises.proofs.HistoryCalls.{Good, good-receives, good-sends, takes, tells, afterTake}
+use Rattle.promises.proofs.HistoryCalls.{Good, good, takes, tells, afterTake}
 use Rattle.promises.proofs.HistoryLaws.{no-act-adds, act-unseen, bytes-next, put-next, segments-next}
-use Rattle.promises.proofs.Reached.{in-range-for-ever}
-use Rattle.promises.proofs.HistoryRuns.{good, on}
+use Rattle.promises.proofs.Reached.{Sound, reached-receives, reached-sends, sound-first, sound-run}
+use Rattle.promises.proofs.HistoryRuns.{on}
 
 -- only the first closing is kept
 still : (g : Gate) (x : Closing) → isOpen g ≡ false → closedBy g x ≡ g
@@ -39,20 +40,20 @@ still (Closed y) x e = refl
 module _ (w : World) (g : Good w) (closed : isOpen (w .connection .gate) ≡ false) where
   shut-feeds : (xs : List ℕ) → step w (feed xs) ≡ record { world = w; answer = fed 20 0 }
   unfolding step feeding.feedOf
-  shut-feeds xs = rw (good-receives w g, closed)
+  shut-feeds xs = rw (reached-receives g, closed)
 
   shut-puts : (i : ℕ) (xs : List ℕ) → step w (put i xs) ≡ record { world = w; answer = queued (cond (ltb i instances) 20 10) }
   unfolding step putting.putOf putting.judgeOf
-  shut-puts i xs = rw (good-sends w g) (by-test (ltb i instances) (λ t. rw (t, closed)) (λ t. rw t))
+  shut-puts i xs = rw (reached-sends g) (by-test (ltb i instances) (λ t. rw (t, closed)) (λ t. rw t))
 
   shut-makes : (time : ℕ) (buf : List ℕ) → step w (next time buf) ≡ record { world = w; answer = made 20 0 buf }
   unfolding step sending.nextOf
-  shut-makes time buf = rw (good-sends w g, closed)
+  shut-makes time buf = rw (reached-sends g, closed)
 
   abbrev Leaves : World → Type 0
   Leaves v =
       (v .receive ≡ w .receive) × (v .send ≡ w .send) × (v .connection .sending ≡ w .connection .sending)
-      × (v .connection .gate ≡ w .connection .gate)
+      × (closingOf (v .connection .gate) ≡ closingOf (w .connection .gate))
 
   shut-takes : (i : ℕ) (buf : List ℕ) → Leaves (step w (take i buf) .world)
   unfolding step
@@ -60,7 +61,7 @@ module _ (w : World) (g : Good w) (closed : isOpen (w .connection .gate) ≡ fal
     where
       of : {x : taking.Told} → Takes (w .connection) (w .receive) i buf x → Leaves ((afterTake w x) .world)
       of (refuses n z y f) = (refl, refl, refl, refl)
-      of (faults n low high h) = (refl, refl, refl, still (w .connection .gate) _ closed)
+      of (faults n low high h) = (refl, refl, refl, ap closingOf (still (w .connection .gate) _ closed))
       of (hands n m to h e l b r q) = (refl, refl, refl, refl)
 
   shut-refuses : (i : ℕ) (buf : List ℕ) → (numberOf (step w (take i buf) .answer) ≡ 0 → ⊥) → step w (take i buf) .world ≡ w
@@ -106,28 +107,32 @@ idle w (put j xs) g o =
 idle w (next time buf) g o = rw (shut-makes w g o time buf) (record { comes = refl; put = λ i. refl; sent = refl })
 idle w status g o = rw (tells w) (record { comes = refl; put = λ i. refl; sent = refl })
 
-stays : (w : World) (c : Call) → Good w → isOpen (w .connection .gate) ≡ false → step w c .world .connection .gate ≡ w .connection .gate
+stays : (w : World) (c : Call) → Good w → isOpen (w .connection .gate) ≡ false
+    → closingOf (step w c .world .connection .gate) ≡ closingOf (w .connection .gate)
 stays w (feed xs) g o = rw (shut-feeds w g o xs)
 stays w (take j buf) g o = shut-takes w g o j buf .3
 stays w (put j xs) g o = rw (shut-puts w g o j xs)
 stays w (next time buf) g o = rw (shut-makes w g o time buf)
 stays w status g o = rw (tells w)
 
--- the gate is as it was, and nothing came in, was put or was sent since
-record Since (gate : Gate) (past : Past) (w : World) : Type 0 where
-  same : w .connection .gate ≡ gate
+closed-so : (g : Gate) (x : ℕ × Option ℕ) → closingOf g ≡ some x → isOpen g ≡ false
+closed-so Open x e = absurd (let z : _≡_ {A = ℕ} 0 1 = cc in omega arith)
+closed-so (Closed y) x e = refl
+
+-- the closing is this, and nothing came in, was put or was sent since
+record Since (closing : ℕ × Option ℕ) (past : Past) (w : World) : Type 0 where
+  same : closingOf (w .connection .gate) ≡ some closing
   nothing : Nothing past
 
-since-next : (s : Settings) (gate : Gate) → isOpen gate ≡ false → (past : Past) (w : World) (c : Call) → Real c → Reached s w
-    → Reached s (step w c .world) → Since gate past w
-    → Since gate (past ++ (event step w c ∷ [])) (step w c .world)
-since-next s gate o past w c real k k′ t =
+since-next : (s : Settings) (x : ℕ × Option ℕ) (past : Past) (w : World) (c : Call) → Real c → Reached s w → Reached s (step w c .world)
+    → Since x past w → Since x (past ++ (event step w c ∷ [])) (step w c .world)
+since-next s x past w c real k k′ t =
     let g : Good w = good k in
-    let o′ : isOpen (w .connection .gate) ≡ false = rw (t .same) o in
-    let n : Idle c (step w c .answer) = idle w c g o′ in
+    let o : isOpen (w .connection .gate) ≡ false = closed-so (w .connection .gate) x (t .same) in
+    let n : Idle c (step w c .answer) = idle w c g o in
     let e : Event Call Answer = event step w c in
     record {
-      same = stays w c g o′ ∙ t .same;
+      same = stays w c g o ∙ t .same;
       nothing =
           record {
             comes = rw (bytes-next past e, t .nothing .comes) (n .comes);
@@ -136,14 +141,14 @@ since-next s gate o past w c real k k′ t =
           };
     }
 
-since-none : (w : World) → Since (w .connection .gate) [] w
+nothing-yet : Nothing []
 unfolding bytesIn putFor acts segments flatMap
-since-none w = record { same = refl; nothing = record { comes = refl; put = λ i. refl; sent = refl } }
+nothing-yet = record { comes = refl; put = λ i. refl; sent = refl }
 
 -- T15
 pub after-fault : AfterFault
-after-fault s receive send opened cs ds r q o =
+after-fault s receive send opened cs ds r q x e =
     let w : World = run step (first s receive send) cs in
-    let t : Since (w .connection .gate) (trace step w ds) (run step w ds) =
-    on opened (Since (w .connection .gate)) (since-next s (w .connection .gate) o) ds cs [] r q (since-none w) in
-    (shut w (good (in-range-for-ever s receive send opened cs r)) o, t .nothing, t .same)
+    let k : Sound s w = sound-run s (first s receive send) cs r (sound-first s receive send opened) in
+    let t : Since x (trace step w ds) (run step w ds) = on (Since x) (since-next s x) ds [] w q k (record { same = e; nothing = nothing-yet }) in
+    (shut w (good (k .reached)) (closed-so (w .connection .gate) x e), t .nothing, t .same)

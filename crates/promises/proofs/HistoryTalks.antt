@@ -1,56 +1,48 @@
 -- The states (T11 c): each call moves no state, or that of one instance by one row, and notes it as an act of that instance.
 -- Assumes nothing.
 use mathlib.Core.Path.{_≡_, refl, sym, ap}
-use mathlib.Core.Bool.{Bool, true, false, true≢false, cond, not, _&&_, _||_}
+use mathlib.Core.Bool.{Bool, true, false, true≢false, cond, not, _&&_, _||_, or-false}
 use mathlib.Core.List.{List, [], _∷_, _++_, append-nil, flatMap}
 use mathlib.Core.Logic.{_≢_}
-use Prim.Native.Nat.{ℕ, _+_, _<_}
+use Prim.Native.Nat.{ℕ, _<_}
 use native.Mathlib.Omega.{arith}
-use borrow.Author.Tests.{eqb-true, eqb-false}
+use borrow.Author.Tests.{eq-eqb, ne-eqb, eqb-true}
 use lib.Dec.{eqb}
 use lib.ListN as lists
 use lib.ListN.{length, getD, getD-replicate}
-use lib.Seq.{sets, getD-set-same, getD-set-other}
+use lib.Seq.{sets}
 use Rattle.base.proofs.Conds.{by-test}
 use Rattle.ring.proofs.Stores.{stream-length}
 use Rattle.wire.specs.declared.instances.Side.{Side}
 use Rattle.wire.specs.Instances.{instances, at, initiates}
 use Rattle.rows.specs.declared.Agency.{Agency}
 use Rattle.rows.specs.declared.Agency.the-variants.{Initiator, Responder, Nobody}
-use Rattle.rows.specs.declared.Protocol.{Protocol}
 use Rattle.rows.specs.declared.Next.the-variants.{To}
-use Rattle.rows.specs.Rows.{nextOf, agencyOf, rowIn, doneOf}
+use Rattle.rows.specs.Rows.{nextOf, agencyOf, doneOf}
 use Rattle.rows.specs.Spoken.{speaks}
 use Rattle.rows.proofs.RowLaws.{thirty}
 use Rattle.messages.specs.Reading.{messageOf, read, flagOf}
 use Rattle.connection.specs.declared.Settings.{Settings}
 use Rattle.connection.proofs.RangeLaws.{ranged}
+use Rattle.connection.specs.Parts.{firstHeld}
+use Rattle.judging.proofs.Moving.{leads-low}
 use Rattle.judging.specs.Judging.{holds, stateOf, ours, movedBy}
 use Rattle.taking.specs.Taking as taking
+use Rattle.feeding.specs.Feeding as feeding
 use Rattle.putting.specs.Putting as putting
 use Rattle.sending.specs.NextSegment as sending
 use Rattle.promises.specs.Trace.{Out, event}
-use Rattle.promises.specs.Calls.{Call, feed, take, put, next, status, Answer, World, step, Real, Opened, first}
+use Rattle.promises.specs.Calls.{Call, feed, take, put, next, status, Answer, World, step, Opened, first}
 use Rattle.promises.specs.Reached.{Reached}
 use Rattle.promises.specs.History.{Past, Act, gave, got, messageIn, actsBy, acts, theirs, Moves, Walks, rests, moves, endsInAccept, Talks}
-use Rattle.promises.proofs.Ways.{early, Takes, refuses, faults, hands, Puts, queues, Nexts, serves}
-use Rattle.promises.proofs.HistoryCalls.{Feeds, shut, bytes, feeds, takes, puts, makes, afterTake, afterPut, afterNext}
+use Rattle.promises.proofs.Ways.{Takes, refuses, faults, hands, Puts, queues, Nexts, serves}
+use Rattle.base.proofs.ListLaws.{at-set}
+use Rattle.promises.proofs.ReachedFeed.{Feeds, shut, bytes}
+use Rattle.promises.proofs.Reached.{opens-fresh}
+use Rattle.promises.proofs.HistoryCalls.{good, feeds, takes, puts, makes, afterFeed, afterTake, afterPut, afterNext}
 use Rattle.promises.proofs.HistoryLaws.{no-act, an-act, front, acts-next}
-use Rattle.promises.proofs.HistoryRuns.{good, opens-fresh}
 
 -- ---- rows
-
-and-first : (a b : Bool) → (a && b) ≡ true → a ≡ true
-and-first true b e = refl
-and-first false b e = e
-
--- a state with a row is not the last
-pub row-going : (p : Protocol) (s k f n : ℕ) → nextOf p s k f ≡ To n → s < doneOf p
-row-going p s k f n e =
-    let r = thirty .only p s k f n e in
-    let i = r .0 in
-    let same : rowIn p i .state ≡ s = eqb-true (rowIn p i .state) s (and-first _ _ (r .2)) in
-    omega (arith, thirty .last p i (r .1) .0)
 
 -- where the one has no agency, and somebody has, the other has
 other-holds : (b : Bool) (a : Agency) → holds b a ≡ false → a ≢ Nobody → holds (not b) a ≡ true
@@ -63,11 +55,11 @@ other-holds b Nobody e n = absurd (n refl)
 their-turn : (side : Side) (i s k f n : ℕ) → ours side i s ≡ false → nextOf (speaks i) s k f ≡ To n → theirs side i s ≡ true
 unfolding ours
 their-turn side i s k f n e q =
-    other-holds (initiates side (at i .role)) (agencyOf (speaks i) s) e (thirty .going (speaks i) s (row-going (speaks i) s k f n q))
+    other-holds (initiates side (at i .role)) (agencyOf (speaks i) s) e (thirty .going (speaks i) s (leads-low (speaks i) s k f n q .0))
 
 -- ---- what a call does to the states
 
-pub data Talked (s : Settings) (w : World) (c : Call) (o : Out World Answer) : Type 0 where
+data Talked (s : Settings) (w : World) (c : Call) (o : Out World Answer) : Type 0 where
   quiet : o .world .connection .talk ≡ w .connection .talk → ((i : ℕ) → actsBy i c (o .answer) ≡ []) → Talked s w c o
   acted : (j : ℕ) (a : Act) (to : ℕ) → j < instances → (k : Moves (s .side) j (getD (w .connection .talk .states) j 0) a to)
       → o .world .connection .talk ≡ movedBy (w .connection .talk) j (k .message .kind) to
@@ -78,7 +70,7 @@ module _ (s : Settings) (w : World) (k : Reached s w) where
   talked-take j buf (refuses n z y f) = quiet refl (λ i. no-act (eqb j i) n _ z)
   talked-take j buf (faults n low high h) = quiet refl (λ i. no-act (eqb j i) n _ (λ z. omega arith))
   talked-take j buf (hands n m to h e l b r q) =
-      let xs : List ℕ = taking.bytesOf (w .connection) (w .receive) j n in
+      let xs : List ℕ = firstHeld (w .connection) (w .receive) j n in
       let long : length xs ≡ n = stream-length _ _ _ _ n in
       let at-front : lists.take n (sets buf 0 xs) ≡ xs = front buf xs n long b in
       acted j (got xs) to h
@@ -87,7 +79,7 @@ module _ (s : Settings) (w : World) (k : Reached s w) where
         reads = r;
         agency =
             their-turn (s .side) j (stateOf (w .connection) j) (m .kind) (flagOf (speaks j) m) to
-            (rw (← k .settings) (early (w .connection) j .theirs e)) q;
+            (rw (← k .settings) e) q;
         row = q;
       })
       refl (λ i. rw at-front (an-act (eqb j i) (got xs)))
@@ -98,15 +90,15 @@ module _ (s : Settings) (w : World) (k : Reached s w) where
       acted j (gave xs) to h (record { message = m; reads = r; agency = rw (← k .settings) u; row = q }) refl
       (λ i. an-act (eqb j i) (gave xs))
 
-  talked-feed : (xs : List ℕ) {o : Out World Answer} → Feeds w xs o → Talked s w (feed xs) o
-  talked-feed xs (shut g) = quiet refl (λ i. refl)
-  talked-feed xs (bytes g) = quiet refl (λ i. refl)
+  talked-feed : (xs : List ℕ) {x : feeding.Told} → Feeds (w .connection) (w .receive) xs x → Talked s w (feed xs) (afterFeed w x)
+  talked-feed xs (shut y) = quiet refl (λ i. refl)
+  talked-feed xs (bytes y) = quiet refl (λ i. refl)
 
   talked-next : (time : ℕ) (buf : List ℕ) {x : sending.Told} → Nexts (w .connection) (w .send) time buf x → Talked s w (next time buf) (afterNext w x)
   talked-next time buf (refuses n z y) = quiet refl (λ i. refl)
   talked-next time buf (serves j who l) = quiet refl (λ i. refl)
 
-  pub talked : (c : Call) → Talked s w c (step w c)
+  talked : (c : Call) → Talked s w c (step w c)
   unfolding step
   talked (feed xs) = talked-feed xs (feeds w (good k) xs)
   talked (take j buf) = talked-take j buf (takes w (good k) j buf)
@@ -127,22 +119,14 @@ ends-next [] a = refl
 ends-next (b ∷ []) a = refl
 ends-next (b ∷ d ∷ before) a = ends-next (d ∷ before) a
 
-or-false : (b : Bool) → (b || false) ≡ b
-or-false true = refl
-or-false false = refl
-
 module _ (s : Settings) (w : World) (k : Reached s w) (past : Past) (t : Talks s past w) where
   -- the states of all after an act of j
   walks-on : (j to : ℕ) (a : Act) → j < instances → Moves (s .side) j (stateOf (w .connection) j) a to → (i : ℕ) → i < instances
       → Walks (s .side) i 0 (acts i past ++ cond (eqb j i) (a ∷ []) []) (getD (lists.set (w .connection .talk .states) j to) i 0)
-  walks-on j to a h m i l =
-      by-test (eqb j i)
-      (λ q.
-      let e : j ≡ i = eqb-true j i q in
-      rw (q, ← e, getD-set-same (w .connection .talk .states) j to 0 (omega (arith, k .shaped .states))) (walk-next (t .states j h) m))
-      (λ q.
-      let n : i ≢ j = λ e. eqb-false j i q (sym e) in
-      rw (q, append-nil, getD-set-other (w .connection .talk .states) j i to 0 n) (t .states i l))
+  walks-on j to a h m i =
+      at-set (λ n state. n < instances → Walks (s .side) n 0 (acts n past ++ cond (eqb j n) (a ∷ []) []) state) (w .connection .talk .states) j to
+      (omega (arith, k .shaped .states)) (λ l. rw (eq-eqb j j refl) (walk-next (t .states j h) m))
+      (λ n ne l. rw (ne-eqb j n (λ e. ne (sym e)), append-nil) (t .states n l)) i
 
   -- and whether Accept is marked: no state with a row is Handshake's last
   marks-on : (j to : ℕ) (a : Act) (m : Moves (s .side) j (stateOf (w .connection) j) a to)
@@ -151,7 +135,7 @@ module _ (s : Settings) (w : World) (k : Reached s w) (past : Past) (t : Talks s
       by-test (eqb j 0)
       (λ q.
       let e : j ≡ 0 = eqb-true j 0 q in
-      let going = row-going (speaks j) (stateOf (w .connection) j) (m .message .kind) (flagOf (speaks j) (m .message)) to (m .row) in
+      let going = leads-low (speaks j) (stateOf (w .connection) j) (m .message .kind) (flagOf (speaks j) (m .message)) to (m .row) .0 in
       let not-yet : w .connection .talk .accepted ≡ false =
       by-test (w .connection .talk .accepted)
       (λ y.
@@ -174,9 +158,9 @@ module _ (s : Settings) (w : World) (k : Reached s w) (past : Past) (t : Talks s
         accepted = rw (acts-next past (record { call = c; answer = o .answer }) 0, n 0, e) (marks-on j to a m);
       }
 
-pub talks-next : (s : Settings) (past : Past) (w : World) (c : Call) → Real c → Reached s w → Reached s (step w c .world) → Talks s past w
+pub talks-next : (s : Settings) (past : Past) (w : World) (c : Call) → Reached s w → Talks s past w
     → Talks s (past ++ (event step w c ∷ [])) (step w c .world)
-talks-next s past w c real k k′ t = talks-by s w k past t c (talked s w k c)
+talks-next s past w c k t = talks-by s w k past t c (talked s w k c)
 
 pub talks-first : {s : Settings} {receive send : List ℕ} → Opened s receive send → Talks s [] (first s receive send)
 unfolding acts endsInAccept flatMap

@@ -1,8 +1,8 @@
 -- T10: every call keeps the range, what waits of Handshake within one segment, and what waits of the others behind Accept.
 -- Assumes nothing.
 use mathlib.Core.Path.{_≡_, refl, sym, ap, subst, _∙_}
-use mathlib.Core.Bool.{Bool, true, false, true≢false, false≢true, not, _&&_, _||_}
-use mathlib.Core.List.{List}
+use mathlib.Core.Bool.{true, false, true≢false, not, _&&_}
+use mathlib.Core.List.{List, [], _∷_}
 use Prim.Native.Nat.{ℕ, zero, suc, _+_, _-_, _≤_, _<_}
 use native.Mathlib.Omega.{arith}
 use lib.Dec.{eqb}
@@ -10,29 +10,25 @@ use lib.ListN.{length, getD, set}
 use lib.Seq.{getD-set-same, getD-set-other}
 use borrow.Author.Tests.{eq-eqb, ne-eqb, eqb-true, eqb-false}
 use Rattle.base.specs.Numbers.{Bytes}
-use Rattle.base.proofs.Conds.{by-test, cond-cases}
+use Rattle.base.proofs.Conds.{by-test, cond-cases, both-true}
 use Rattle.ring.specs.Ring.{together}
 use Rattle.wire.specs.Instances.{instances}
 use Rattle.rows.specs.Spoken.{speaks}
 use Rattle.messages.specs.Reading.{flagOf}
-use Rattle.ready.specs.Ready.{chosen}
-use Rattle.ready.specs.declared.Choice.the-variants.{Instance}
-use Rattle.ready.proofs.ReadyLaws.{chosen-waits}
 use Rattle.connection.specs.declared.Settings.{Settings}
 use Rattle.connection.specs.declared.Connection.{Connection}
 use Rattle.connection.specs.declared.opening as opening
 use Rattle.connection.specs.Parts.{withReceiving}
 use Rattle.connection.specs.Shapes.{Shaped}
 use Rattle.connection.specs.Ranges.{inRange, receiveStoreOk, sendStoreOk, receives, sends, settingsOk}
-use Rattle.connection.specs.Openings.{zeros, fresh, openOf}
+use Rattle.connection.specs.Openings.{fresh, openOf}
 use Rattle.connection.proofs.RangeLaws.{ranged}
 use Rattle.connection.proofs.NumberLaws as connection
 use Rattle.judging.specs.Judging.{ours, barred}
 use Rattle.feeding.specs.Feeding as feeding
-use Rattle.feeding.specs.Feeds.{Spelt}
-use Rattle.feeding.proofs.Bytes.{both-true}
+use Rattle.feeding.specs.Numbers.{Spelt}
 use Rattle.feeding.proofs.Keeping.{spelt-empty}
-use Rattle.feeding.proofs.Theorems as feeding-laws
+use Rattle.feeding.proofs.NumberLaws as feeding-laws
 use Rattle.taking.specs.Taking as taking
 use Rattle.taking.proofs.NumberLaws as taking-laws
 use Rattle.putting.specs.Putting as putting
@@ -42,11 +38,11 @@ use Rattle.sending.proofs.NumberLaws as sending-laws
 use Rattle.promises.specs.Trace.{run}
 use Rattle.promises.specs.Calls.{Call, feed, take, put, next, status, World, step, Real, AllReal, Opened, first}
 use Rattle.promises.specs.Reached.{waits, Reached, InRangeForEver, numberOf, Never23}
-use Rattle.promises.proofs.TraceLaws.{keeps-real}
 use Rattle.promises.proofs.ReachedHandshake.{shakes, spare, spare-put, spare-moved, spare-first}
 use Rattle.promises.proofs.Ways.{Row, Takes, Puts, Nexts, refuses, faults, hands, queues, serves, take-way, put-way, next-way}
 use Rattle.promises.proofs.ReachedFeed as tidy
-use Rattle.promises.proofs.ReachedFeed.{Tidy, Feeds, stays, feeds, feed-way, blank-empty}
+use Rattle.promises.proofs.ReachedFeed.{Blank, Tidy, tidy-fed, ends, Feeds, shut, bytes, feed-way}
+use Rattle.base.proofs.ListLaws.{zeros, at-set}
 
 -- ---- what every call keeps
 
@@ -81,14 +77,15 @@ module _ (s : Settings) (w : World) (k : Sound s w) where
 
   -- ---- feed
 
-  pub feeds-tidy : Tidy (c .receiving .starts) (feeding.given c (w .receive))
-  feeds-tidy = record { places = refl; many = r .shaped .held; blank = r .blank; idle = r .idle }
-
   sound-fed : {xs : List ℕ} {t : feeding.Told} → Feeds c (w .receive) xs t → receives (t .answer .connection) (length (t .store)) ≡ true
       → Spelt (t .answer .connection .receiving .header)
       → Sound s (record { connection = t .answer .connection; receive = t .store; send = w .send })
-  sound-fed (stays n) ok spelt = k
-  sound-fed (feeds n st t) ok spelt =
+  sound-fed (shut o) ok spelt = k
+  sound-fed {xs} (bytes o) ok spelt =
+      let st : feeding.Reception = ends c (w .receive) xs in
+      let t : Tidy (c .receiving .starts) st =
+      tidy-fed (c .settings .side) (c .settings .receive) (c .receiving .starts) (feeding.given c (w .receive)) xs
+      (record { places = refl; many = r .shaped .held; blank = r .blank; idle = r .idle }) in
       let p = both-true (inRange (withReceiving c (st .receiving) (st .gate))) (receiveStoreOk (c .settings) (length (st .store))) ok in
       record {
         reached =
@@ -122,7 +119,7 @@ module _ (s : Settings) (w : World) (k : Sound s w) where
   unfolding step
   sound-feed xs b =
       let q = feeding-laws.keeps c (w .receive) xs (r .spelt) b (reached-receives r) in
-      sound-fed (feed-way c (w .receive) xs (reached-receives r) feeds-tidy) (q .0) (q .1)
+      sound-fed (feed-way c (w .receive) xs (reached-receives r)) (q .0) (q .1)
 
   -- ---- take
 
@@ -134,47 +131,37 @@ module _ (s : Settings) (w : World) (k : Sound s w) where
       (spare-moved (s .side) (s .limit) (shakes (getD (c .talk .states) 0 0) after row))
   moved (suc i) after row = rw (getD-set-other (c .talk .states) (suc i) 0 after 0 (λ e. omega arith)) (omega arith)
 
-  or-true : (a b : Bool) → a ≡ true → (a || b) ≡ true
-  or-true true b e = refl
-  or-true false b e = absurd (false≢true e)
+  -- what a call keeps that leaves settings, header and payload under way as they were
+  kept : {c′ : Connection} {store : List ℕ} → c′ .settings ≡ c .settings → c′ .receiving .header ≡ c .receiving .header
+      → c′ .receiving .rest ≡ c .receiving .rest → c′ .receiving .instance ≡ c .receiving .instance
+      → inRange c′ ≡ true → Shaped c′ → length store ≡ length (w .send)
+      → let w′ : World = record { connection = c′; receive = w .receive; send = store } in
+      handshake s w′ ≤ handshake s w → ((i : ℕ) → 0 < i → 0 < waits w′ i → c′ .talk .accepted ≡ true) → Sound s w′
+  kept set head rest to ok shaped long bound accepted =
+      record {
+        reached =
+            record {
+              settings = set ∙ r .settings;
+              ranged = ok;
+              shaped = shaped;
+              receive = r .receive;
+              send = long ∙ r .send;
+              spelt = subst Spelt (sym head) (r .spelt);
+              blank = subst Blank (sym head) (r .blank);
+              idle = λ z. to ∙ r .idle (sym rest ∙ z);
+              single = omega (arith, bound, k .bound);
+              accepted = accepted;
+            };
+        bound = omega (arith, bound, k .bound);
+      }
 
-  sound-took : {i : ℕ} {buf : List ℕ} {t : taking.Told} → Takes c (w .receive) i buf t → inRange (t .taken .connection) ≡ true
-      → Shaped (t .taken .connection) → Sound s (record { connection = t .taken .connection; receive = w .receive; send = w .send })
+  sound-took : {i : ℕ} {buf : List ℕ} {t : taking.Told} → Takes c (w .receive) i buf t → inRange (t .answer .connection) ≡ true
+      → Shaped (t .answer .connection) → Sound s (record { connection = t .answer .connection; receive = w .receive; send = w .send })
   sound-took (refuses n z ne f) ok shaped = k
-  sound-took (faults n low high l) ok shaped =
-      record {
-        reached =
-            record {
-              settings = r .settings;
-              ranged = ok;
-              shaped = shaped;
-              receive = r .receive;
-              send = r .send;
-              spelt = r .spelt;
-              blank = r .blank;
-              idle = r .idle;
-              single = r .single;
-              accepted = r .accepted;
-            };
-        bound = k .bound;
-      }
+  sound-took (faults n low high l) ok shaped = kept refl refl refl refl ok shaped refl (omega arith) (r .accepted)
   sound-took {i} (hands n m to l early held long reads row) ok shaped =
-      record {
-        reached =
-            record {
-              settings = r .settings;
-              ranged = ok;
-              shaped = shaped;
-              receive = r .receive;
-              send = r .send;
-              spelt = r .spelt;
-              blank = r .blank;
-              idle = r .idle;
-              single = r .single;
-              accepted = λ i some more. or-true _ _ (r .accepted i some more);
-            };
-        bound = omega (arith, k .bound, moved i to (m .kind, flagOf (speaks i) m, row));
-      }
+      kept refl refl refl refl ok shaped refl (omega (arith, moved i to (m .kind, flagOf (speaks i) m, row)))
+      (λ j some waiting. rw (r .accepted j some waiting))
 
   sound-take : (i : ℕ) (buf : List ℕ) → Sound s (step w (take i buf) .world)
   unfolding step
@@ -222,69 +209,31 @@ module _ (s : Settings) (w : World) (k : Sound s w) where
       → Sound s (record { connection = t .answer .connection; receive = w .receive; send = t .store })
   sound-put-way (refuses n z ne) ok shaped long = k
   sound-put-way {i} {xs} (queues m to l listens free mine reads row short fits) ok shaped long =
-      let b = put-bound i to (length xs) mine (m .kind, flagOf (speaks i) m, row) short in
-      record {
-        reached =
-            record {
-              settings = r .settings;
-              ranged = ok;
-              shaped = shaped;
-              receive = r .receive;
-              send = long ∙ r .send;
-              spelt = r .spelt;
-              blank = r .blank;
-              idle = r .idle;
-              single = omega (arith, b, k .bound);
-              accepted = λ i′ some waiting. or-true _ _ (put-accepted i (length xs) free i′ some waiting);
-            };
-        bound = omega (arith, b, k .bound);
-      }
+      kept refl refl refl refl ok shaped long (put-bound i to (length xs) mine (m .kind, flagOf (speaks i) m, row) short)
+      (λ j some waiting. rw (put-accepted i (length xs) free j some waiting))
 
   sound-put : (i : ℕ) (xs : List ℕ) → Sound s (step w (put i xs) .world)
   unfolding step
   sound-put i xs =
       let q = putting-laws.keeps c (w .send) i xs (r .shaped) (reached-sends r) in
       let after = putting.putOf c (w .send) i xs in
-      let ok = both-true (inRange (after .answer .connection)) (sendStoreOk (after .answer .connection .settings) (length (after .store))) (q .ranged) in
+      let c′ : Connection = after .answer .connection in
+      let ok = both-true (inRange c′) (sendStoreOk (c′ .settings) (length (after .store))) (q .ranged) in
       sound-put-way (put-way c (w .send) i xs (reached-sends r)) (ok .0) (q .shaped) (q .long)
 
   -- ---- next segment
 
-  -- whoever is chosen is an instance
-  pub chosen-inside : (i : ℕ) → chosen (c .sending .waiting) (c .sending .turn) ≡ Instance i → i < instances
-  chosen-inside i e =
-      let t = ranged c (r .ranged) .turn in
-      omega (arith, r .shaped .waiting, chosen-waits (c .sending .waiting) (c .sending .turn) i (t .0) (omega (arith, t .1, r .shaped .waiting)) e .0)
-
   -- what is sent waits no more
   fewer : (i n : ℕ) → i < instances → (j : ℕ) → getD (set (c .sending .waiting) i (waits w i - n)) j 0 ≤ waits w j
   fewer i n l j =
-      by-test (eqb j i)
-      (λ t.
-      rw (eqb-true j i t, getD-set-same (c .sending .waiting) i (waits w i - n) 0 (omega (arith, r .shaped .waiting))) (omega arith))
-      (λ t. rw (getD-set-other (c .sending .waiting) i j (waits w i - n) 0 (eqb-false j i t)) (omega arith))
+      at-set (λ j m. m ≤ waits w j) (c .sending .waiting) i (waits w i - n) (omega (arith, r .shaped .waiting)) (omega arith) (λ j ne. omega arith) j
 
-  sound-next-way : {time : ℕ} {buf : List ℕ} {t : sending.Told} → Nexts c (w .send) time buf t → inRange (t .made .connection) ≡ true
-      → Shaped (t .made .connection) → Sound s (record { connection = t .made .connection; receive = w .receive; send = w .send })
+  sound-next-way : {time : ℕ} {buf : List ℕ} {t : sending.Told} → Nexts c (w .send) time buf t → inRange (t .answer .connection) ≡ true
+      → Shaped (t .answer .connection) → Sound s (record { connection = t .answer .connection; receive = w .receive; send = w .send })
   sound-next-way (refuses n z ne) ok shaped = k
   sound-next-way (serves i who room) ok shaped =
-      let less = fewer i (sending.much c i) (chosen-inside i who) in
-      record {
-        reached =
-            record {
-              settings = r .settings;
-              ranged = ok;
-              shaped = shaped;
-              receive = r .receive;
-              send = r .send;
-              spelt = r .spelt;
-              blank = r .blank;
-              idle = r .idle;
-              single = omega (arith, less 0, r .single);
-              accepted = λ j some waiting. r .accepted j some (omega (arith, less j));
-            };
-        bound = omega (arith, less 0, k .bound);
-      }
+      let less = fewer i (sending.much c i) (sending-laws.chosen-waiting c (r .shaped) i who .0) in
+      kept refl refl refl refl ok shaped refl (omega (arith, less 0)) (λ j some waiting. r .accepted j some (omega (arith, less j)))
 
   sound-next : (time : ℕ) (buf : List ℕ) → Sound s (step w (next time buf) .world)
   unfolding step
@@ -294,11 +243,12 @@ module _ (s : Settings) (w : World) (k : Sound s w) where
 
 -- ---- open
 
-opened : (s : Settings) (n m : ℕ) → openOf s n m .number ≡ 0 → openOf s n m .connection ≡ fresh s 1
+-- what an open answered 0 leaves
+pub opens-fresh : {s : Settings} {receive send : List ℕ} → Opened s receive send → first s receive send .connection ≡ fresh s 1
 unfolding openOf
-opened s n m =
-    cond-cases (λ (o : opening.Opened.Opened). o .number ≡ 0 → o .connection ≡ fresh s 1) (settingsOk s && (receiveStoreOk s n && sendStoreOk s m))
-    (λ t z. refl) (λ t z. absurd (omega arith))
+opens-fresh {s} {receive} {send} o =
+    cond-cases (λ (x : opening.Opened.Opened). x .number ≡ 0 → x .connection ≡ fresh s 1)
+    (settingsOk s && (receiveStoreOk s (length receive) && sendStoreOk s (length send))) (λ t z. refl) (λ t z. absurd (omega arith)) (o .done)
 
 sound-fresh : (s : Settings) (receive send : List ℕ) → Opened s receive send
     → Sound s (record { connection = fresh s 1; receive = receive; send = send })
@@ -306,12 +256,12 @@ sound-fresh s receive send o =
     let n = length receive in
     let m = length send in
     let (set, long, wide) = connection.open-exactly s n m .n0 .0 (o .done) in
-    let zero-at = tidy.zeros instances in
+    let zero-at = zeros instances in
     record {
       reached =
           record {
             settings = refl;
-            ranged = subst (λ (c : Connection). inRange c ≡ true) (opened s n m (o .done)) (connection.opening .opened s n m (o .done));
+            ranged = subst (λ (c : Connection). inRange c ≡ true) (opens-fresh o) (connection.opening .opened s n m (o .done));
             shaped =
                 record {
                   receive = o .receives;
@@ -336,12 +286,12 @@ sound-fresh s receive send o =
 
 pub sound-first : (s : Settings) (receive send : List ℕ) → Opened s receive send → Sound s (first s receive send)
 sound-first s receive send o =
-    subst (λ (c : Connection). Sound s (record { connection = c; receive = receive; send = send }))
-    (sym (opened s (length receive) (length send) (o .done))) (sound-fresh s receive send o)
+    subst (λ (c : Connection). Sound s (record { connection = c; receive = receive; send = send })) (sym (opens-fresh o))
+    (sound-fresh s receive send o)
 
 -- ---- no call answers 23
 
-takes-known : {c : Connection} {store : List ℕ} {i : ℕ} {buf : List ℕ} {t : taking.Told} → Takes c store i buf t → t .taken .number ≡ 23 → ⊥
+takes-known : {c : Connection} {store : List ℕ} {i : ℕ} {buf : List ℕ} {t : taking.Told} → Takes c store i buf t → t .answer .number ≡ 23 → ⊥
 takes-known (refuses n z ne f) e = ne e
 takes-known (faults n low high l) e = omega arith
 takes-known (hands n m to l early held long reads row) e = omega arith
@@ -350,7 +300,7 @@ puts-known : {c : Connection} {store : List ℕ} {i : ℕ} {xs : List ℕ} {t : 
 puts-known (refuses n z ne) e = ne e
 puts-known (queues m to l listens free mine reads row short fits) e = omega arith
 
-nexts-known : {c : Connection} {store : List ℕ} {time : ℕ} {buf : List ℕ} {t : sending.Told} → Nexts c store time buf t → t .made .number ≡ 23 → ⊥
+nexts-known : {c : Connection} {store : List ℕ} {time : ℕ} {buf : List ℕ} {t : sending.Told} → Nexts c store time buf t → t .answer .number ≡ 23 → ⊥
 nexts-known (refuses n z ne) e = ne e
 nexts-known (serves i who room) e = omega arith
 
@@ -374,7 +324,9 @@ sound-step s w (next time buf) b k = sound-next s w k time buf
 sound-step s w status b k = k
 
 pub sound-run : (s : Settings) (w : World) (cs : List Call) → AllReal cs → Sound s w → Sound s (run step w cs)
-sound-run s w cs a k = keeps-real step (Sound s) (sound-step s) cs w a k
+unfolding run AllReal
+sound-run s w [] a k = k
+sound-run s w (c ∷ cs) (b, a) k = sound-run s (step w c .world) cs a (sound-step s w c b k)
 
 -- T10
 pub in-range-for-ever : InRangeForEver

@@ -1,15 +1,16 @@
 -- What feeding leaves of a record besides its range, byte by byte: its shape, and that what has not come is 0.
 -- Assumes nothing.
 use mathlib.Core.Path.{_≡_, refl, _∙_}
-use mathlib.Core.Bool.{true, cond}
+use mathlib.Core.Bool.{true, false, cond}
 use mathlib.Core.List.{List, [], _∷_}
-use Prim.Native.Nat.{ℕ, zero, suc, _+_, _-_, _≤_}
+use Prim.Native.Nat.{ℕ, _+_, _-_, _≤_}
 use native.Mathlib.Omega.{arith}
 use lib.Dec.{eqb, leb, ltb}
-use lib.ListN.{length, getD, replicate, length-set}
+use lib.ListN.{length, getD, length-set}
 use lib.Seq.{getD-set-other}
 use borrow.Author.Tests.{eq-eqb}
 use Rattle.base.proofs.Conds.{cond-cases}
+use Rattle.base.proofs.ListLaws.{zeros}
 use Rattle.wire.specs.declared.segment.Header.{Header}
 use Rattle.wire.specs.declared.instances.Side.{Side}
 use Rattle.wire.specs.Segments.{headerLength, empty, added}
@@ -19,23 +20,17 @@ use Rattle.connection.specs.Closings.{isOpen}
 use Rattle.connection.specs.Ranges.{receives}
 use Rattle.feeding.specs.declared.Admission.{Admission}
 use Rattle.feeding.specs.declared.Admission.the-variants.{Fault, Payload}
-use Rattle.feeding.specs.Feeding.{State, admission, settled, headed, kept, step, fed, Told, given, accepted, refused, taken, feedOf}
+use Rattle.feeding.specs.Feeding.{Reception, admission, settled, headed, kept, step, fed, used, Told, told, given, answered, refused, feedOpen, feedOf}
 
 abbrev pub Blank : Header → Type 0
 Blank h = (k : ℕ) → h .count ≤ k → getD (h .bytes) k 0 ≡ 0
 
 -- what feeding keeps
-pub record Tidy (starts : List ℕ) (s : State) : Type 0 where
+pub record Tidy (starts : List ℕ) (s : Reception) : Type 0 where
   pub places : s .receiving .starts ≡ starts
   pub many : length (s .receiving .held) ≡ instances
   pub blank : Blank (s .receiving .header)
   pub idle : s .receiving .rest ≡ 0 → s .receiving .instance ≡ 0
-
--- an array of zeros has zeros
-pub zeros : (n k : ℕ) → _≡_ {A = ℕ} (getD (replicate n 0) k 0) 0
-zeros zero k = refl
-zeros (suc n) zero = refl
-zeros (suc n) (suc k) = zeros n k
 
 pub blank-empty : Blank empty
 blank-empty k h = zeros headerLength k
@@ -51,11 +46,11 @@ idle-for : (n i : ℕ) → n ≡ 0 → cond (eqb n 0) 0 i ≡ 0
 idle-for n i z = rw (eq-eqb n 0 z)
 
 module _ (side : Side) (caps starts : List ℕ) where
-  tidy-settled : (s : State) (a : Admission) → Tidy starts s → Tidy starts (settled s a)
+  tidy-settled : (s : Reception) (a : Admission) → Tidy starts s → Tidy starts (settled s a)
   tidy-settled s (Fault x) t = record { places = t .places; many = t .many; blank = blank-empty; idle = t .idle }
   tidy-settled s (Payload i n) t = record { places = t .places; many = t .many; blank = blank-empty; idle = idle-for n i }
 
-  tidy-step : (s : State) (b : ℕ) → Tidy starts s → Tidy starts (step side caps s b)
+  tidy-step : (s : Reception) (b : ℕ) → Tidy starts s → Tidy starts (step side caps s b)
   unfolding step headed kept
   tidy-step s b t =
       let r = s .receiving in
@@ -75,21 +70,25 @@ module _ (side : Side) (caps starts : List ℕ) where
       }))
       (λ o. t)
 
-  tidy-fed : (s : State) (xs : List ℕ) → Tidy starts s → Tidy starts (fed side caps s xs)
+  pub tidy-fed : (s : Reception) (xs : List ℕ) → Tidy starts s → Tidy starts (fed side caps s xs)
   unfolding fed
   tidy-fed s [] t = t
   tidy-fed s (x ∷ xs) t = tidy-fed (step side caps s x) xs (tidy-step s x t)
 
--- Nothing changes, or bytes are fed: only what was received, the gate and the receive store change.
-pub data Feeds (c : Connection) (st xs : List ℕ) : Told → Type 0 where
-  stays : (n : ℕ) → Feeds c st xs (refused n c st)
-  feeds : (n : ℕ) (s : State) → Tidy (c .receiving .starts) s → Feeds c st xs (accepted c n s)
+-- ---- a call
 
-pub feed-way : (c : Connection) (st xs : List ℕ) → receives c (length st) ≡ true → Tidy (c .receiving .starts) (given c st)
-    → Feeds c st xs (feedOf c st xs)
-unfolding feedOf taken
-feed-way c st xs r t =
-    rw r
-    (cond-cases (Feeds c st xs) (isOpen (c .gate))
-    (λ o. feeds _ _ (tidy-fed (c .settings .side) (c .settings .receive) (c .receiving .starts) (given c st) xs t))
-    (λ o. stays 20))
+-- the state that a run leaves, and how many of its bytes are used
+abbrev pub ends : Connection → List ℕ → List ℕ → Reception
+ends c st xs = fed (c .settings .side) (c .settings .receive) (given c st) xs
+
+abbrev pub uses : Connection → List ℕ → List ℕ → ℕ
+uses c st xs = used (c .settings .side) (c .settings .receive) (given c st) xs
+
+-- A feed to a record in range with its store: the gate is closed and nothing changes, or bytes are fed.
+pub data Feeds (c : Connection) (st xs : List ℕ) : Told → Type 0 where
+  shut : isOpen (c .gate) ≡ false → Feeds c st xs (told (refused c 20) st)
+  bytes : isOpen (c .gate) ≡ true → Feeds c st xs (answered c (uses c st xs) (ends c st xs))
+
+pub feed-way : (c : Connection) (st xs : List ℕ) → receives c (length st) ≡ true → Feeds c st xs (feedOf c st xs)
+unfolding feedOf feedOpen
+feed-way c st xs r = rw r (cond-cases (Feeds c st xs) (isOpen (c .gate)) (λ o. bytes o) (λ o. shut o))

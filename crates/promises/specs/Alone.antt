@@ -1,13 +1,13 @@
 -- T14, document 01's "A take on instance i depends on ..": what a take answers and writes rests on nothing else, from open on.
 use Prim.Native.Nat.{ℕ}
 use mathlib.Core.Path.{_≡_}
-use mathlib.Core.Bool.{Bool, true, false, cond, not}
+use mathlib.Core.Bool.{Bool, true, false, cond}
 use mathlib.Core.List.{List, []}
+use mathlib.Core.Option.{Option, none, some}
 use lib.Dec.{eqb}
 use Rattle.wire.specs.declared.instances.Side.{Side}
 use Rattle.wire.specs.Segments.{Carried, Divided}
 use Rattle.connection.specs.declared.Settings.{Settings}
-use Rattle.connection.specs.Closings.{isOpen}
 use Rattle.promises.specs.Trace.{run, trace}
 use Rattle.promises.specs.Calls.{Call, take, Answer, fed, taken, queued, made, told, step, AllReal, Opened, first}
 use Rattle.promises.specs.History.{Past, bytesIn, Act, acts, receivedIn, endsInAccept, firstFault}
@@ -21,6 +21,11 @@ pub record Seen : Type 0 where
   pub accepted : Bool
   pub closed : Bool
 
+-- whether there is a closing
+abbrev pub anyClosing : Option (ℕ × Option ℕ) → Bool
+anyClosing none = false
+anyClosing (some x) = true
+
 -- what a history shows of these, its bytes being divided into segments and what is left
 abbrev pub seenBy : Side → Past → List Carried → List ℕ → ℕ → Seen
 seenBy side past segments left i =
@@ -29,7 +34,7 @@ seenBy side past segments left i =
       bytes = receivedIn side i segments left;
       acts = acts i past;
       accepted = endsInAccept (acts 0 past);
-      closed = not (isOpen (firstFault side [] past));
+      closed = anyClosing (firstFault side [] past);
     }
 
 -- the same, but closed or not

@@ -51,8 +51,8 @@ step w (feed xs) =
 step w (take i buf) =
     let r = takeOf (w .connection) (w .receive) i buf in
     record {
-      world = record { connection = r .taken .connection; receive = w .receive; send = w .send };
-      answer = taken (r .taken .number) (r .taken .len) (r .taken .message) (r .buffer);
+      world = record { connection = r .answer .connection; receive = w .receive; send = w .send };
+      answer = taken (r .answer .number) (r .answer .len) (r .answer .message) (r .buffer);
     }
 step w (put i xs) =
     let r = putOf (w .connection) (w .send) i xs in
@@ -63,8 +63,8 @@ step w (put i xs) =
 step w (next time buf) =
     let r = nextOf (w .connection) (w .send) time buf in
     record {
-      world = record { connection = r .made .connection; receive = w .receive; send = w .send };
-      answer = made (r .made .number) (r .made .len) (r .buffer);
+      world = record { connection = r .answer .connection; receive = w .receive; send = w .send };
+      answer = made (r .answer .number) (r .answer .len) (r .buffer);
     }
 step w status = record { world = w; answer = told (statusOf (w .connection)) }
 
@@ -80,12 +80,10 @@ unfoldable pub AllReal : List Call → Type 0
 AllReal [] = Unit {0}
 AllReal (c ∷ cs) = Real c × AllReal cs
 
--- An open answered 0, with what every call of open has: arrays of as many entries as there are instances, and stores of bytes.
+-- An open answered 0, with what every call of open has: arrays of as many entries as there are instances.
 pub record Opened (s : Settings) (receive send : List ℕ) : Type 0 where
   pub receives : length (s .receive) ≡ instances
   pub sends : length (s .send) ≡ instances
-  pub receive-bytes : Bytes receive
-  pub send-bytes : Bytes send
   pub done : openOf s (length receive) (length send) .number ≡ 0
 
 -- the world that open leaves

@@ -1,7 +1,7 @@
 -- P1 to P12 (document 01, "Checked examples"): one table, and what each of its entries says.
-use Prim.Native.Nat.{ℕ, zero, suc}
+use Prim.Native.Nat.{ℕ, zero, suc, _*_}
 use mathlib.Core.Path.{_≡_}
-use mathlib.Core.Bool.{true, false, cond}
+use mathlib.Core.Bool.{false, cond}
 use mathlib.Core.List.{List, [], _∷_, _++_}
 use lib.Dec.{eqb}
 use lib.ListN.{take, drop, replicate, set}
@@ -9,12 +9,13 @@ use Rattle.wire.specs.declared.segment.Segment.{Segment}
 use Rattle.wire.specs.declared.instances.Side.the-variants.{Dialler, Accepter}
 use Rattle.wire.specs.declared.instances.Route.the-variants.{To}
 use Rattle.wire.specs.Segments.{headerLength, empty, decoded, encoded}
-use Rattle.wire.specs.Instances.{routeOf}
+use Rattle.wire.specs.Instances.{instances, routeOf}
 use Rattle.item.specs.declared.Verdict.{Verdict}
 use Rattle.item.specs.declared.Verdict.the-variants.{Whole, Bad, Incomplete}
 use Rattle.item.specs.Verdict.{verdict}
 use Rattle.rows.specs.declared.Protocol.{Protocol}
 use Rattle.rows.specs.declared.Protocol.the-variants.{ChainSync, KeepAlive}
+use Rattle.rows.specs.Spoken.{speaks}
 use Rattle.messages.specs.declared.Message.{Message}
 use Rattle.messages.specs.Reading.{messageOf, read, numberOf}
 use Rattle.ready.specs.declared.Ready.{Ready}
@@ -24,19 +25,23 @@ use Rattle.connection.specs.Statuses.{statusOf}
 use Rattle.feeding.specs.Feeding.{feedOf}
 use Rattle.sending.specs.NextSegment.{nextOf}
 
+abbrev pub none : List ℕ
+none = replicate instances 0
+
+-- the bytes of a store
+abbrev pub store : List ℕ
+store = replicate (instances * 16) 0
+
 -- a connection with capacities of 16, S = 4 and turn 1: so much is held, and so much waits, by instance
 abbrev pub holding : List ℕ → List ℕ → Connection
 holding held waiting =
     record {
-      settings = record { side = Dialler; limit = 4; receive = replicate 9 16; send = replicate 9 16 };
-      receiving = record { starts = replicate 9 0; held = held; header = empty; instance = 0; rest = 0 };
-      sending = record { starts = replicate 9 0; waiting = waiting; turn = 1 };
-      talk = record { states = replicate 9 0; accepted = false };
+      settings = record { side = Dialler; limit = 4; receive = replicate instances 16; send = replicate instances 16 };
+      receiving = record { starts = none; held = held; header = empty; instance = 0; rest = 0 };
+      sending = record { starts = none; waiting = waiting; turn = 1 };
+      talk = record { states = none; accepted = false };
       gate = Open;
     }
-
-abbrev pub none : List ℕ
-none = replicate 9 0
 
 -- what the next k segments say, read back from the buffer, up to one that is not made, and the last number
 pub record Made : Type 0 where
@@ -49,19 +54,19 @@ after s m = record { segments = s ∷ m .segments; number = m .number }
 unfoldable pub made : ℕ → Connection → Made
 made zero c = record { segments = []; number = 0 }
 made (suc k) c =
-    let r = nextOf c (replicate 144 0) 0 (replicate 16 0) in
-    cond (eqb (r .made .number) 0) (after (decoded (take headerLength (r .buffer))) (made k (r .made .connection)))
-    (record { segments = []; number = r .made .number })
+    let r = nextOf c store 0 (replicate 16 0) in
+    cond (eqb (r .answer .number) 0) (after (decoded (take headerLength (r .buffer))) (made k (r .answer .connection)))
+    (record { segments = []; number = r .answer .number })
 
 pub data Example : Type 0 where
-  -- a segment's bytes, what its header says, the instance that it is for on either side, and the message in it
+  -- a segment's bytes, what its header says, the instance that it is for on either side, what that speaks, and the message in it
   carries : List ℕ → Segment → ℕ → Protocol → Message → Example
   -- bytes that are this message, and bytes that are none
   says : Protocol → List ℕ → Message → Example
   saysNothing : Protocol → List ℕ → Example
   -- the verdict on bytes
   judged : List ℕ → Verdict → Example
-  -- with 13 bytes held at instance 8, a header of n bytes for it is answered so
+  -- with 13 bytes held at instance 8, a header that announces n bytes for it is answered so
   answered : ℕ → ℕ → Example
   -- with these bytes waiting, status tells this of who is ready, and these segments are made, and then this number answered
   serves : List ℕ → Ready → Made → Example
@@ -71,12 +76,13 @@ Holds (carries bs s i p m) =
     (decoded (take headerLength bs) ≡ s)
     × (routeOf Dialler (s .protocol) (s .mode) ≡ To i)
     × (routeOf Accepter (s .protocol) (s .mode) ≡ To i)
+    × (speaks i ≡ p)
     × (messageOf p (drop headerLength bs) ≡ read m)
 Holds (says p bs m) = messageOf p bs ≡ read m
 Holds (saysNothing p bs) = numberOf (messageOf p bs .reading) ≡ 15
 Holds (judged bs v) = verdict bs ≡ v
 Holds (answered n k) =
-    feedOf (holding (set none 8 13) none) (replicate 144 0) (encoded (record { time = 0; mode = 0; protocol = 8; len = n })) .answer .number ≡ k
+    feedOf (holding (set none 8 13) none) store (encoded (record { time = 0; mode = 0; protocol = 8; len = n })) .answer .number ≡ k
 Holds (serves waiting r m) = (statusOf (holding none waiting) .ready ≡ r) × (made 5 (holding none waiting) ≡ m)
 
 -- a Keep-alive message with its cookie, which has no places; and a Chain-Sync message with its places

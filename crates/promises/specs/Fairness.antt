@@ -2,27 +2,25 @@
 use Prim.Native.Nat.{ℕ, _+_, _-_, _*_, _/_, _≤_, _<_}
 use mathlib.Core.Path.{_≡_}
 use mathlib.Core.Bool.{Bool, true, cond, _&&_}
-use mathlib.Core.List.{List, [], _∷_, _++_}
+use mathlib.Core.List.{List, [], _∷_, _++_, flatMap}
 use mathlib.Core.Logic.{_↔_}
 use lib.Dec.{eqb}
 use lib.ListN.{length, getD, drop}
 use lib.ListN as list
-use Rattle.ring.specs.Ring.{baseOf, stream}
 use Rattle.wire.specs.declared.segment.Segment.{Segment}
 use Rattle.wire.specs.declared.instances.Side.{Side}
 use Rattle.wire.specs.Segments.{headerLength, decoded}
 use Rattle.wire.specs.Instances.{instances, protocolOf, modeOf}
 use Rattle.connection.specs.declared.Settings.{Settings}
 use Rattle.connection.specs.Closings.{isOpen}
+use Rattle.connection.specs.Parts.{waitingOf}
 use Rattle.promises.specs.Trace.{Event, run, trace}
 use Rattle.promises.specs.Calls.{Call, next, Answer, fed, taken, queued, made, told, World, step, AllReal, Opened, first}
 use Rattle.promises.specs.Reached.{waits, numberOf}
 
 -- the bytes of instance i that wait: those of its stream from its start place on
 abbrev pub queue : World → ℕ → List ℕ
-queue w i =
-    let caps = w .connection .settings .send in
-    stream (w .send) (baseOf caps i) (getD caps i 0) (getD (w .connection .sending .starts) i 0) (waits w i)
+queue w i = waitingOf (w .connection) (w .send) i
 
 -- ---- segments
 
@@ -36,8 +34,7 @@ segmentOf (told report) = []
 
 -- the segments made, in order
 unfoldable pub segments : List (Event Call Answer) → List (List ℕ)
-segments [] = []
-segments (e ∷ es) = segmentOf (e .answer) ++ segments es
+segments past = flatMap (λ e. segmentOf (e .answer)) past
 
 -- what a segment's header says, and what follows it
 abbrev pub header : List ℕ → Segment
@@ -52,8 +49,7 @@ isOf side i bs = eqb (header bs .mode) (modeOf side i) && eqb (header bs .protoc
 
 -- the bytes of instance i in segments, end to end
 unfoldable pub sentBy : Side → ℕ → List (List ℕ) → List ℕ
-sentBy side i [] = []
-sentBy side i (bs ∷ ss) = cond (isOf side i bs) (payload bs) [] ++ sentBy side i ss
+sentBy side i ss = flatMap (λ bs. cond (isOf side i bs) (payload bs) []) ss
 
 -- One of the segments, for instance i and as long as its header says, carries byte b, in front of which there are p bytes of i:
 -- those in the segments in front of it, and those in front of b in its own payload.

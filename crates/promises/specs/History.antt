@@ -3,6 +3,7 @@ use Prim.Native.Nat.{ℕ, _-_, _/_, _%_, _^_, _≤_, _<_, min}
 use mathlib.Core.Path.{_≡_}
 use mathlib.Core.Bool.{Bool, true, false, cond, not, _&&_}
 use mathlib.Core.List.{List, [], _∷_, _++_, flatMap, flatten}
+use mathlib.Core.Option.{Option, none, some, orElse}
 use lib.Dec.{eqb, leb, ltb}
 use lib.ListN.{length, getD, take, drop}
 use lib.Count.{ones}
@@ -20,13 +21,11 @@ use Rattle.rows.specs.Spoken.{speaks}
 use Rattle.messages.specs.declared.Message.{Message}
 use Rattle.messages.specs.Reading.{messageOf, read, flagOf}
 use Rattle.connection.specs.declared.Settings.{Settings}
-use Rattle.connection.specs.declared.Closing.the-variants.{Bare, Of}
-use Rattle.connection.specs.declared.Gate.{Gate}
-use Rattle.connection.specs.declared.Gate.the-variants.{Open, Closed}
 use Rattle.connection.specs.declared.telling.Report.{Report}
-use Rattle.connection.specs.Closings.{isOpen}
+use Rattle.connection.specs.Closings.{closingOf}
 use Rattle.judging.specs.Judging.{holds, ours}
-use Rattle.taking.specs.Taking.{heldOf}
+use Rattle.taking.specs.Taking.{faulty}
+use Rattle.connection.specs.Parts.{heldOf}
 use Rattle.promises.specs.Trace.{Event, run, trace}
 use Rattle.promises.specs.Calls as calls
 use Rattle.promises.specs.Calls.{Call, Answer, World, step, Real, AllReal, Opened, first}
@@ -163,7 +162,7 @@ pub record Sends (s : Settings) (past : Past) (w : World) : Type 0 where
       → getD (w .send) (place (baseOf (s .send) i) (getD (s .send) i 0) n) 0 ≡ getD (putFor i past) n 0
 
 -- A segment that is made reads back as it was written: the given time, mode and protocol number of what we send as an instance, the smaller of S
--- and the bytes waiting, at least one; and the first of these bytes.
+-- and the bytes waiting, at least one; and the first of these bytes. Of Handshake that is all that waits: a message is always in one segment.
 pub record Segmented (s : Settings) (w : World) (time : ℕ) (bs : List ℕ) : Type 0 where
   pub instance : ℕ
   pub within : instance < instances
@@ -171,6 +170,7 @@ pub record Segmented (s : Settings) (w : World) (time : ℕ) (bs : List ℕ) : T
       ≡ record { time = time; mode = modeOf (s .side) instance; protocol = protocolOf instance; len = min (s .limit) (waits w instance) }
   pub some : 1 ≤ min (s .limit) (waits w instance)
   pub carries : payload bs ≡ take (min (s .limit) (waits w instance)) (queue w instance)
+  pub whole : instance ≡ 0 → payload bs ≡ queue w 0
 
 -- ---- T11 (c): the states
 
@@ -214,36 +214,31 @@ lastRoute side bs =
     let d = decoded (drop (length bs - headerLength) bs) in
     routeOf side (d .protocol) (d .mode)
 
-abbrev pub instanceOf : Route → ℕ
-instanceOf route.Unknown = 0
-instanceOf (route.Wrong j) = j
-instanceOf (route.To j) = j
+-- the instance that a route names, where there is one
+abbrev pub routed : Route → Option ℕ
+routed route.Unknown = none
+routed (route.Wrong j) = some j
+routed (route.To j) = some j
 
 -- The closing of a fault that a call answered, if it answered one, where bs are the bytes so far: of 11 to 13 from feed, whose last used bytes are
--- the refused header, and of 14 to 17 from take.
-abbrev pub faultBy : Side → List ℕ → Call → Answer → Gate
-faultBy side bs (calls.feed xs) a =
-    cond (eqb (numberOf a) 11) (Closed (Bare 11))
-    (cond (eqb (numberOf a) 12) (Closed (Of 12 0)) (cond (eqb (numberOf a) 13) (Closed (Of 13 (instanceOf (lastRoute side bs)))) Open))
-faultBy side bs (calls.take j buf) a = cond (leb 14 (numberOf a) && leb (numberOf a) 17) (Closed (Of (numberOf a) j)) Open
-faultBy side bs (calls.put j xs) a = Open
-faultBy side bs (calls.next time buf) a = Open
-faultBy side bs calls.status a = Open
-
-abbrev pub orElse : Gate → Gate → Gate
-orElse Open g = g
-orElse (Closed x) g = Closed x
+-- the refused header, with the instance that it names; and of 14 to 17 from take.
+abbrev pub faultBy : Side → List ℕ → Call → Answer → Option (ℕ × Option ℕ)
+faultBy side bs (calls.feed xs) a = cond (leb 11 (numberOf a) && leb (numberOf a) 13) (some (numberOf a, routed (lastRoute side bs))) none
+faultBy side bs (calls.take j buf) a = cond (faulty (numberOf a)) (some (numberOf a, some j)) none
+faultBy side bs (calls.put j xs) a = none
+faultBy side bs (calls.next time buf) a = none
+faultBy side bs calls.status a = none
 
 -- the closing of the first fault answered, with bs the bytes before
-unfoldable pub firstFault : Side → List ℕ → Past → Gate
-firstFault side bs [] = Open
+unfoldable pub firstFault : Side → List ℕ → Past → Option (ℕ × Option ℕ)
+firstFault side bs [] = none
 firstFault side bs (e ∷ past) =
     let now = bs ++ usedBy (e .call) (e .answer) in
     orElse (faultBy side now (e .call) (e .answer)) (firstFault side now past)
 
 -- The connection is closed by the first fault answered, and open if none was.
 abbrev pub Closes : Settings → Past → World → Type 0
-Closes s past w = w .connection .gate ≡ firstFault (s .side) [] past
+Closes s past w = closingOf (w .connection .gate) ≡ firstFault (s .side) [] past
 
 -- ---- T11
 
@@ -282,7 +277,7 @@ pub record Reports (s : Settings) (past : Past) (r : Report) : Type 0 where
   pub count : r .ready .count ≡ ones (r .ready .word)
   pub lowest : (i : ℕ) → i < instances → 0 < getD (r .waiting) i 0 → ((j : ℕ) → j < i → getD (r .waiting) j 0 ≡ 0) → r .ready .lowest ≡ i
   pub none : ((i : ℕ) → i < instances → getD (r .waiting) i 0 ≡ 0) → r .ready .lowest ≡ 255
-  pub closing : r .gate ≡ firstFault (s .side) [] past
+  pub closing : closingOf (r .gate) ≡ firstFault (s .side) [] past
 
 abbrev pub StatusTells : Type 0
 StatusTells =
@@ -301,7 +296,7 @@ pub record Shut (w : World) : Type 0 where
   pub takes : (i : ℕ) (buf : List ℕ)
       → let v = step w (calls.take i buf) .world in
       (v .receive ≡ w .receive) × (v .send ≡ w .send) × (v .connection .sending ≡ w .connection .sending)
-      × (v .connection .gate ≡ w .connection .gate)
+      × (closingOf (v .connection .gate) ≡ closingOf (w .connection .gate))
   pub refuses : (i : ℕ) (buf : List ℕ) → (numberOf (step w (calls.take i buf) .answer) ≡ 0 → ⊥) → step w (calls.take i buf) .world ≡ w
 
 -- nothing comes in, nothing is put and nothing is sent
@@ -315,5 +310,5 @@ abbrev pub AfterFault : Type 0
 AfterFault =
     (s : Settings) (receive send : List ℕ) → Opened s receive send → (cs ds : List Call) → AllReal cs → AllReal ds
     → let w = run step (first s receive send) cs in
-    isOpen (w .connection .gate) ≡ false
-    → Shut w × Nothing (trace step w ds) × (run step w ds .connection .gate ≡ w .connection .gate)
+    (closing : ℕ × Option ℕ) → closingOf (w .connection .gate) ≡ some closing
+    → Shut w × Nothing (trace step w ds) × (closingOf (run step w ds .connection .gate) ≡ some closing)

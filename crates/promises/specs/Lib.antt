@@ -6,3 +6,4 @@ pub mod Reached
 pub mod Fairness
 pub mod History
 pub mod Alone
+pub mod Arrival

@@ -8,7 +8,7 @@ use Rattle.ring.specs.Ring.{together}
 use Rattle.connection.specs.declared.Settings.{Settings}
 use Rattle.connection.specs.Shapes.{Shaped}
 use Rattle.connection.specs.Ranges.{inRange}
-use Rattle.feeding.specs.Feeds.{Spelt}
+use Rattle.feeding.specs.Numbers.{Spelt}
 use Rattle.promises.specs.Trace.{run}
 use Rattle.promises.specs.Calls.{Call, Answer, fed, taken, queued, made, told, World, step, AllReal, Opened, first}
 

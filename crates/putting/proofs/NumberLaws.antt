@@ -1,68 +1,52 @@
--- Which number put answers, and what a call leaves: `exactly`, `untouched`, `once` and `keeps`.
+-- Which number put answers, and what a call leaves: `exactly`, `untouched`, `once` and `keeps`. Where the "when" of a number holds, the call is
+-- refused with it; one walk through the tests finds a "when" that holds.
 -- Assumes nothing.
 use mathlib.Core.Path.{_≡_, refl, sym, ap, subst, _∙_}
 use mathlib.Core.Bool.{true, false, cond, _&&_}
 use mathlib.Core.List.{List}
-use mathlib.Core.Logic.{_≢_}
+use mathlib.Core.Logic.{_↔_, _≢_}
 use Prim.Native.Nat.{ℕ, _+_, _<_, _≤_}
 use native.Mathlib.Omega.{arith}
 use lib.Dec.{eqb, ltb, leb}
 use lib.ListN.{length, getD, length-set}
 use lib.Seq.{getD-set-same, getD-set-other}
 use borrow.Author.Tests.{eq-eqb, lt-ltb, le-ltb, le-leb, lt-leb, eqb-true, eqb-false, ltb-true, ltb-false, leb-true, leb-false}
-use Rattle.base.proofs.Conds.{by-test}
+use Rattle.base.proofs.Conds.{by-test, equal-and, exactly-when}
 use Rattle.wire.specs.Instances.{instances}
 use Rattle.rows.specs.declared.Next.{Next}
 use Rattle.rows.specs.declared.Next.the-variants.{To, None}
 use Rattle.rows.specs.Spoken.{speaks}
 use Rattle.messages.specs.declared.Message.{Message}
 use Rattle.messages.specs.declared.Answer.{Answer}
-use Rattle.messages.specs.declared.Reading.{Reading}
-use Rattle.messages.specs.declared.Reading.the-variants.{Read, NotArray, UnknownKind, WrongCount, WrongField}
 use Rattle.messages.specs.Reading.{messageOf, numberOf, flagOf, read}
 use Rattle.messages.specs.Theorem.{Says}
 use Rattle.messages.proofs.Theorem.{reads-forms}
-use Rattle.ring.specs.Ring.{baseOf, together}
+use Rattle.ring.specs.Ring.{baseOf}
 use Rattle.ring.proofs.Stores.{laid-length}
 use Rattle.connection.specs.declared.Sending.{Sending}
 use Rattle.connection.specs.declared.Connection.{Connection}
 use Rattle.connection.specs.Shapes.{Shaped}
-use Rattle.connection.specs.Parts.{withSending}
+use Rattle.connection.specs.Parts.{withSending, InSend}
 use Rattle.connection.specs.Closings.{isOpen}
 use Rattle.connection.specs.Ranges.{sends}
 use Rattle.connection.proofs.RangeLaws as RangeLaws
-use Rattle.connection.proofs.RangeLaws.{ranged, in-range}
+use Rattle.connection.proofs.RangeLaws.{ranged, in-range, sends-both}
 use Rattle.judging.specs.declared.Judged.{Judged}
 use Rattle.judging.specs.Judging.{stateOf, ours, barred, leadsTo, unjudged, byRow, judgedOf}
-use Rattle.judging.proofs.JudgingLaws.{judged-wrong, judged-read}
+use Rattle.judging.proofs.JudgingLaws.{judged-wrong, judged-read, led, Judges, not-read, not-led, message, judges}
 use Rattle.judging.proofs.Moving.{moved-ranged, moved-shaped}
 use Rattle.putting.specs.declared.Queued.{Queued}
-use Rattle.putting.specs.Putting.{Told, told, refusedOf, earlyOf, judgeOf, queuedOf, queued, stored, room, putOf}
-use Rattle.putting.specs.Numbers.{Ranged, Within, Open, Allowed, OurTurn, Moves, Whole, Numbers, Exactly, Untouched, Once, Kept, Keeps}
+use Rattle.putting.specs.Putting.{Told, told, refused, earlyOf, judgeOf, longerOf, queued, stored, queue, putOf}
+use Rattle.putting.specs.Numbers.{Unclosed, Allowed, OurTurn, Moves, InOneSegment, Numbers, Exactly, Untouched, Once, Kept, Keeps}
 use Rattle.putting.proofs.PuttingLaws.{judge-early, judge-bytes, no-room, has-room}
-use Rattle.putting.proofs.PuttingLaws.{put-unranged, put-above, put-lends, put-refused, put-judged}
-
--- what reading answers is a message, or it is 15
-by-reading : {P : Type 0} (a : Answer) → ((m : Message) → a ≡ read m → P) → (numberOf (a .reading) ≡ 15 → P) → P
-by-reading {P} a f g = of (a .reading) refl
-  where
-    of : (x : Reading) → a .reading ≡ x → P
-    of Read e = f (a .message) (ap (λ (x : Reading). record { reading = x; message = a .message }) e)
-    of NotArray e = g (ap numberOf e)
-    of UnknownKind e = g (ap numberOf e)
-    of WrongCount e = g (ap numberOf e)
-    of (WrongField k) e = g (ap numberOf e)
-
-by-next : {P : Type 0} (x : Next) → ((n : ℕ) → x ≡ To n → P) → (x ≡ None → P) → P
-by-next (To n) f g = f n refl
-by-next None f g = g refl
+use Rattle.putting.proofs.PuttingLaws.{put-unranged, put-above, put-refused, put-judged}
 
 module _ (c : Connection) (store : List ℕ) (i : ℕ) (xs : List ℕ) where
   abbrev out : Told
   out = putOf c store i xs
 
   abbrev Refuses : ℕ → Type 0
-  Refuses n = told (refusedOf c n) store ≡ out
+  Refuses n = told (refused c n) store ≡ out
 
   abbrev cap : ℕ
   cap = getD (c .settings .send) i 0
@@ -71,23 +55,23 @@ module _ (c : Connection) (store : List ℕ) (i : ℕ) (xs : List ℕ) where
   sum = getD (c .sending .waiting) i 0 + length xs
 
   -- the "when" of each number, as in `Numbers`; no other number has one
-  abbrev When : ℕ → Type 0
+  abbrev pub When : ℕ → Type 0
   When n =
       cond (eqb n 23) (sends c (length store) ≡ false)
-      (cond (eqb n 10) (Ranged c store × (instances ≤ i))
-      (cond (eqb n 20) (Within c store i × (isOpen (c .gate) ≡ false))
-      (cond (eqb n 19) (Open c store i × (barred (c .talk) i ≡ true))
+      (cond (eqb n 10) ((sends c (length store) ≡ true) × (instances ≤ i))
+      (cond (eqb n 20) (InSend c store i × (isOpen (c .gate) ≡ false))
+      (cond (eqb n 19) (Unclosed c store i × (barred (c .talk) i ≡ true))
       (cond (eqb n 21) (Allowed c store i × (ours (c .settings .side) i (stateOf c i) ≡ false))
       (cond (eqb n 15) (OurTurn c store i × ((m : Message) → Says (speaks i) xs m → ⊥))
       (cond (eqb n 16) (OurTurn c store i × ((m : Message) × Says (speaks i) xs m × (leadsTo c i m ≡ None)))
       (cond (eqb n 24) (Moves c store i xs × (i ≡ 0) × (c .settings .limit < length xs))
-      (cond (eqb n 22) (Whole c store i xs × (cap < sum))
-      (cond (eqb n 0) (Whole c store i xs × (sum ≤ cap))
+      (cond (eqb n 22) (InOneSegment c store i xs × (cap < sum))
+      (cond (eqb n 0) (InOneSegment c store i xs × (sum ≤ cap))
       ⊥)))))))))
 
   -- ---- where its "when" holds, a number is answered
 
-  early-out : (n : ℕ) → Within c store i → n ≡ earlyOf c i → n ≢ 0 → Refuses n
+  early-out : (n : ℕ) → InSend c store i → n ≡ earlyOf c i → n ≢ 0 → Refuses n
   early-out n (r, h) e ne = put-refused c store i xs r h (unjudged n) (judge-early c i xs n e ne) ne
 
   -- the bytes decide
@@ -105,7 +89,7 @@ module _ (c : Connection) (store : List ℕ) (i : ℕ) (xs : List ℕ) where
       judged-read (speaks i) (stateOf c i) xs (read m) 0 (length xs) (flagOf (speaks i) m) x a refl refl refl refl (sym e)
 
   moved-out : OurTurn c store i → (m : Message) (next : ℕ) → Says (speaks i) xs m → leadsTo c i m ≡ To next
-      → room c store i xs (byRow (length xs) m (To next)) ≡ out
+      → queue c store i xs (byRow (length xs) m (To next)) ≡ out
   moved-out t m next s e =
       let (r, h) = t .0 .0 .0 in
       let j : Judged = byRow (length xs) m (To next) in
@@ -131,10 +115,13 @@ module _ (c : Connection) (store : List ℕ) (i : ℕ) (xs : List ℕ) where
   o21 (((w, o), b), u) = early-out 21 w (rw (o, b, u)) (λ z. omega arith)
 
   o15 : When 15 → Refuses 15
-  o15 (t, none) =
-      by-reading (messageOf (speaks i) xs) (λ m e. absurd (none m (reads-forms (speaks i) xs m .0 e)))
-      (λ e.
-      unjudged-out 15 t (judged-wrong (speaks i) (stateOf c i) xs (messageOf (speaks i) xs) 15 refl (sym e) (λ z. omega arith)) (λ z. omega arith))
+  o15 (t, none) = of (judgedOf (speaks i) (stateOf c i) xs) (judges (speaks i) (stateOf c i) xs)
+    where
+      of : (j : Judged) → Judges (speaks i) (stateOf c i) xs j → Refuses 15
+      of j (not-read z) =
+          unjudged-out 15 t (judged-wrong (speaks i) (stateOf c i) xs (messageOf (speaks i) xs) 15 refl (sym z) (λ z. omega arith)) (λ z. omega arith)
+      of j (not-led m e x) = absurd (none m (reads-forms (speaks i) xs m .0 e))
+      of j (message m next e x) = absurd (none m (reads-forms (speaks i) xs m .0 e))
 
   o16 : When 16 → Refuses 16
   o16 (t, (m, s, e)) = unjudged-out 16 t (row-judged m None s e) (λ z. omega arith)
@@ -150,67 +137,64 @@ module _ (c : Connection) (store : List ℕ) (i : ℕ) (xs : List ℕ) where
 
   -- what 0 leaves
   abbrev Queues : Message → ℕ → Type 0
-  Queues m next = told (record { number = 0; connection = queued c i (length xs) (byRow (length xs) m (To next)) }) (stored c store i xs) ≡ out
+  Queues m next = told (record { number = 0; connection = queued c i (length xs) (led (length xs) m next) }) (stored c store i xs) ≡ out
 
-  o0 : When 0 → (m : Message) × (next : ℕ) × (leadsTo c i m ≡ To next) × Queues m next
-  o0 (((t, (m, s, (next, e))), l), f) = (
-    m,
-    next,
-    e,
-    has-room c store i xs (byRow (length xs) m (To next)) 0 (rw (in-one l, le-leb sum cap f)) _ _ refl refl refl ∙ moved-out t m next s e,
-  )
+  o0 : OurTurn c store i → (m : Message) (next : ℕ) → Says (speaks i) xs m → leadsTo c i m ≡ To next → (i ≡ 0 → length xs ≤ c .settings .limit)
+      → sum ≤ cap → Queues m next
+  o0 t m next s e l f =
+      has-room c store i xs (led (length xs) m next) 0 (rw (in-one l, le-leb sum cap f)) _ _ refl refl refl ∙ moved-out t m next s e
 
   -- ---- and one of them holds
 
-  data Way : Type 0 where
-    refuses : (n : ℕ) → When n → n ≢ 0 → Refuses n → Way
-    queues : When 0 → Way
+  -- the ways of a call: a refusal, or a message
+  pub data Way : Type 0 where
+    stays : (n : ℕ) → n ≢ 0 → When n → Refuses n → Way
+    gone : (m : Message) (next : ℕ) → OurTurn c store i → Says (speaks i) xs m → leadsTo c i m ≡ To next
+        → (i ≡ 0 → length xs ≤ c .settings .limit) → sum ≤ cap → Queues m next → Way
 
-  by-area : Whole c store i xs → Way
-  by-area v =
-      by-test (leb sum cap) (λ f. queues (v, leb-true sum cap f))
-      (λ f. let w : When 22 = (v, leb-false sum cap f) in refuses 22 w (λ z. omega arith) (o22 w))
+  by-area : OurTurn c store i → (m : Message) (next : ℕ) → Says (speaks i) xs m → leadsTo c i m ≡ To next
+      → (i ≡ 0 → length xs ≤ c .settings .limit) → Way
+  by-area t m next s e l =
+      by-test (leb sum cap) (λ f. let q = leb-true sum cap f in gone m next t s e l q (o0 t m next s e l q))
+      (λ f. let w : When 22 = (((t, (m, s, (next, e))), l), leb-false sum cap f) in stays 22 (λ z. omega arith) w (o22 w))
 
-  by-length : Moves c store i xs → Way
-  by-length v =
+  by-length : OurTurn c store i → (m : Message) (next : ℕ) → Says (speaks i) xs m → leadsTo c i m ≡ To next → Way
+  by-length t m next s e =
       by-test (eqb i 0)
       (λ q.
-      let z = eqb-true i 0 q in
       by-test (ltb (c .settings .limit) (length xs))
-      (λ l. let w : When 24 = (v, z, ltb-true (c .settings .limit) (length xs) l) in refuses 24 w (λ z. omega arith) (o24 w))
-      (λ l. by-area (v, λ z. ltb-false (c .settings .limit) (length xs) l)))
-      (λ q. by-area (v, λ z. absurd (eqb-false i 0 q z)))
+      (λ l.
+      let w : When 24 = ((t, (m, s, (next, e))), eqb-true i 0 q, ltb-true (c .settings .limit) (length xs) l) in
+      stays 24 (λ z. omega arith) w (o24 w))
+      (λ l. by-area t m next s e (λ z. ltb-false (c .settings .limit) (length xs) l)))
+      (λ q. by-area t m next s e (λ z. absurd (eqb-false i 0 q z)))
 
-  by-bytes : OurTurn c store i → Way
-  by-bytes t =
-      by-reading (messageOf (speaks i) xs)
-      (λ m a.
-      let s : Says (speaks i) xs m = reads-forms (speaks i) xs m .0 a in
-      by-next (leadsTo c i m) (λ next e. by-length (t, (m, s, (next, e))))
-      (λ e. let w : When 16 = (t, (m, s, e)) in refuses 16 w (λ z. omega arith) (o16 w)))
-      (λ a.
-      let w : When 15 = (t, λ m s. let z = ap (λ (x : Answer). numberOf (x .reading)) (reads-forms (speaks i) xs m .1 s) in omega arith) in
-      refuses 15 w (λ z. omega arith) (o15 w))
+  by-judged : OurTurn c store i → (j : Judged) → Judges (speaks i) (stateOf c i) xs j → Way
+  by-judged t j (not-read z) =
+      let w : When 15 = (t, λ m s. let q = ap (λ (x : Answer). numberOf (x .reading)) (reads-forms (speaks i) xs m .1 s) in omega arith) in
+      stays 15 (λ z. omega arith) w (o15 w)
+  by-judged t j (not-led m e x) =
+      let w : When 16 = (t, (m, reads-forms (speaks i) xs m .0 e, x)) in stays 16 (λ z. omega arith) w (o16 w)
+  by-judged t j (message m next e x) = by-length t m next (reads-forms (speaks i) xs m .0 e) x
 
   by-agency : Allowed c store i → Way
   by-agency a =
-      by-test (ours (c .settings .side) i (stateOf c i)) (λ u. by-bytes (a, u))
-      (λ u. refuses 21 (a, u) (λ z. omega arith) (o21 (a, u)))
+      by-test (ours (c .settings .side) i (stateOf c i)) (λ u. by-judged (a, u) _ (judges (speaks i) (stateOf c i) xs))
+      (λ u. stays 21 (λ z. omega arith) (a, u) (o21 (a, u)))
 
-  by-accept : Open c store i → Way
-  by-accept o =
-      by-test (barred (c .talk) i) (λ b. refuses 19 (o, b) (λ z. omega arith) (o19 (o, b))) (λ b. by-agency (o, b))
+  by-accept : Unclosed c store i → Way
+  by-accept o = by-test (barred (c .talk) i) (λ b. stays 19 (λ z. omega arith) (o, b) (o19 (o, b))) (λ b. by-agency (o, b))
 
-  by-gate : Within c store i → Way
-  by-gate w = by-test (isOpen (c .gate)) (λ o. by-accept (w, o)) (λ o. refuses 20 (w, o) (λ z. omega arith) (o20 (w, o)))
+  by-gate : InSend c store i → Way
+  by-gate w = by-test (isOpen (c .gate)) (λ o. by-accept (w, o)) (λ o. stays 20 (λ z. omega arith) (w, o) (o20 (w, o)))
 
-  by-instance : Ranged c store → Way
+  by-instance : sends c (length store) ≡ true → Way
   by-instance r =
       by-test (ltb i instances) (λ h. by-gate (r, ltb-true i instances h))
-      (λ h. let w : When 10 = (r, ltb-false i instances h) in refuses 10 w (λ z. omega arith) (o10 w))
+      (λ h. let w : When 10 = (r, ltb-false i instances h) in stays 10 (λ z. omega arith) w (o10 w))
 
-  way : Way
-  way = by-test (sends c (length store)) by-instance (λ r. refuses 23 r (λ z. omega arith) (o23 r))
+  pub way : Way
+  way = by-test (sends c (length store)) by-instance (λ r. stays 23 (λ z. omega arith) r (o23 r))
 
   -- ---- so each number exactly then
 
@@ -221,31 +205,31 @@ module _ (c : Connection) (store : List ℕ) (i : ℕ) (xs : List ℕ) where
   numbered n e = ap (λ (t : Told). t .answer .number) (sym e)
 
   zero-out : When 0 → number ≡ 0
-  zero-out w = let (m, next, e, q) = o0 w in ap (λ (t : Told). t .answer .number) (sym q)
+  zero-out (((t, (m, s, (next, e))), l), f) = ap (λ (t : Told). t .answer .number) (sym (o0 t m next s e l f))
 
-  only : Way → (n : ℕ) → number ≡ n → When n
-  only (refuses k w ne e) n q = subst When (sym (numbered k e) ∙ q) w
-  only (queues w) n q = subst When (sym (zero-out w) ∙ q) w
+  exact : Way → {n : ℕ} → (When n → number ≡ n) → (number ≡ n) ↔ When n
+  exact (stays k ne w e) = exactly-when When (numbered k e) w
+  exact (gone m next t s x l f e) = let w : When 0 = (((t, (m, s, (next, x))), l), f) in exactly-when When (zero-out w) w
 
   all : Numbers c store i xs
   all =
       record {
-        n23 = (only way 23, λ w. numbered 23 (o23 w));
-        n10 = (only way 10, λ w. numbered 10 (o10 w));
-        n20 = (only way 20, λ w. numbered 20 (o20 w));
-        n19 = (only way 19, λ w. numbered 19 (o19 w));
-        n21 = (only way 21, λ w. numbered 21 (o21 w));
-        n15 = (only way 15, λ w. numbered 15 (o15 w));
-        n16 = (only way 16, λ w. numbered 16 (o16 w));
-        n24 = (only way 24, λ w. numbered 24 (o24 w));
-        n22 = (only way 22, λ w. numbered 22 (o22 w));
-        n0 = (only way 0, zero-out);
+        n23 = exact way {n = 23} (λ w. numbered 23 (o23 w));
+        n10 = exact way {n = 10} (λ w. numbered 10 (o10 w));
+        n20 = exact way {n = 20} (λ w. numbered 20 (o20 w));
+        n19 = exact way {n = 19} (λ w. numbered 19 (o19 w));
+        n21 = exact way {n = 21} (λ w. numbered 21 (o21 w));
+        n15 = exact way {n = 15} (λ w. numbered 15 (o15 w));
+        n16 = exact way {n = 16} (λ w. numbered 16 (o16 w));
+        n24 = exact way {n = 24} (λ w. numbered 24 (o24 w));
+        n22 = exact way {n = 22} (λ w. numbered 22 (o22 w));
+        n0 = exact way {n = 0} zero-out;
       }
 
   untouched-by : Way → (r : Queued) (after : List ℕ) → told r after ≡ out → (r .number ≡ 0 → ⊥) → (r .connection ≡ c) × (after ≡ store)
-  untouched-by (refuses n w ne e) r after q z =
+  untouched-by (stays n ne w e) r after q z =
       let p = q ∙ sym e in (ap (λ (t : Told). t .answer .connection) p, ap (λ (t : Told). t .store) p)
-  untouched-by (queues w) r after q z = absurd (z (ap (λ (t : Told). t .answer .number) q ∙ zero-out w))
+  untouched-by (gone m next t s x l f e) r after q z = absurd (z (ap (λ (t : Told). t .answer .number) (q ∙ sym e)))
 
 pub exactly : Exactly
 exactly = all
@@ -259,7 +243,7 @@ once c store i xs r r′ after after′ e e′ = let q = e ∙ sym e′ in (ap (
 -- ---- the range
 
 -- n bytes more of instance i leave the arrays as long as they are
-longer-shaped : (c : Connection) (i n : ℕ) → Shaped c → Shaped (withSending c (queuedOf (c .sending) i n))
+longer-shaped : (c : Connection) (i n : ℕ) → Shaped c → Shaped (withSending c (longerOf (c .sending) i n))
 longer-shaped c i n s =
     record {
       receive = s .receive;
@@ -276,7 +260,7 @@ longer-shaped c i n s =
 module _ (c : Connection) (s : Shaped c) (r : RangeLaws.Ranged c) (i n : ℕ) (inside : i < instances)
     (fits : getD (c .sending .waiting) i 0 + n ≤ getD (c .settings .send) i 0) where
   abbrev more : Sending
-  more = queuedOf (c .sending) i n
+  more = longerOf (c .sending) i n
 
   longer-in : (j : ℕ) → j < instances
       → (getD (more .starts) j 0 < getD (c .settings .send) j 0) × (getD (more .waiting) j 0 ≤ getD (c .settings .send) j 0)
@@ -310,21 +294,16 @@ stored-long c store i xs =
 -- the message is queued and the state moves: the record is in range after the first, and so after the second
 module _ (c : Connection) (store : List ℕ) (i : ℕ) (xs : List ℕ) (s : Shaped c) (r : sends c (length store) ≡ true) where
   keeps-by : Way c store i xs → Kept c store (putOf c store i xs)
-  keeps-by (refuses n w ne e) = subst (Kept c store) e (record { ranged = r; shaped = s; long = refl; set = refl })
-  keeps-by (queues w) =
-      let (m, next, e, q) = o0 c store i xs w in
-      let inside : i < instances = w .0 .0 .0 .0 .0 .0 .1 in
-      let l = put-lends c store i xs r inside in
-      let fuller : Connection = withSending c (queuedOf (c .sending) i (length xs)) in
-      let k = longer-ranged c s (ranged c (l .ranged)) i (length xs) inside (w .1) in
-      let k′ = moved-ranged fuller i (m .kind) (flagOf (speaks i) m) next inside (s .states) k e in
-      subst (Kept c store) q
+  keeps-by (stays n ne w e) = subst (Kept c store) e (record { ranged = r; shaped = s; long = refl; set = refl })
+  keeps-by (gone m next t q x l f e) =
+      let inside : i < instances = t .0 .0 .0 .1 in
+      let p = sends-both c (length store) r in
+      let fuller : Connection = withSending c (longerOf (c .sending) i (length xs)) in
+      let k = longer-ranged c s (ranged c (p .0)) i (length xs) inside f in
+      let k′ = moved-ranged fuller i (m .kind) (flagOf (speaks i) m) next inside (s .states) k x in
+      subst (Kept c store) e
       (record {
-        ranged =
-            rw (
-              in-range (queued c i (length xs) (byRow (length xs) m (To next))) k′,
-              eq-eqb _ (together (c .settings .send)) (stored-long c store i xs ∙ l .stored),
-            );
+        ranged = equal-and (in-range (queued c i (length xs) (led (length xs) m next)) k′) (stored-long c store i xs ∙ p .1);
         shaped = moved-shaped fuller i (m .kind) next (longer-shaped c i (length xs) s);
         long = stored-long c store i xs;
         set = refl;

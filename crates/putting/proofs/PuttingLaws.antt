@@ -1,4 +1,4 @@
--- Laws of put: the ways out of the code.
+-- Laws of put: the area of an instance is in the store, and each way out of the code is the definition.
 -- Assumes nothing.
 use mathlib.Core.Path.{_≡_, sym, _∙_}
 use mathlib.Core.Bool.{true, false, _&&_}
@@ -8,19 +8,20 @@ use Prim.Native.Nat.{ℕ, _+_, _<_, _≤_, _^_}
 use native.Mathlib.Omega.{arith}
 use lib.Dec.{eqb, ltb, leb}
 use lib.ListN.{length, getD}
-use borrow.Author.Tests.{eq-eqb, ne-eqb, eqb-true, lt-ltb, le-ltb, leb-true}
-use Rattle.base.proofs.Conds.{by-test, so, is, and-left, and-right}
-use Rattle.ring.specs.Ring.{baseOf, together}
-use Rattle.ring.proofs.Areas.{base-small, area-in-store}
+use borrow.Author.Tests.{eq-eqb, ne-eqb, lt-ltb, le-ltb, leb-true}
+use Rattle.base.proofs.Conds.{by-test}
+use Rattle.ring.specs.Ring.{baseOf}
+use Rattle.ring.proofs.Areas.{area-in-store}
 use Rattle.wire.specs.Instances.{instances}
 use Rattle.rows.specs.Spoken.{speaks}
 use Rattle.connection.specs.declared.Connection.{Connection}
-use Rattle.connection.specs.Ranges.{inRange, sendStoreOk, sends}
-use Rattle.connection.proofs.RangeLaws.{ranged}
+use Rattle.connection.specs.Ranges.{sends}
+use Rattle.connection.specs.Parts.{InSend}
+use Rattle.connection.proofs.RangeLaws.{ranged, sends-both}
 use Rattle.judging.specs.declared.Judged.{Judged}
 use Rattle.judging.specs.Judging.{stateOf, unjudged, judgedOf}
-use Rattle.putting.specs.Putting.{told, refusedOf, earlyOf, judgeOf, roomOf, queued, stored, room, putOf}
-use Rattle.putting.specs.Inside.{Lends, Fits}
+use Rattle.putting.specs.Putting.{told, refused, earlyOf, judgeOf, roomOf, queued, stored, queue, putOf}
+use Rattle.putting.specs.Inside.{Fits}
 
 -- ---- the ways out of judging
 
@@ -35,34 +36,29 @@ module _ (c : Connection) (i : ℕ) (xs : List ℕ) (n : ℕ) (e : n ≡ earlyOf
 
 -- ---- the area of an instance
 
-module _ (c : Connection) (store : List ℕ) (i : ℕ) (l : Lends c store i) where
+module _ (c : Connection) (store : List ℕ) (i : ℕ) (l : InSend c store i) where
   -- it is in the store
   pub area-lent : length (c .settings .send) ≡ instances → baseOf (c .settings .send) i + getD (c .settings .send) i 0 ≤ length store
-  area-lent long = area-in-store store (c .settings .send) i (l .stored) (omega (arith, l .instance))
-
-  pub base-fits : length (c .settings .send) ≡ instances → baseOf (c .settings .send) i < 2 ^ 64
-  base-fits long =
-      let r = ranged c (l .ranged) in
-      omega (arith, base-small (c .settings .send) 131072 (λ j h. r .set .send j (omega arith) .1) i (omega (arith, l .instance)), l .instance)
+  area-lent long = area-in-store store (c .settings .send) i (sends-both c (length store) (l .0) .1) (omega (arith, l .1))
 
   -- where its bytes begin, and how many wait, are small numbers
   pub area-small : (getD (c .sending .starts) i 0 < 2 ^ 32) × (getD (c .sending .waiting) i 0 < 2 ^ 32)
   area-small =
-      let r = ranged c (l .ranged) in
-      let q = r .sending i (l .instance) in
-      let s = r .set .send i (l .instance) in
+      let r = ranged c (sends-both c (length store) (l .0) .0) in
+      let q = r .sending i (l .1) in
+      let s = r .set .send i (l .1) in
       (omega arith, omega arith)
 
 -- a message that fits leaves a small count
-pub count-small : (c : Connection) (store : List ℕ) (i : ℕ) (xs : List ℕ) → Lends c store i → Fits c i xs
-    → getD (c .sending .waiting) i 0 + length xs < 4294967296
-count-small c store i xs l f = let s = ranged c (l .ranged) .set .send i (l .instance) in omega arith
+pub count-small : (c : Connection) (store : List ℕ) (i : ℕ) (xs : List ℕ) → InSend c store i → Fits c i xs
+    → getD (c .sending .waiting) i 0 + length xs < 2 ^ 32
+count-small c store i xs l f = let s = ranged c (sends-both c (length store) (l .0) .0) .set .send i (l .1) in omega arith
 
 -- ---- the ways out of queueing
 
 module _ (c : Connection) (store : List ℕ) (i : ℕ) (xs : List ℕ) (j : Judged) (n : ℕ) (e : n ≡ roomOf c i (length xs)) where
-  pub no-room : n ≢ 0 → told (refusedOf c n) store ≡ room c store i xs j
-  unfolding room
+  pub no-room : n ≢ 0 → told (refused c n) store ≡ queue c store i xs j
+  unfolding queue
   no-room ne = rw (← e, ne-eqb n 0 ne)
 
   pub room-fits : n ≡ 0 → Fits c i xs
@@ -77,38 +73,28 @@ module _ (c : Connection) (store : List ℕ) (i : ℕ) (xs : List ℕ) (j : Judg
       (λ f. absurd (let q : _≡_ {A = ℕ} 22 0 = rw (t, f) at none in omega arith)))
 
   pub has-room : (k : Connection) (full : List ℕ) → n ≡ 0 → k ≡ queued c i (length xs) j → full ≡ stored c store i xs
-      → told (record { number = 0; connection = k }) full ≡ room c store i xs j
-  unfolding room
+      → told (record { number = 0; connection = k }) full ≡ queue c store i xs j
+  unfolding queue
   has-room k full z ek ef = rw (← e, eq-eqb n 0 z, ek, ef)
 
 -- ---- the ways out of put
 
 module _ (c : Connection) (store : List ℕ) (i : ℕ) (xs : List ℕ) where
-  pub put-unranged : sends c (length store) ≡ false → told (refusedOf c 23) store ≡ putOf c store i xs
+  pub put-unranged : sends c (length store) ≡ false → told (refused c 23) store ≡ putOf c store i xs
   unfolding putOf
   put-unranged r = rw r
 
   module _ (r : sends c (length store) ≡ true) where
-    pub put-above : instances ≤ i → told (refusedOf c 10) store ≡ putOf c store i xs
+    pub put-above : instances ≤ i → told (refused c 10) store ≡ putOf c store i xs
     unfolding putOf
     put-above h = rw (r, le-ltb i instances h)
 
     module _ (h : i < instances) where
-      pub put-lends : Lends c store i
-      put-lends =
-          let t = so (sends c (length store)) r in
-          let stored = sendStoreOk (c .settings) (length store) in
-          record {
-            ranged = is (inRange c) (and-left (inRange c) stored t);
-            stored = eqb-true (length store) (together (c .settings .send)) (is stored (and-right (inRange c) stored t));
-            instance = h;
-          }
-
       module _ (j : Judged) (e : j ≡ judgeOf c i xs) where
-        pub put-refused : j .number ≢ 0 → told (refusedOf c (j .number)) store ≡ putOf c store i xs
+        pub put-refused : j .number ≢ 0 → told (refused c (j .number)) store ≡ putOf c store i xs
         unfolding putOf
         put-refused ne = rw (r, lt-ltb i instances h, ← e, ne-eqb (j .number) 0 ne)
 
-        pub put-judged : j .number ≡ 0 → room c store i xs j ≡ putOf c store i xs
+        pub put-judged : j .number ≡ 0 → queue c store i xs j ≡ putOf c store i xs
         unfolding putOf
         put-judged z = rw (r, lt-ltb i instances h, ← e, eq-eqb (j .number) 0 z)

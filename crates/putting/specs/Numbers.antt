@@ -14,27 +14,22 @@ use Rattle.connection.specs.declared.Connection.{Connection}
 use Rattle.connection.specs.Shapes.{Shaped}
 use Rattle.connection.specs.Closings.{isOpen}
 use Rattle.connection.specs.Ranges.{sends}
+use Rattle.connection.specs.Parts.{InSend}
 use Rattle.judging.specs.Judging.{stateOf, ours, barred, leadsTo}
 use Rattle.putting.specs.declared.Queued.{Queued}
 use Rattle.putting.specs.Putting.{Told, told, putOf}
 
 -- ---- what none of the numbers before leaves, number after number
 
--- a record in range with its send store
-abbrev pub Ranged : Connection → List ℕ → Type 0
-Ranged c store = sends c (length store) ≡ true
-
--- and an instance up to 8
-abbrev pub Within : Connection → List ℕ → ℕ → Type 0
-Within c store i = Ranged c store × (i < instances)
+-- First a record in range with its send store, and an instance up to 8: `InSend`.
 
 -- and not closed
-abbrev pub Open : Connection → List ℕ → ℕ → Type 0
-Open c store i = Within c store i × (isOpen (c .gate) ≡ true)
+abbrev pub Unclosed : Connection → List ℕ → ℕ → Type 0
+Unclosed c store i = InSend c store i × (isOpen (c .gate) ≡ true)
 
 -- and instance 0, or Handshake has ended in Accept
 abbrev pub Allowed : Connection → List ℕ → ℕ → Type 0
-Allowed c store i = Open c store i × (barred (c .talk) i ≡ false)
+Allowed c store i = Unclosed c store i × (barred (c .talk) i ≡ false)
 
 -- and our agency
 abbrev pub OurTurn : Connection → List ℕ → ℕ → Type 0
@@ -45,8 +40,8 @@ abbrev pub Moves : Connection → List ℕ → ℕ → List ℕ → Type 0
 Moves c store i xs = OurTurn c store i × ((m : Message) × Says (speaks i) xs m × ((next : ℕ) × (leadsTo c i m ≡ To next)))
 
 -- and it is not a Handshake message above S
-abbrev pub Whole : Connection → List ℕ → ℕ → List ℕ → Type 0
-Whole c store i xs = Moves c store i xs × (i ≡ 0 → length xs ≤ c .settings .limit)
+abbrev pub InOneSegment : Connection → List ℕ → ℕ → List ℕ → Type 0
+InOneSegment c store i xs = Moves c store i xs × (i ≡ 0 → length xs ≤ c .settings .limit)
 
 -- ---- the numbers
 
@@ -54,18 +49,18 @@ Whole c store i xs = Moves c store i xs × (i ≡ 0 → length xs ≤ c .setting
 -- message has no row; 24 for a Handshake message above S; 22 if waiting bytes and message are above the capacity; else 0
 pub record Numbers (c : Connection) (store : List ℕ) (i : ℕ) (xs : List ℕ) : Type 0 where
   pub n23 : (putOf c store i xs .answer .number ≡ 23) ↔ (sends c (length store) ≡ false)
-  pub n10 : (putOf c store i xs .answer .number ≡ 10) ↔ (Ranged c store × (instances ≤ i))
-  pub n20 : (putOf c store i xs .answer .number ≡ 20) ↔ (Within c store i × (isOpen (c .gate) ≡ false))
-  pub n19 : (putOf c store i xs .answer .number ≡ 19) ↔ (Open c store i × (barred (c .talk) i ≡ true))
+  pub n10 : (putOf c store i xs .answer .number ≡ 10) ↔ ((sends c (length store) ≡ true) × (instances ≤ i))
+  pub n20 : (putOf c store i xs .answer .number ≡ 20) ↔ (InSend c store i × (isOpen (c .gate) ≡ false))
+  pub n19 : (putOf c store i xs .answer .number ≡ 19) ↔ (Unclosed c store i × (barred (c .talk) i ≡ true))
   pub n21 : (putOf c store i xs .answer .number ≡ 21) ↔ (Allowed c store i × (ours (c .settings .side) i (stateOf c i) ≡ false))
   pub n15 : (putOf c store i xs .answer .number ≡ 15) ↔ (OurTurn c store i × ((m : Message) → Says (speaks i) xs m → ⊥))
   pub n16 : (putOf c store i xs .answer .number ≡ 16)
       ↔ (OurTurn c store i × ((m : Message) × Says (speaks i) xs m × (leadsTo c i m ≡ None)))
   pub n24 : (putOf c store i xs .answer .number ≡ 24) ↔ (Moves c store i xs × (i ≡ 0) × (c .settings .limit < length xs))
   pub n22 : (putOf c store i xs .answer .number ≡ 22)
-      ↔ (Whole c store i xs × (getD (c .settings .send) i 0 < getD (c .sending .waiting) i 0 + length xs))
+      ↔ (InOneSegment c store i xs × (getD (c .settings .send) i 0 < getD (c .sending .waiting) i 0 + length xs))
   pub n0 : (putOf c store i xs .answer .number ≡ 0)
-      ↔ (Whole c store i xs × (getD (c .sending .waiting) i 0 + length xs ≤ getD (c .settings .send) i 0))
+      ↔ (InOneSegment c store i xs × (getD (c .sending .waiting) i 0 + length xs ≤ getD (c .settings .send) i 0))
 
 abbrev pub Exactly : Type 0
 Exactly = (c : Connection) (store : List ℕ) (i : ℕ) (xs : List ℕ) → Numbers c store i xs

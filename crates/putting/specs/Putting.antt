@@ -1,6 +1,6 @@
 -- Put (document 01, "Numbers and their order": 10; 20; 19; 21; 15; 16; 24; 22; then queued and the state moves; 23 before all others).
 use Prim.Native.Nat.{ℕ, _+_}
-use mathlib.Core.Bool.{Bool, cond, _&&_}
+use mathlib.Core.Bool.{cond, _&&_}
 use mathlib.Core.List.{List}
 use lib.Dec.{eqb, leb, ltb}
 use lib.ListN.{length, getD, set}
@@ -25,8 +25,8 @@ abbrev pub told : Queued → List ℕ → Told
 told r store = record { answer = r; store = store }
 
 -- a refusal changes nothing; 15 and 16 from put do not close
-abbrev pub refusedOf : Connection → ℕ → Queued
-refusedOf c n = record { number = n; connection = c }
+abbrev pub refused : Connection → ℕ → Queued
+refused c n = record { number = n; connection = c }
 
 -- ---- judging
 
@@ -35,7 +35,7 @@ abbrev pub earlyOf : Connection → ℕ → ℕ
 earlyOf c i =
     cond (isOpen (c .gate)) (cond (barred (c .talk) i) 19 (cond (ours (c .settings .side) i (stateOf c i)) 0 21)) 20
 
--- what put answers up to 16; bytes that are not exactly one message give 15
+-- what put answers behind 23 and 10, up to 16; bytes that are not exactly one message give 15
 unfoldable pub judgeOf : Connection → ℕ → List ℕ → Judged
 judgeOf c i xs = cond (eqb (earlyOf c i) 0) (judgedOf (speaks i) (stateOf c i) xs) (unjudged (earlyOf c i))
 
@@ -48,12 +48,12 @@ roomOf c i n =
     (cond (leb (getD (c .sending .waiting) i 0 + n) (getD (c .settings .send) i 0)) 0 22)
 
 -- n bytes more wait
-abbrev pub queuedOf : Sending → ℕ → ℕ → Sending
-queuedOf w i n = record { starts = w .starts; waiting = set (w .waiting) i (getD (w .waiting) i 0 + n); turn = w .turn }
+abbrev pub longerOf : Sending → ℕ → ℕ → Sending
+longerOf w i n = record { starts = w .starts; waiting = set (w .waiting) i (getD (w .waiting) i 0 + n); turn = w .turn }
 
 -- queued, and the state moves
 abbrev pub queued : Connection → ℕ → ℕ → Judged → Connection
-queued c i n j = withTalk (withSending c (queuedOf (c .sending) i n)) (movedBy (c .talk) i (j .message .kind) (j .next))
+queued c i n j = withTalk (withSending c (longerOf (c .sending) i n)) (movedBy (c .talk) i (j .message .kind) (j .next))
 
 -- the message's bytes follow those that wait, in the stream of the instance
 abbrev pub stored : Connection → List ℕ → ℕ → List ℕ → List ℕ
@@ -61,18 +61,19 @@ stored c store i xs =
     let caps = c .settings .send in
     laid store (baseOf caps i) (getD caps i 0) (getD (c .sending .starts) i 0 + getD (c .sending .waiting) i 0) xs
 
-unfoldable pub room : Connection → List ℕ → ℕ → List ℕ → Judged → Told
-room c store i xs j =
+-- 24; 22; then queued
+unfoldable pub queue : Connection → List ℕ → ℕ → List ℕ → Judged → Told
+queue c store i xs j =
     cond (eqb (roomOf c i (length xs)) 0) (told (record { number = 0; connection = queued c i (length xs) j }) (stored c store i xs))
-    (told (refusedOf c (roomOf c i (length xs))) store)
+    (told (refused c (roomOf c i (length xs))) store)
 
 -- ---- a call
 
 abbrev pub byJudged : Connection → List ℕ → ℕ → List ℕ → Judged → Told
-byJudged c store i xs j = cond (eqb (j .number) 0) (room c store i xs j) (told (refusedOf c (j .number)) store)
+byJudged c store i xs j = cond (eqb (j .number) 0) (queue c store i xs j) (told (refused c (j .number)) store)
 
 unfoldable pub putOf : Connection → List ℕ → ℕ → List ℕ → Told
 putOf c store i xs =
     cond (sends c (length store))
-    (cond (ltb i instances) (byJudged c store i xs (judgeOf c i xs)) (told (refusedOf c 10) store))
-    (told (refusedOf c 23) store)
+    (cond (ltb i instances) (byJudged c store i xs (judgeOf c i xs)) (told (refused c 10) store))
+    (told (refused c 23) store)

@@ -14,11 +14,12 @@ use connection::range::sends;
 use judging::Judged;
 use wire::instances::INSTANCES;
 ghost use mathlib.Core.Path.{_≡_};
-ghost use Prim.Native.Nat.{_+_, _<_};
+ghost use Prim.Native.Nat.{_+_, _<_, _^_};
 ghost use lib.ListN.{getD};
 ghost use Rattle.wire.specs.Instances.{instances};
-ghost use Rattle.putting.specs.Putting.{told, earlyOf, roomOf, queuedOf, queued, stored, refusedOf, judgeOf, room, putOf};
-ghost use Rattle.putting.specs.Inside.{Lends, Fits};
+ghost use Rattle.connection.specs.Parts.{InSend};
+ghost use Rattle.putting.specs.Putting.{told, refused, earlyOf, judgeOf, roomOf, longerOf, queued, stored, queue, putOf};
+ghost use Rattle.putting.specs.Inside.{Fits};
 
 // The number, and the record.
 pub struct Queued {
@@ -26,9 +27,9 @@ pub struct Queued {
     pub connection: Connection,
 }
 
-// A refusal.
+// A refusal changes nothing.
 fn refused(c: Connection, number: u64) -> Queued
-    ensures { λ r. ⌜ r ≡ refusedOf c number ⌝ }
+    ensures { λ r. ⌜ r ≡ refused c number ⌝ }
 {
     Queued {
         number,
@@ -44,29 +45,27 @@ fn early(c: Connection, i: usize) -> u64
     let settings = c.settings;
     let side = settings.side;
     let talk = c.talk;
-    let states = talk.states;
     let gate = c.gate;
-    let agency = base::choose(judging::ours(side, i, at(states, i)), 0, 21);
+    let agency = base::choose(judging::ours(side, i, judging::state(talk, i)), 0, 21);
     let accept = base::choose(judging::barred(talk, i), 19, agency);
     base::choose(is_open(gate), accept, 20)
 }
 
-// What put answers up to 16.
+// What put answers behind 23 and 10, up to 16.
 fn judge(c: Connection, i: usize, message: &[u8]) -> Judged
     requires { ⌜ i < instances ⌝ }
     ensures { λ r. ⌜ r ≡ judgeOf c i (now (message .entry)) ⌝ }
 {
     let number = early(c, i);
     if number != 0 {
-        return judging::refused(number);
+        return judging::unjudged(number);
     }
     let talk = c.talk;
-    let states = talk.states;
-    judging::judge_slice(rows::spoken::protocol(i), at(states, i), message)
+    judging::judge_slice(rows::spoken::protocol(i), judging::state(talk, i), message)
 }
 
 // Whether n bytes have room: a Handshake message in one segment, and any in the area behind what waits. Else 24 or 22.
-fn space(c: Connection, i: usize, n: u64) -> u64
+fn room(c: Connection, i: usize, n: u64) -> u64
     requires { ⌜ i < instances ⌝ }
     ensures { λ r. ⌜ r ≡ roomOf c i n ⌝ }
 {
@@ -78,10 +77,10 @@ fn space(c: Connection, i: usize, n: u64) -> u64
     base::choose(base::and(i == 0, settings.limit < n), 24, area)
 }
 
-// n bytes of instance i wait behind those that wait.
+// n bytes of instance i wait behind those that wait. Both are few, so that their sum fits.
 fn longer(w: Sending, i: usize, n: u64) -> Sending
-    requires { ⌜ (i < instances) × (getD (w .waiting) i 0 + n < 4294967296) ⌝ }
-    ensures { λ r. ⌜ r ≡ queuedOf w i n ⌝ }
+    requires { ⌜ (i < instances) × (getD (w .waiting) i 0 + n < 2 ^ 32) ⌝ }
+    ensures { λ r. ⌜ r ≡ longerOf w i n ⌝ }
 {
     let starts = w.starts;
     let waiting = w.waiting;
@@ -95,19 +94,19 @@ fn longer(w: Sending, i: usize, n: u64) -> Sending
 
 // The record once the message that was judged is queued.
 fn after(c: Connection, i: usize, n: u64, j: Judged) -> Connection
-    requires { ⌜ (i < instances) × (getD (c .sending .waiting) i 0 + n < 4294967296) ⌝ }
+    requires { ⌜ (i < instances) × (getD (c .sending .waiting) i 0 + n < 2 ^ 32) ⌝ }
     ensures { λ r. ⌜ r ≡ queued c i n j ⌝ }
 {
     let sending = c.sending;
     let talk = c.talk;
     let message = j.message;
     let fuller = with_sending(c, longer(sending, i, n));
-    with_talk(fuller, judging::moved(talk, i, message.kind, j.next))
+    with_talk(fuller, judging::moved_by(talk, i, message.kind, j.next))
 }
 
 // The message's bytes behind those that wait, in the area of instance i.
 fn lay(c: Connection, store: &mut [u8], i: usize, message: &[u8])
-    requires { ⌜ Lends c (now store) i × Fits c i (now message) ⌝ }
+    requires { ⌜ InSend c (now store) i × Fits c i (now message) ⌝ }
     ensures { λ _. ⌜ now (store .exit) ≡ stored c (now (store .entry)) i (now (message .entry)) ⌝ }
 {
     let settings = c.settings;
@@ -123,11 +122,11 @@ fn lay(c: Connection, store: &mut [u8], i: usize, message: &[u8])
 
 // The message that was judged is queued, if there is room for it.
 fn queue(c: Connection, store: &mut [u8], i: usize, message: &[u8], j: Judged) -> Queued
-    requires { ⌜ Lends c (now store) i ⌝ }
-    ensures { λ r. ⌜ told r (now (store .exit)) ≡ room c (now (store .entry)) i (now (message .entry)) j ⌝ }
+    requires { ⌜ InSend c (now store) i ⌝ }
+    ensures { λ r. ⌜ told r (now (store .exit)) ≡ queue c (now (store .entry)) i (now (message .entry)) j ⌝ }
 {
     let n = message.len() as u64;
-    let number = space(c, i, n);
+    let number = room(c, i, n);
     if number != 0 {
         return refused(c, number);
     }

@@ -1,6 +1,6 @@
 -- Laws of the ready word: its bits, its ones, its lowest, and that the choice by bits is the choice by counts.
 -- Assumes nothing.
-use mathlib.Core.Path.{_≡_, refl, sym, ap, subst, _∙_}
+use mathlib.Core.Path.{_≡_, refl, subst, _∙_}
 use mathlib.Core.Bool.{Bool, true, false, cond}
 use mathlib.Core.List.{List, [], _∷_}
 use Prim.Native.Nat.{ℕ, zero, suc, _+_, _-_, _*_, _/_, _%_, _^_, _<_, _≤_}
@@ -8,7 +8,7 @@ use native.Mathlib.Omega.{arith}
 use native.Mathlib.Numerals.{add-one, one-add, sub-one}
 use native.Mathlib.Nat.{suc-add, pow-suc, pow-succ', pow-le-pow-right, div-one, div-div-eq-div-mul}
 use lib.Dec.{eqb, ltb, lit<}
-use lib.ListN.{length, getD, drop, length-drop}
+use lib.ListN.{length, getD, drop, length-drop, List·getD-eq-default}
 use lib.Count.{ones, ones-step, trailingZeros, under}
 use lib.Seq.{drop-cons}
 use borrow.Author.Tests.{eq-eqb, ne-eqb, lt-ltb, le-ltb, eqb-true, eqb-false, ltb-true, ltb-false}
@@ -42,7 +42,8 @@ unfolding wordOf
 bit-by-bit [] i h = absurd (omega arith)
 bit-by-bit (w ∷ ws) zero h = rw div-one (odd (wordOf ws) (bitOf w) (bit-le w))
 bit-by-bit (w ∷ ws) (suc i) h =
-    rw (pow-succ' 2 i, ← div-div-eq-div-mul (2 * wordOf ws + bitOf w) 2 (2 ^ i), half (wordOf ws) (bitOf w) (bit-le w)) (bit-by-bit ws i (omega arith))
+    rw (pow-succ' 2 i, ← div-div-eq-div-mul (2 * wordOf ws + bitOf w) 2 (2 ^ i), half (wordOf ws) (bitOf w) (bit-le w))
+    (bit-by-bit ws i (omega arith))
 
 -- a turn of the loop that makes the word
 turn : (ws : List ℕ) (j : ℕ) → j < length ws → wordOf (drop (suc j) ws) * 2 + bitOf (getD ws j 0) ≡ wordOf (drop j ws)
@@ -56,7 +57,9 @@ word-turn ws i p h =
 
 -- a word of the last counts is small
 pub word-small : (ws : List ℕ) (i n : ℕ) → length ws ≡ n → wordOf (drop i ws) < 2 ^ n
-word-small ws i n e = omega (arith, no-more (drop i ws), pow-le-pow-right {n = 2} (omega arith) {i = length (drop i ws)} {j = n} (omega (arith, length-drop i ws)))
+word-small ws i n e =
+    let l : length (drop i ws) ≤ n = omega (arith, length-drop i ws) in
+    omega (arith, no-more (drop i ws), pow-le-pow-right {n = 2} (omega arith) {i = length (drop i ws)} {j = n} l)
 
 -- ---- ones, and the lowest
 
@@ -195,17 +198,22 @@ nobody-waits ws turn low high = (to, from)
     from : ((i : ℕ) → i < length ws → getD ws i 0 ≡ 0) → chosen ws turn ≡ Nobody
     from none = rw (le-ltb 0 (getD ws 0 0) (omega (arith, none 0 (omega arith)))) (seek-none ws none (omega arith) (length ws - 1) turn high)
 
-same-instance : (i j : ℕ) → Instance i ≡ Instance j → i ≡ j
+pub same-instance : (i j : ℕ) → Instance i ≡ Instance j → i ≡ j
 same-instance i j e = cc
 
-seek-some : (ws : List ℕ) → 1 < length ws → (k i j : ℕ) → i < length ws → seek ws i k ≡ Instance j → (j < length ws) × (0 < getD ws j 0)
+-- whoever a search finds has bytes waiting
+seek-some : (ws : List ℕ) (k i j : ℕ) → seek ws i k ≡ Instance j → 0 < getD ws j 0
 unfolding seek
-seek-some ws two zero i j h e = absurd (let z : _≡_ {A = ℕ} 0 1 = cc in omega arith)
-seek-some ws two (suc k) i j h e =
-    by-test (ltb 0 (getD ws i 0)) (λ t. rw (← same-instance i j (rw t at e)) (h, ltb-true 0 (getD ws i 0) t))
-    (λ t. seek-some ws two k (afterOf (length ws) i) j (after-low (length ws) i two h) (rw t at e))
+seek-some ws zero i j e = absurd (let z : _≡_ {A = ℕ} 0 1 = cc in omega arith)
+seek-some ws (suc k) i j e =
+    by-test (ltb 0 (getD ws i 0)) (λ t. rw (← same-instance i j (rw t at e)) (ltb-true 0 (getD ws i 0) t))
+    (λ t. seek-some ws k (afterOf (length ws) i) j (rw t at e))
 
+-- and what is not 0 is an entry
 pub chosen-waits : ChosenWaits
-chosen-waits ws turn i low high e =
-    by-test (ltb 0 (getD ws 0 0)) (λ t. rw (← same-instance 0 i (rw t at e)) (omega arith, ltb-true 0 (getD ws 0 0) t))
-    (λ t. seek-some ws (omega arith) (length ws - 1) turn i high (rw t at e))
+chosen-waits ws turn i e =
+    let some : 0 < getD ws i 0 =
+    by-test (ltb 0 (getD ws 0 0)) (λ t. rw (← same-instance 0 i (rw t at e)) (ltb-true 0 (getD ws 0 0) t))
+    (λ t. seek-some ws (length ws - 1) turn i (rw t at e)) in
+    by-test (ltb i (length ws)) (λ l. (ltb-true i (length ws) l, some))
+    (λ l. absurd (omega (arith, List·getD-eq-default ws 0 {n = i} (ltb-false i (length ws) l))))

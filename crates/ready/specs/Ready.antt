@@ -2,7 +2,7 @@
 use Prim.Native.Nat.{ℕ, zero, suc, _+_, _-_, _*_, _/_, _%_, _^_, _<_, _≤_}
 use mathlib.Core.Logic.{_↔_}
 use mathlib.Core.Path.{_≡_}
-use mathlib.Core.Bool.{Bool, cond}
+use mathlib.Core.Bool.{cond}
 use mathlib.Core.List.{List, [], _∷_}
 use lib.Dec.{eqb, ltb}
 use lib.ListN.{length, getD}
@@ -10,6 +10,7 @@ use Rattle.ready.specs.declared.Ready.{Ready}
 use Rattle.ready.specs.declared.Choice.{Choice}
 use Rattle.ready.specs.declared.Choice.the-variants.{Instance, Nobody}
 
+-- whether a count is not 0, as a bit
 abbrev pub bitOf : ℕ → ℕ
 bitOf n = cond (eqb n 0) 0 1
 
@@ -63,5 +64,4 @@ NobodyWaits =
 
 -- whoever is chosen is an instance with bytes waiting
 abbrev pub ChosenWaits : Type 0
-ChosenWaits =
-    (ws : List ℕ) (turn i : ℕ) → 1 ≤ turn → turn < length ws → chosen ws turn ≡ Instance i → (i < length ws) × (0 < getD ws i 0)
+ChosenWaits = (ws : List ℕ) (turn i : ℕ) → chosen ws turn ≡ Instance i → (i < length ws) × (0 < getD ws i 0)

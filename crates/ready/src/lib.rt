@@ -7,8 +7,21 @@ ghost use mathlib.Core.Path.{_≡_};
 ghost use Prim.Native.Nat.{_<_, _≤_, _^_};
 ghost use lib.ListN.{length};
 ghost use Rattle.wire.specs.Instances.{instances};
-ghost use Rattle.ready.specs.Ready.{bitOf, wordOf, readyOf, afterOf};
+ghost use Rattle.ready.specs.Ready.{bitOf, wordOf, readyOf, afterOf, turnAfter};
 ghost use Rattle.ready.specs.Inside.{bitSet, chosenIn};
+
+// Status tells these: the word, how many instances are ready, and which is lowest, 255 if none.
+pub struct Ready {
+    pub word: u64,
+    pub count: u64,
+    pub lowest: u64,
+}
+
+// Who is served next.
+pub enum Choice {
+    Instance(usize),
+    Nobody,
+}
 
 // Whether a count is not 0, as a bit.
 fn bit(n: u64) -> u64
@@ -30,13 +43,7 @@ pub fn word(waiting: [u64; INSTANCES]) -> u64
     word
 }
 
-// Status tells these: the word, how many instances are ready, and which is lowest, 255 if none.
-pub struct Ready {
-    pub word: u64,
-    pub count: u64,
-    pub lowest: u64,
-}
-
+// Who is ready, from the waiting counts.
 pub fn ready_of(waiting: [u64; INSTANCES]) -> Ready
     ensures { λ r. ⌜ r ≡ readyOf waiting ⌝ }
 {
@@ -54,12 +61,6 @@ pub fn ready_of(waiting: [u64; INSTANCES]) -> Ready
         count,
         lowest: u64::trailing_zeros(word) as u64,
     }
-}
-
-// Who is served next.
-pub enum Choice {
-    Instance(usize),
-    Nobody,
 }
 
 // Whether bit i of a word is set.
@@ -96,4 +97,15 @@ pub fn choose(word: u64, turn: usize) -> Choice
         left -= 1;
     }
     Choice::Nobody
+}
+
+// The turn after serving i, which serving instance 0 does not move.
+pub fn turn_after(i: usize, turn: u64) -> u64
+    requires { ⌜ i < instances ⌝ }
+    ensures { λ r. ⌜ r ≡ turnAfter instances i turn ⌝ }
+{
+    if i == 0 {
+        return turn;
+    }
+    after(i) as u64
 }

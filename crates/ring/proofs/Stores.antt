@@ -10,7 +10,7 @@ use native.Mathlib.Nat.{add-zero, zero-add, add-suc, suc-add, mul-le-mul-left, d
 use native.Mathlib.Nat.{suc-mod, mod-lt, mod-eq-of-lt, mod-mod, mod-self, zero-mod, mod-add-mod}
 use lib.ListN.{length, getD, set, take, drop, length-set}
 use lib.Seq.{sets, take-at, drop-at, drop-cons, getD-set-same, getD-set-other, ext-getD}
-use Rattle.ring.specs.Ring.{stream, laid, run}
+use Rattle.ring.specs.Ring.{stream, laid, run, Elsewhere}
 
 -- positions with the same remainder are followed by positions with the same remainder
 same-next : (c n m : ℕ) → n % c ≡ m % c → suc n % c ≡ suc m % c
@@ -128,19 +128,18 @@ laid-wraps s b c n xs ys e h =
     rw (laid-append, laid-straight s b c n xs (omega arith), on, add-zero)
 
 -- a place that none of the bytes is written to stays
-pub laid-misses : (s : List ℕ) (b c n : ℕ) (xs : List ℕ) (p : ℕ) → ((j : ℕ) → j < length xs → p ≢ b + (n + j) % c)
-    → getD (laid s b c n xs) p 0 ≡ getD s p 0
+pub elsewhere : Elsewhere
 unfolding laid
-laid-misses s b c n [] p h = refl
-laid-misses s b c n (x ∷ xs) p h =
-    laid-misses (set s (b + n % c) x) b c (suc n) xs p (λ j l. rw (suc-add, ← add-suc) (h (suc j) (omega arith)))
+elsewhere s b c n [] p h = refl
+elsewhere s b c n (x ∷ xs) p h =
+    elsewhere (set s (b + n % c) x) b c (suc n) xs p (λ j l. rw (suc-add, ← add-suc) (h (suc j) (omega arith)))
     ∙ getD-set-other s (b + n % c) p x 0 (rw add-zero at (h 0 (omega arith)))
 
 -- so each place outside the area stays
 pub laid-outside : (s : List ℕ) (b c n : ℕ) (xs : List ℕ) (p : ℕ) → 0 < c → (b ≤ p → p < b + c → ⊥)
     → getD (laid s b c n xs) p 0 ≡ getD s p 0
 laid-outside s b c n xs p h out =
-    laid-misses s b c n xs p (λ j l e. out (omega arith) (omega (arith, mod-lt (n + j) h)))
+    elsewhere s b c n xs p (λ j l e. out (omega arith) (omega (arith, mod-lt (n + j) h)))
 
 -- the place of byte j of the run holds it
 pub laid-hits : (s : List ℕ) (b c n : ℕ) (xs : List ℕ) (j : ℕ) → j < length xs → length xs ≤ c → b + c ≤ length s
@@ -149,7 +148,7 @@ unfolding laid
 laid-hits s b c n [] j h l r = absurd (omega arith)
 laid-hits s b c n (x ∷ xs) zero h l r =
     rw add-zero
-    (laid-misses (set s (b + n % c) x) b c (suc n) xs (b + n % c)
+    (elsewhere (set s (b + n % c) x) b c (suc n) xs (b + n % c)
     (λ i lt e. apart c n (suc i) (omega arith) (omega arith) (rw (add-suc, ← suc-add) (omega arith)))
     ∙ getD-set-same s (b + n % c) x 0 (omega (arith, mod-lt n {m = c} (omega arith))))
 laid-hits s b c n (x ∷ xs) (suc j) h l r =
@@ -180,7 +179,7 @@ pub stream-kept : (s : List ℕ) (b c n k : ℕ) (xs : List ℕ) → k + length 
 stream-kept s b c n k xs h =
     stream-ext (laid s b c (n + k) xs) s b c n k
     (λ j l.
-    laid-misses s b c (n + k) xs (b + (n + j) % c)
+    elsewhere s b c (n + k) xs (b + (n + j) % c)
     (λ i q e.
     let far : n + j + (k + i - j) ≡ n + k + i = omega arith in
     apart c (n + j) (k + i - j) (omega arith) (omega arith) (rw far (omega arith))))

@@ -1,6 +1,8 @@
 -- A store and its areas. Each area is a ring: "Byte n of an instance's stream, counted from 0 at open, is kept in
 -- its area at place n mod capacity."
-use Prim.Native.Nat.{ℕ, zero, suc, _+_, _%_}
+use Prim.Native.Nat.{ℕ, zero, suc, _+_, _%_, _<_}
+use mathlib.Core.Path.{_≡_}
+use mathlib.Core.Logic.{_≢_}
 use mathlib.Core.List.{List, [], _∷_, _++_}
 use lib.ListN.{length, getD, set, take, drop}
 
@@ -27,6 +29,11 @@ stream store base cap n (suc k) = getD store (place base cap n) 0 ∷ stream sto
 unfoldable pub laid : List ℕ → ℕ → ℕ → ℕ → List ℕ → List ℕ
 laid store base cap n [] = store
 laid store base cap n (x ∷ xs) = laid (set store (place base cap n) x) base cap (suc n) xs
+
+-- nothing else is written
+abbrev pub Elsewhere : Type 0
+Elsewhere = (store : List ℕ) (base cap n : ℕ) (xs : List ℕ) (p : ℕ) → ((j : ℕ) → j < length xs → p ≢ place base cap (n + j))
+    → getD (laid store base cap n xs) p 0 ≡ getD store p 0
 
 -- k bytes of xs from place i on
 abbrev pub run : List ℕ → ℕ → ℕ → List ℕ

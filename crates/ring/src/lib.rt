@@ -2,11 +2,15 @@
 //
 // Byte n of a stream is kept in its area at place n mod capacity. A run is copied in at most two straight copies: up
 // to the area's end, and on from its front. Nothing else is written.
+use base::smaller;
 ghost use mathlib.Core.Path.{_≡_};
-ghost use Prim.Native.Nat.{_+_, _%_, _^_, _≤_, _<_, min};
+ghost use Prim.Native.Nat.{_+_, _%_, _^_, _≤_, _<_};
 ghost use lib.ListN.{length, getD};
 ghost use lib.Seq.{sets};
 ghost use Rattle.ring.specs.Ring.{baseOf, stream, laid, run, around};
+
+// How much is copied at once.
+const BLOCK: usize = 4096;
 
 // Where area i begins, and, for i the number of areas, how long the store is.
 pub fn base_of(caps: &[u64], i: usize) -> usize
@@ -22,19 +26,12 @@ pub fn base_of(caps: &[u64], i: usize) -> usize
     sum as usize
 }
 
-// Where in its area of cap bytes byte n of a stream is kept.
+// Where in its area of cap bytes byte n of a stream is kept. Most numbers are below the capacity and need no division.
 fn place_of(cap: usize, n: usize) -> usize
     requires { ⌜ 0 < cap ⌝ }
     ensures { λ r. ⌜ (r ≡ n % cap) × (r < cap) ⌝ }
 {
-    n % cap
-}
-
-// The smaller of two numbers.
-fn smaller(a: usize, b: usize) -> usize
-    ensures { λ r. ⌜ r ≡ min a b ⌝ }
-{
-    if a < b { a } else { b }
+    if n < cap { n } else { n % cap }
 }
 
 // Copies k bytes of src from place i on to dst from place `to` on, byte by byte.
@@ -48,9 +45,6 @@ fn copy_bytes(dst: &mut [u8], to: usize, src: &[u8], i: usize, k: usize)
         j += 1;
     }
 }
-
-// How much is copied at once.
-const BLOCK: usize = 4096;
 
 // The same for at most a block, through a local array. The compiler knows that this overlaps neither slice, and makes
 // one move of memory of the two copies.

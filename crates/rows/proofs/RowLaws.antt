@@ -51,9 +51,9 @@ rows-end KeepAlive = omega arith
 abbrev nothing : Row
 nothing = record { state = 0; agency = Nobody; kind = 0; flag = 0; next = 0 }
 
--- the table's cells are the rows' columns
-pub cell-row : (i c : ℕ) → i < rowCount → getD (getD (map columns allRows) i []) c 0 ≡ getD (columns (rowAt i)) c 0
-cell-row i c h = ap (λ (r : List ℕ). getD r c 0) (getD-map columns allRows i nothing [] h)
+-- the table's rows are those of document 01, column by column
+pub row-at : (i : ℕ) → i < rowCount → getD (map columns allRows) i [] ≡ columns (rowAt i)
+row-at i h = getD-map columns allRows i nothing [] h
 
 -- ---- a search along the rows from i up to the end e
 

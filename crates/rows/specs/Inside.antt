@@ -1,6 +1,6 @@
--- What only this crate's own functions cite: how the table is laid out.
+-- What only functions below the operations cite: how the table is laid out.
 use Prim.Native.Nat.{ℕ, zero, suc, _+_}
-use mathlib.Core.Bool.{cond}
+use mathlib.Core.Bool.{Bool, cond, _&&_}
 use mathlib.Core.List.{List, [], _∷_, _++_, map}
 use lib.Dec.{eqb}
 use lib.ListN.{length, getD, take}
@@ -55,3 +55,7 @@ mark Nobody = 2
 -- a row's columns: state, agency, kind, flag, next state
 abbrev pub columns : Row → List ℕ
 columns r = r .state ∷ mark (r .agency) ∷ r .kind ∷ r .flag ∷ r .next ∷ []
+
+-- whether a row, by its columns, is that of a message in a state
+abbrev pub suits : ℕ → ℕ → ℕ → List ℕ → Bool
+suits s k f r = eqb (getD r 0 0) s && (eqb (getD r 2 0) k && eqb (getD r 3 0) f)

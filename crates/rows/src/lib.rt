@@ -6,9 +6,8 @@ pub mod spoken;
 
 ghost use mathlib.Core.Path.{_≡_};
 ghost use Prim.Native.Nat.{_<_};
-ghost use lib.ListN.{getD};
-ghost use Rattle.rows.specs.Rows.{doneOf, fits, nextOf, agencyOf};
-ghost use Rattle.rows.specs.Inside.{placeOf, firstOf, countOf, rowCount, rowAt, columns, holder};
+ghost use Rattle.rows.specs.Rows.{doneOf, nextOf, agencyOf};
+ghost use Rattle.rows.specs.Inside.{placeOf, firstOf, countOf, suits, holder};
 
 pub enum Protocol {
     Handshake,
@@ -32,13 +31,13 @@ pub enum Next {
 }
 
 // Initiator agency, and responder agency.
-const C: u64 = 0;
+const C: u8 = 0;
 
-const S: u64 = 1;
+const S: u8 = 1;
 
 // State, agency, kind, flag, next state. RequestTxIds, of kind 0, is two messages, told apart by its bool: the flag
 // is 1 for true. The flag of every other message is 0.
-const ROWS: [[u64; 5]; 30] = [
+const ROWS: [[u8; 5]; 30] = [
     // Handshake: Propose 0, Confirm 1, Done 2
     [0, C, 0, 0, 1],
     [1, S, 1, 0, 2],
@@ -77,11 +76,11 @@ const ROWS: [[u64; 5]; 30] = [
 ];
 
 // By protocol: its first row, its number of rows, and its state Done.
-const FIRST: [usize; 5] = [0, 3, 13, 19, 27];
+const FIRST: [u8; 5] = [0, 3, 13, 19, 27];
 
-const COUNT: [usize; 5] = [3, 10, 6, 8, 3];
+const COUNT: [u8; 5] = [3, 10, 6, 8, 3];
 
-const DONE: [u64; 5] = [2, 4, 3, 5, 2];
+const DONE: [u8; 5] = [2, 4, 3, 5, 2];
 
 fn place(p: Protocol) -> usize
     ensures { λ r. ⌜ (r ≡ placeOf p) × (r < 5) ⌝ }
@@ -100,49 +99,42 @@ pub fn done(p: Protocol) -> u64
     ensures { λ r. ⌜ r ≡ doneOf p ⌝ }
 {
     let at = place(p);
-    DONE[at]
+    DONE[at] as u64
 }
 
 fn first(p: Protocol) -> usize
     ensures { λ r. ⌜ r ≡ firstOf p ⌝ }
 {
     let at = place(p);
-    FIRST[at]
+    FIRST[at] as usize
 }
 
 fn count(p: Protocol) -> usize
     ensures { λ r. ⌜ r ≡ countOf p ⌝ }
 {
     let at = place(p);
-    COUNT[at]
+    COUNT[at] as usize
 }
 
-// What stands in a column of row i.
-fn at(i: usize, column: usize) -> u64
-    requires { ⌜ (i < rowCount) × (column < 5) ⌝ }
-    ensures { λ r. ⌜ r ≡ getD (columns (rowAt i)) column 0 ⌝ }
+// Whether a row is that of a message in a state.
+fn is_for(row: [u8; 5], state: u64, kind: u64, flag: u64) -> bool
+    ensures { λ r. ⌜ r ≡ suits state kind flag row ⌝ }
 {
-    ROWS[i][column]
+    let message = base::and(row[2] as u64 == kind, row[3] as u64 == flag);
+    base::and(row[0] as u64 == state, message)
 }
 
-// Whether row i is that of a message in a state.
-fn is_for(i: usize, state: u64, kind: u64, flag: u64) -> bool
-    requires { ⌜ i < rowCount ⌝ }
-    ensures { λ r. ⌜ r ≡ fits state kind flag (rowAt i) ⌝ }
-{
-    let message = base::and(at(i, 2) == kind, at(i, 3) == flag);
-    base::and(at(i, 0) == state, message)
-}
-
-// Where a message leads in a state.
+// Where a message leads in a state. The table is made anew wherever it is named: so once, before the search.
 pub fn find(p: Protocol, state: u64, kind: u64, flag: u64) -> Next
     ensures { λ r. ⌜ r ≡ nextOf p state kind flag ⌝ }
 {
+    let table = ROWS;
     let mut i = first(p);
     let end = i + count(p);
     while i < end {
-        if is_for(i, state, kind, flag) {
-            return Next::To(at(i, 4));
+        let row = table[i];
+        if is_for(row, state, kind, flag) {
+            return Next::To(row[4] as u64);
         }
         i += 1;
     }
@@ -153,18 +145,20 @@ pub fn find(p: Protocol, state: u64, kind: u64, flag: u64) -> Next
 pub fn agent(p: Protocol, state: u64) -> Agency
     ensures { λ r. ⌜ r ≡ agencyOf p state ⌝ }
 {
+    let table = ROWS;
     let mut i = first(p);
     let end = i + count(p);
     while i < end {
-        if at(i, 0) == state {
-            return held_by(at(i, 1));
+        let row = table[i];
+        if row[0] as u64 == state {
+            return held_by(row[1]);
         }
         i += 1;
     }
     Agency::Nobody
 }
 
-fn held_by(mark: u64) -> Agency
+fn held_by(mark: u8) -> Agency
     ensures { λ r. ⌜ r ≡ holder mark ⌝ }
 {
     if mark == C {

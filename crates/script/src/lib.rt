@@ -3,13 +3,12 @@
 // A line is a slice without its line feed. A word is a part of it, up to a space or the end; where there is no word any
 // more, it is the empty one at the end, which is nothing that a call takes. Runs are made bytes in place: two digits of
 // the line become the byte at the front of them, so that a line needs no second buffer.
-ghost use mathlib.Core.Path.{_≡_};
-ghost use Prim.Native.Nat.{_+_, _<_, _≤_};
-ghost use lib.ListN.{length};
-
 pub mod lists;
 pub mod numbers;
 pub mod runs;
+
+ghost use Prim.Native.Nat.{_≤_};
+ghost use lib.ListN.{length};
 
 // A part of a line: from a place on, up to another.
 pub struct Word {
@@ -82,17 +81,22 @@ pub fn last(line: &[u8], w: Word) -> bool {
     w.to == line.len()
 }
 
-// Whether a word is a word that is known.
-pub fn is(line: &[u8], w: Word, name: &[u8]) -> bool {
+// The bytes of a word; none of what is no part of the line.
+pub fn text<'a>(line: &'a [u8], w: Word) -> &'a [u8] {
     let from = w.from;
     let to = w.to;
     if to < from {
-        return false;
+        return &line[0..0];
     }
     if line.len() < to {
-        return false;
+        return &line[0..0];
     }
-    same(&line[from..to], name)
+    &line[from..to]
+}
+
+// Whether a word is a word that is known.
+pub fn is(line: &[u8], w: Word, name: &[u8]) -> bool {
+    same(text(line, w), name)
 }
 
 // Whether two runs of bytes are the same.

@@ -26,6 +26,7 @@ pub struct Runs {
     pub lengths: [usize; MOST_RUNS],
 }
 
+// No numbers: of the empty list, or of a word that is no list.
 fn no_numbers(ok: bool) -> Numbers {
     Numbers {
         ok,
@@ -34,6 +35,7 @@ fn no_numbers(ok: bool) -> Numbers {
     }
 }
 
+// No runs, likewise.
 fn no_runs(ok: bool) -> Runs {
     Runs {
         ok,

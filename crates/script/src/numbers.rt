@@ -1,5 +1,6 @@
 // Numbers: decimal, without leading zeros, below 2^64.
 use crate::Word;
+use crate::text;
 
 // A number, or a word that is none.
 pub enum Number {
@@ -9,19 +10,11 @@ pub enum Number {
 
 // The number that a word of a line spells.
 pub fn of(line: &[u8], w: Word) -> Number {
-    let from = w.from;
-    let to = w.to;
-    if to < from {
-        return Number::Not;
-    }
-    if line.len() < to {
-        return Number::Not;
-    }
-    read(&line[from..to])
+    read(text(line, w))
 }
 
 // The number that a text spells.
-pub fn read(text: &[u8]) -> Number {
+fn read(text: &[u8]) -> Number {
     if text.len() == 0 {
         return Number::Not;
     }
@@ -64,12 +57,13 @@ fn longer(n: u64, b: u8) -> Number {
     plus(n, (b - b'0') as u64)
 }
 
+// Ten times n and a digit, if that is below 2^64.
 fn plus(n: u64, d: u64) -> Number {
-    if 1844674407370955161 < n {
+    if u64::MAX / 10 < n {
         return Number::Not;
     }
     let tens = n * 10;
-    if 18446744073709551615 - tens < d {
+    if u64::MAX - tens < d {
         return Number::Not;
     }
     Number::Is(tens + d)

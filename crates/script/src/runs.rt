@@ -1,7 +1,6 @@
 // Runs of bytes: lower-case hex, two digits a byte; the empty run is a point.
 use crate::Word;
-ghost use mathlib.Core.Path.{_≡_};
-ghost use Prim.Native.Nat.{_+_, _<_, _≤_};
+ghost use Prim.Native.Nat.{_+_, _≤_};
 ghost use lib.ListN.{length};
 
 // The length of a run that was made bytes, or a word that is none.
@@ -38,6 +37,7 @@ pub fn read(text: &mut [u8]) -> Run {
     decode(text, n / 2)
 }
 
+// The empty run.
 fn point(b: u8) -> Run {
     if b == b'.' {
         return Run::Is(0);

@@ -1,35 +1,40 @@
--- Which number next segment answers: `exactly`, `untouched` and `once`.
+-- Which number next segment answers, and what a call leaves: `exactly`, `untouched`, `once` and `keeps`. Where the "when" of a number holds, it is
+-- answered; one walk through the tests finds a "when" that holds.
 -- Assumes nothing.
-use mathlib.Core.Path.{_≡_, refl, sym, ap, subst, _∙_}
-use mathlib.Core.Bool.{Bool, true, false, true≢false, cond, _&&_}
-use mathlib.Core.List.{List}
-use mathlib.Core.Logic.{_↔_}
+use mathlib.Core.Path.{_≡_, refl, sym, ap, _∙_}
+use mathlib.Core.Bool.{true, false, cond}
+use mathlib.Core.List.{List, _++_}
+use mathlib.Core.Logic.{_↔_, _≢_}
 use Prim.Native.Nat.{ℕ, _+_, _-_, _%_, _<_, _≤_}
 use native.Mathlib.Omega.{arith}
-use lib.Dec.{T, eqb, ltb, leb}
 use native.Mathlib.Nat.{mod-lt}
-use mathlib.Core.Logic.{_≢_}
+use lib.Dec.{eqb, ltb}
 use lib.ListN.{length, getD, length-set}
-use lib.Seq.{getD-set-same, getD-set-other}
-use borrow.Author.Tests.{lt-ltb, le-ltb, ltb-true, ltb-false, eqb-true, eqb-false, le-leb}
-use Rattle.base.proofs.Conds.{by-test, cond-cases}
-use Rattle.wire.specs.Segments.{headerLength}
+use lib.Seq.{sets, getD-set-same, getD-set-other}
+use borrow.Author.Tests.{ltb-true, ltb-false, eqb-true, eqb-false}
+use Rattle.base.proofs.Conds.{by-test, cond-cases, exactly-when}
+use Rattle.wire.specs.Segments.{headerLength, encoded}
 use Rattle.wire.specs.Instances.{instances}
-use Rattle.ready.specs.Ready.{chosen, afterOf}
+use Rattle.ready.specs.Ready.{chosen}
 use Rattle.ready.specs.declared.Choice.{Choice}
 use Rattle.ready.specs.declared.Choice.the-variants.{Instance, Nobody}
 use Rattle.ready.proofs.ReadyLaws.{nobody-waits, chosen-waits, after-low}
 use Rattle.connection.specs.declared.Connection.{Connection}
+use Rattle.connection.specs.declared.Sending.{Sending}
 use Rattle.connection.specs.Shapes.{Shaped}
 use Rattle.connection.specs.Closings.{isOpen}
-use Rattle.connection.specs.declared.Sending.{Sending}
 use Rattle.connection.specs.Ranges.{inRange, sends}
-use Rattle.connection.proofs.RangeLaws.{ranged, in-range}
-use Rattle.sending.proofs.SendingLaws.{in-both}
-use Rattle.sending.specs.declared.Made.{Made}
 use Rattle.connection.specs.Parts.{withSending}
-use Rattle.sending.specs.NextSegment.{Told, told, refused, much, sentOf, serve, byChoice, nextOf}
-use Rattle.sending.specs.Numbers.{Ranged, Ready, Numbers, Exactly, Untouched, Once, Keeps}
+use Rattle.connection.proofs.RangeLaws.{ranged, in-range, sends-both}
+use Rattle.sending.specs.declared.Made.{Made}
+use Rattle.sending.specs.NextSegment.{Told, told, refused, much, headed, payloadOf, sentOf, nextOf}
+use Rattle.sending.specs.Numbers.{Unclosed, Numbers, Exactly, Untouched, Once, Keeps}
+use Rattle.sending.proofs.SendingLaws.{serve-short, serve-all, next-unranged, next-closed, next-served}
+
+-- whoever is chosen is an instance with bytes waiting
+pub chosen-waiting : (c : Connection) → Shaped c → (i : ℕ) → chosen (c .sending .waiting) (c .sending .turn) ≡ Instance i
+    → (i < instances) × (0 < getD (c .sending .waiting) i 0)
+chosen-waiting c s i e = rw (s .waiting) at (chosen-waits (c .sending .waiting) (c .sending .turn) i e)
 
 module _ (c : Connection) (store : List ℕ) (time : ℕ) (buf : List ℕ) where
   abbrev out : Told
@@ -38,122 +43,114 @@ module _ (c : Connection) (store : List ℕ) (time : ℕ) (buf : List ℕ) where
   abbrev who : Choice
   who = chosen (c .sending .waiting) (c .sending .turn)
 
-  -- the five ways that next segment can go
-  data Way : Type 0 where
-    unranged : (Ranged c store → ⊥) → out ≡ refused c buf 23 → Way
-    shut : Ranged c store → isOpen (c .gate) ≡ false → out ≡ refused c buf 20 → Way
-    idle : Ready c store → who ≡ Nobody → out ≡ refused c buf 4 → Way
-    short : Ready c store → (i : ℕ) → who ≡ Instance i → length buf < headerLength + much c i → out ≡ refused c buf 18 → Way
-    made : Ready c store → (i : ℕ) → who ≡ Instance i → headerLength + much c i ≤ length buf → out .made .number ≡ 0
-        → out .made .connection ≡ withSending c (sentOf (c .sending) (c .settings .send) i (much c i)) → Way
+  abbrev Refuses : ℕ → Type 0
+  Refuses n = told (refused c n) buf ≡ out
 
-  served : Ready c store → (i : ℕ) → who ≡ Instance i → out ≡ serve c store time buf i → Way
-  unfolding serve
-  served r i e o =
+  -- the "when" of each number, as in `Numbers` but for 4, by whom the counts choose; no other number has one
+  abbrev pub When : ℕ → Type 0
+  When n =
+      cond (eqb n 23) (sends c (length store) ≡ false)
+      (cond (eqb n 20) ((sends c (length store) ≡ true) × (isOpen (c .gate) ≡ false))
+      (cond (eqb n 4) (Unclosed c store × (who ≡ Nobody))
+      (cond (eqb n 18) (Unclosed c store × ((i : ℕ) × (who ≡ Instance i) × (length buf < headerLength + much c i)))
+      (cond (eqb n 0) (Unclosed c store × ((i : ℕ) × (who ≡ Instance i) × (headerLength + much c i ≤ length buf)))
+      ⊥))))
+
+  -- ---- where its "when" holds, a number is answered
+
+  o23 : When 23 → Refuses 23
+  o23 r = next-unranged c store time buf r
+
+  o20 : When 20 → Refuses 20
+  o20 (r, o) = next-closed c store time buf r o
+
+  o4 : When 4 → Refuses 4
+  o4 ((r, o), w) = next-served c store time buf r o Nobody (sym w)
+
+  o18 : When 18 → Refuses 18
+  o18 ((r, o), (i, w, l)) = serve-short c store time buf i (much c i) refl l ∙ next-served c store time buf r o (Instance i) (sym w)
+
+  -- what 0 leaves
+  abbrev Serves : ℕ → Type 0
+  Serves i =
+      told
+      (record { number = 0; len = headerLength + much c i; connection = withSending c (sentOf (c .sending) (c .settings .send) i (much c i)) })
+      (sets buf 0 (encoded (headed (c .settings .side) time i (much c i)) ++ payloadOf c store i))
+      ≡ out
+
+  o0 : Unclosed c store → (i : ℕ) → who ≡ Instance i → headerLength + much c i ≤ length buf → Serves i
+  o0 (r, o) i w l = serve-all c store time buf i l ∙ next-served c store time buf r o (Instance i) (sym w)
+
+  -- ---- and one of them holds
+
+  -- the ways of a call: a refusal or a notice, or a segment
+  pub data Way : Type 0 where
+    stays : (n : ℕ) → n ≢ 0 → When n → Refuses n → Way
+    gone : (i : ℕ) → Unclosed c store → who ≡ Instance i → headerLength + much c i ≤ length buf → Serves i → Way
+
+  by-who : Unclosed c store → (x : Choice) → who ≡ x → Way
+  by-who u Nobody e = stays 4 (λ z. omega arith) (u, e) (o4 (u, e))
+  by-who u (Instance i) e =
       by-test (ltb (length buf) (headerLength + much c i))
-      (λ t. short r i e (ltb-true (length buf) (headerLength + much c i) t) (o ∙ rw t))
-      (λ t. made r i e (ltb-false (length buf) (headerLength + much c i) t) (ap (λ (x : Told). x .made .number) o ∙ rw t) (ap (λ (x : Told). x .made .connection) o ∙ rw t))
+      (λ t. let w : When 18 = (u, (i, e, ltb-true (length buf) (headerLength + much c i) t)) in stays 18 (λ z. omega arith) w (o18 w))
+      (λ t. let l = ltb-false (length buf) (headerLength + much c i) t in gone i u e l (o0 u i e l))
 
-  by-who : Ready c store → (x : Choice) → who ≡ x → out ≡ byChoice c store time buf x → Way
-  by-who r Nobody e o = idle r e o
-  by-who r (Instance i) e o = served r i e o
-
-  way : Way
-  unfolding nextOf
+  pub way : Way
   way =
       by-test (sends c (length store))
-      (λ t. by-test (isOpen (c .gate)) (λ o. by-who (t, o) who refl (rw (t, o))) (λ o. shut t o (rw (t, o))))
-      (λ t. unranged (λ q. true≢false (sym q ∙ t)) (rw t))
+      (λ r. by-test (isOpen (c .gate)) (λ o. by-who (r, o) who refl) (λ o. stays 20 (λ z. omega arith) (r, o) (o20 (r, o))))
+      (λ r. stays 23 (λ z. omega arith) r (o23 r))
+
+  -- ---- so each number exactly then
 
   abbrev number : ℕ
-  number = out .made .number
+  number = out .answer .number
 
-  numbered : (n : ℕ) → out ≡ refused c buf n → number ≡ n
-  numbered n e = ap (λ (x : Told). x .made .number) e
+  numbered : (n : ℕ) → Refuses n → number ≡ n
+  numbered n e = ap (λ (x : Told). x .answer .number) (sym e)
 
-  differ : (o : isOpen (c .gate) ≡ true) → isOpen (c .gate) ≡ false → ⊥
-  differ o q = true≢false (sym o ∙ q)
+  zero-out : When 0 → number ≡ 0
+  zero-out (u, (i, w, l)) = ap (λ (x : Told). x .answer .number) (sym (o0 u i w l))
 
-  apart : (i : ℕ) → who ≡ Instance i → who ≡ Nobody → ⊥
-  apart i e q = let z : _≡_ {A = ℕ} 0 1 = cc in omega arith
-
-  same : (i j : ℕ) → who ≡ Instance i → who ≡ Instance j → i ≡ j
-  same i j e q = cc
-
-  as-was : (n : ℕ) (m : Made) (after : List ℕ) → told m after ≡ refused c buf n → (m .connection ≡ c) × (m .len ≡ 0) × (after ≡ buf)
-  as-was n m after e = (ap (λ (x : Told). x .made .connection) e, ap (λ (x : Told). x .made .len) e, ap (λ (x : Told). x .buffer) e)
-
-  n23 : Way → (number ≡ 23) ↔ (Ranged c store → ⊥)
-  n23 (unranged u e) = (λ q. u, λ q. numbered 23 e)
-  n23 (shut r o e) = (λ q. absurd (omega (arith, numbered 20 e)), λ q. absurd (q r))
-  n23 (idle r w e) = (λ q. absurd (omega (arith, numbered 4 e)), λ q. absurd (q (r .0)))
-  n23 (short r i w l e) = (λ q. absurd (omega (arith, numbered 18 e)), λ q. absurd (q (r .0)))
-  n23 (made r i w l e k′) = (λ q. absurd (omega arith), λ q. absurd (q (r .0)))
-
-  n20 : Way → (number ≡ 20) ↔ (Ranged c store × (isOpen (c .gate) ≡ false))
-  n20 (unranged u e) = (λ q. absurd (omega (arith, numbered 23 e)), λ q. absurd (u (q .0)))
-  n20 (shut r o e) = (λ q. (r, o), λ q. numbered 20 e)
-  n20 (idle r w e) = (λ q. absurd (omega (arith, numbered 4 e)), λ q. absurd (differ (r .1) (q .1)))
-  n20 (short r i w l e) = (λ q. absurd (omega (arith, numbered 18 e)), λ q. absurd (differ (r .1) (q .1)))
-  n20 (made r i w l e k′) = (λ q. absurd (omega arith), λ q. absurd (differ (r .1) (q .1)))
-
-  idle-way : Way → (number ≡ 4) ↔ (Ready c store × (who ≡ Nobody))
-  idle-way (unranged u e) = (λ q. absurd (omega (arith, numbered 23 e)), λ q. absurd (u (q .0 .0)))
-  idle-way (shut r o e) = (λ q. absurd (omega (arith, numbered 20 e)), λ q. absurd (differ (q .0 .1) o))
-  idle-way (idle r w e) = (λ q. (r, w), λ q. numbered 4 e)
-  idle-way (short r i w l e) = (λ q. absurd (omega (arith, numbered 18 e)), λ q. absurd (apart i w (q .1)))
-  idle-way (made r i w l e k′) = (λ q. absurd (omega arith), λ q. absurd (apart i w (q .1)))
-
-  n18 : Way → (number ≡ 18) ↔ (Ready c store × ((i : ℕ) × (who ≡ Instance i) × (length buf < headerLength + much c i)))
-  n18 (unranged u e) = (λ q. absurd (omega (arith, numbered 23 e)), λ q. absurd (u (q .0 .0)))
-  n18 (shut r o e) = (λ q. absurd (omega (arith, numbered 20 e)), λ q. absurd (differ (q .0 .1) o))
-  n18 (idle r w e) = (λ q. absurd (omega (arith, numbered 4 e)), λ (p, (i, v, l)). absurd (apart i v w))
-  n18 (short r i w l e) = (λ q. (r, (i, w, l)), λ q. numbered 18 e)
-  n18 (made r i w l e k′) = (λ q. absurd (omega arith), λ (p, (j, v, k)). absurd (omega (arith, ap (much c) (same i j w v))))
-
-  n0 : Way → (number ≡ 0) ↔ (Ready c store × ((i : ℕ) × (who ≡ Instance i) × (headerLength + much c i ≤ length buf)))
-  n0 (unranged u e) = (λ q. absurd (omega (arith, numbered 23 e)), λ q. absurd (u (q .0 .0)))
-  n0 (shut r o e) = (λ q. absurd (omega (arith, numbered 20 e)), λ q. absurd (differ (q .0 .1) o))
-  n0 (idle r w e) = (λ q. absurd (omega (arith, numbered 4 e)), λ (p, (i, v, l)). absurd (apart i v w))
-  n0 (short r i w l e) = (λ q. absurd (omega (arith, numbered 18 e)), λ (p, (j, v, k)). absurd (omega (arith, ap (much c) (same i j w v))))
-  n0 (made r i w l e k′) = (λ q. (r, (i, w, l)), λ q. e)
+  exact : Way → {n : ℕ} → (When n → number ≡ n) → (number ≡ n) ↔ When n
+  exact (stays k ne w e) = exactly-when When (numbered k e) w
+  exact (gone i u w l e) = let z : When 0 = (u, (i, w, l)) in exactly-when When (zero-out z) z
 
   -- every queue is empty exactly where nobody is chosen
-  n4 : Shaped c → (number ≡ 4) ↔ (Ready c store × ((i : ℕ) → i < instances → getD (c .sending .waiting) i 0 ≡ 0))
-  n4 s =
-      let w = idle-way way in
-      let n = s .waiting in (
-        λ q.
-            let p = w .0 q in
-            let t = turn (p .0) in
-            let none = nobody-waits (c .sending .waiting) (c .sending .turn) (t .0) (omega (arith, t .1)) .0 (p .1) in
-            (p .0, λ i h. none i (omega arith)),
-        λ (r, none).
-            let t = turn r in
-            w .1 (r, nobody-waits (c .sending .waiting) (c .sending .turn) (t .0) (omega (arith, t .1)) .1 (λ i h. none i (omega arith))),
-      )
+  idle : Shaped c → When 4 ↔ (Unclosed c store × ((i : ℕ) → i < instances → getD (c .sending .waiting) i 0 ≡ 0))
+  idle s = (λ (u, w). (u, λ i h. none u .0 w i (rw (s .waiting) h)), λ (u, e). (u, none u .1 (λ i h. e i (rw (s .waiting) at h))))
     where
-      turn : Ready c store → (1 ≤ c .sending .turn) × (c .sending .turn < instances)
-      turn r = ranged c (in-both c store (r .0) .0) .turn
+      none : Unclosed c store → (who ≡ Nobody) ↔ ((i : ℕ) → i < length (c .sending .waiting) → getD (c .sending .waiting) i 0 ≡ 0)
+      none u =
+          let t = ranged c (sends-both c (length store) (u .0) .0) .turn in
+          nobody-waits (c .sending .waiting) (c .sending .turn) (t .0) (rw (s .waiting) (t .1))
+
+  all : Shaped c → Numbers c store time buf
+  all s =
+      let four = exact way {n = 4} (λ w. numbered 4 (o4 w)) in
+      record {
+        n23 = exact way {n = 23} (λ w. numbered 23 (o23 w));
+        n20 = exact way {n = 20} (λ w. numbered 20 (o20 w));
+        n4 = (λ e. idle s .0 (four .0 e), λ w. four .1 (idle s .1 w));
+        n18 = exact way {n = 18} (λ w. numbered 18 (o18 w));
+        n0 = exact way {n = 0} zero-out;
+      }
 
   -- with any number but 0, record and buffer are as they were
   untouched-by : Way → (m : Made) (after : List ℕ) → told m after ≡ out → (m .number ≡ 0 → ⊥) → (m .connection ≡ c) × (m .len ≡ 0) × (after ≡ buf)
-  untouched-by (unranged u e) m after q z = as-was 23 m after (q ∙ e)
-  untouched-by (shut r o e) m after q z = as-was 20 m after (q ∙ e)
-  untouched-by (idle r w e) m after q z = as-was 4 m after (q ∙ e)
-  untouched-by (short r i w l e) m after q z = as-was 18 m after (q ∙ e)
-  untouched-by (made r i w l e k′) m after q z = absurd (z (ap (λ (x : Told). x .made .number) q ∙ e))
+  untouched-by (stays n ne w e) m after q z =
+      let p = q ∙ sym e in
+      (ap (λ (x : Told). x .answer .connection) p, ap (λ (x : Told). x .answer .len) p, ap (λ (x : Told). x .buffer) p)
+  untouched-by (gone i u w l e) m after q z = absurd (z (ap (λ (x : Told). x .answer .number) (q ∙ sym e)))
 
 pub exactly : Exactly
-exactly c store time buf s =
-    let w = way c store time buf in
-    record { n23 = n23 c store time buf w; n20 = n20 c store time buf w; n4 = n4 c store time buf s; n18 = n18 c store time buf w; n0 = n0 c store time buf w }
+exactly = all
 
 pub untouched : Untouched
-untouched c store time buf m after q z = untouched-by c store time buf (way c store time buf) m after q z
+untouched c store time buf = untouched-by c store time buf (way c store time buf)
 
 pub once : Once
-once c store time buf m m′ after after′ e e′ = let q = e ∙ sym e′ in (ap (λ (x : Told). x .made) q, ap (λ (x : Told). x .buffer) q)
+once c store time buf m m′ after after′ e e′ = let q = e ∙ sym e′ in (ap (λ (x : Told). x .answer) q, ap (λ (x : Told). x .buffer) q)
 
 -- ---- the range
 
@@ -222,16 +219,10 @@ module _ (c : Connection) (s : Shaped c) (r : inRange c ≡ true) (i : ℕ) (ins
       }
 
 keeps-by : (c : Connection) (store : List ℕ) (time : ℕ) (buf : List ℕ) → Shaped c → inRange c ≡ true → Way c store time buf
-    → (inRange (nextOf c store time buf .made .connection) ≡ true) × Shaped (nextOf c store time buf .made .connection)
-keeps-by c store time buf s r (unranged u e) = rw e (r, s)
-keeps-by c store time buf s r (shut p o e) = rw e (r, s)
-keeps-by c store time buf s r (idle p w e) = rw e (r, s)
-keeps-by c store time buf s r (short p i w l e) = rw e (r, s)
-keeps-by c store time buf s r (made p i w l e k) =
-    let t = ranged c r .turn in
-    let h = chosen-waits (c .sending .waiting) (c .sending .turn) i (t .0) (omega (arith, t .1, s .waiting)) w .0 in
-    let inside : i < instances = omega (arith, s .waiting) in
-    rw k (sent-ranged c s r i inside (much c i), sent-shaped c s r i inside (much c i))
+    → (inRange (nextOf c store time buf .answer .connection) ≡ true) × Shaped (nextOf c store time buf .answer .connection)
+keeps-by c store time buf s r (stays n ne w e) = rw (← e) (r, s)
+keeps-by c store time buf s r (gone i u w l e) =
+    let inside = chosen-waiting c s i w .0 in rw (← e) (sent-ranged c s r i inside (much c i), sent-shaped c s r i inside (much c i))
 
 pub keeps : Keeps
 keeps c store time buf s r = keeps-by c store time buf s r (way c store time buf)

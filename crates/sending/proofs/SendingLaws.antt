@@ -1,20 +1,18 @@
--- Laws of next segment.
+-- Laws of next segment: what is sent is in the area of its instance, whoever is chosen is an instance, and each way out of the code is the
+-- definition.
 -- Assumes nothing.
-use mathlib.Core.Path.{_≡_, refl, sym, ap, subst, _∙_}
-use mathlib.Core.Bool.{true, false, _&&_}
+use mathlib.Core.Path.{_≡_, sym, ap, subst, _∙_}
+use mathlib.Core.Bool.{true, false}
 use mathlib.Core.List.{List, _++_}
-use Prim.Native.Nat.{ℕ, _+_, _≤_, _<_, _^_, min}
+use Prim.Native.Nat.{ℕ, _+_, _≤_, _<_, _^_}
 use native.Mathlib.Omega.{arith}
-use native.Mathlib.Nat.{le-refl}
 use lib.ListN.{length, getD, length-append}
 use lib.Seq.{sets}
-use borrow.Author.Tests.{eqb-true, lt-ltb, le-ltb}
-use Rattle.base.proofs.Conds.{so, is, and-left, and-right}
-use Rattle.base.specs.Numbers.{octets}
+use borrow.Author.Tests.{lt-ltb, le-ltb}
 use Rattle.base.proofs.ListLaws.{sets-append}
 use Rattle.base.proofs.NumberLaws.{length-octets}
-use Rattle.ring.specs.Ring.{baseOf, stream, together}
-use Rattle.ring.proofs.Areas.{base-small, area-in-store}
+use Rattle.ring.specs.Ring.{baseOf}
+use Rattle.ring.proofs.Areas.{area-in-store}
 use Rattle.wire.specs.declared.segment.Segment.{Segment}
 use Rattle.wire.specs.declared.instances.Side.{Side}
 use Rattle.wire.specs.Segments.{headerLength, encoded, Fits}
@@ -27,12 +25,12 @@ use Rattle.ready.specs.declared.Choice.the-variants.{Instance, Nobody}
 use Rattle.ready.proofs.ReadyLaws.{Low, chosen-word, chosen-low}
 use Rattle.connection.specs.declared.Connection.{Connection}
 use Rattle.connection.specs.Closings.{isOpen}
-use Rattle.connection.specs.Ranges.{inRange, sendStoreOk, sends}
-use Rattle.connection.proofs.RangeLaws.{Ranged, ranged}
+use Rattle.connection.specs.Ranges.{inRange, sends}
+use Rattle.connection.proofs.RangeLaws.{ranged, sends-both}
 use Rattle.connection.specs.declared.Sending.{Sending}
-use Rattle.connection.specs.Parts.{withSending}
-use Rattle.sending.specs.NextSegment.{told, much, headed, sentOf, serve, byChoice, nextOf}
-use Rattle.sending.specs.Inside.{unmadeOf, Area, Waits, Chosen}
+use Rattle.connection.specs.Parts.{withSending, InSend, firstWaiting}
+use Rattle.sending.specs.NextSegment.{told, refused, much, headed, payloadOf, sentOf, serve, byChoice, nextOf}
+use Rattle.sending.specs.Inside.{Area, Chosen}
 
 -- a header has eight bytes
 pub header-long : (s : Segment) → length (encoded s) ≡ headerLength
@@ -51,53 +49,57 @@ header-fits side i time n h t l = record { time = t; mode = mode-low side i; pro
 pub in-store : (caps store : List ℕ) (i n : ℕ) → length caps ≡ instances → Area caps store i n → baseOf caps i + getD caps i 0 ≤ length store
 in-store caps store i n long a = area-in-store store caps i (a .stored) (omega (arith, a .instance))
 
-pub base-fits : (caps store : List ℕ) (i n : ℕ) → length caps ≡ instances → Area caps store i n → baseOf caps i < 2 ^ 64
-base-fits caps store i n long a =
-    omega (arith, base-small caps 131072 (λ j h. a .small j (omega arith)) i (omega (arith, a .instance)), a .instance)
-
 -- what is sent of an instance is in its area
-pub waits-area : (c : Connection) (store : List ℕ) (i : ℕ) → Waits c store i → Area (c .settings .send) store i (much c i)
+pub waits-area : (c : Connection) (store : List ℕ) (i : ℕ) → InSend c store i → Area (c .settings .send) store i (much c i)
 waits-area c store i w =
-    let r = ranged c (w .ranged) in
-    let l = r .set .send i (w .instance) in
-    let k = r .sending i (w .instance) in
+    let p = sends-both c (length store) (w .0) in
+    let r = ranged c (p .0) in
+    let l = r .set .send i (w .1) in
+    let k = r .sending i (w .1) in
     record {
-      instance = w .instance;
-      small = λ j h. r .set .send j h .1;
+      instance = w .1;
       within = omega arith;
       some = omega arith;
-      stored = w .stored;
+      stored = p .1;
     }
 
 -- ---- the ways out of serving an instance
 
-pub much-small : (c : Connection) (store : List ℕ) (i : ℕ) → Waits c store i → (much c i ≤ 65535) × (much c i ≤ getD (c .sending .waiting) i 0)
-much-small c store i w = let l = ranged c (w .ranged) .set .limit in (omega arith, omega arith)
+pub much-small : (c : Connection) (store : List ℕ) (i : ℕ) → InSend c store i → (much c i ≤ 65535) × (much c i ≤ getD (c .sending .waiting) i 0)
+much-small c store i w = let l = ranged c (sends-both c (length store) (w .0) .0) .set .limit in (omega arith, omega arith)
 
 module _ (c : Connection) (store : List ℕ) (time : ℕ) (buf : List ℕ) (i n : ℕ) (e : n ≡ much c i) where
-  pub serve-short : length buf < headerLength + n → told (unmadeOf c 18) buf ≡ serve c store time buf i
+  pub serve-short : length buf < headerLength + n → told (refused c 18) buf ≡ serve c store time buf i
   unfolding serve
   serve-short h = rw (← e, lt-ltb (length buf) (headerLength + n) h)
 
   pub serve-made : (k : Connection) (w : Sending) (full : List ℕ) → headerLength + n ≤ length buf
       → w ≡ sentOf (c .sending) (c .settings .send) i n → k ≡ withSending c w
       → full ≡ sets (sets buf 0 (encoded (headed (c .settings .side) time i n))) headerLength
-      (stream store (baseOf (c .settings .send) i) (getD (c .settings .send) i 0) (getD (c .sending .starts) i 0) n)
+      (firstWaiting c store i n)
       → told (record { number = 0; len = headerLength + n; connection = k }) full ≡ serve c store time buf i
   unfolding serve
   serve-made k w full h ew ek ef =
-      let p = stream store (baseOf (c .settings .send) i) (getD (c .settings .send) i 0) (getD (c .sending .starts) i 0) n in
-      rw (← e, le-ltb (length buf) (headerLength + n) h, ek, ew, ef, joined buf (headed (c .settings .side) time i n) p)
+      rw (← e, le-ltb (length buf) (headerLength + n) h, ek, ew, ef, joined buf (headed (c .settings .side) time i n) (firstWaiting c store i n))
+
+-- header and payload at once
+pub serve-all : (c : Connection) (store : List ℕ) (time : ℕ) (buf : List ℕ) (i : ℕ) → headerLength + much c i ≤ length buf
+    → told
+    (record { number = 0; len = headerLength + much c i; connection = withSending c (sentOf (c .sending) (c .settings .send) i (much c i)) })
+    (sets buf 0 (encoded (headed (c .settings .side) time i (much c i)) ++ payloadOf c store i))
+    ≡ serve c store time buf i
+unfolding serve
+serve-all c store time buf i h = rw (le-ltb (length buf) (headerLength + much c i) h)
 
 -- ---- the ways out of next segment
 
 module _ (c : Connection) (store : List ℕ) (time : ℕ) (buf : List ℕ) where
-  pub next-unranged : sends c (length store) ≡ false → told (unmadeOf c 23) buf ≡ nextOf c store time buf
+  pub next-unranged : sends c (length store) ≡ false → told (refused c 23) buf ≡ nextOf c store time buf
   unfolding nextOf
   next-unranged r = rw r
 
   module _ (r : sends c (length store) ≡ true) where
-    pub next-closed : isOpen (c .gate) ≡ false → told (unmadeOf c 20) buf ≡ nextOf c store time buf
+    pub next-closed : isOpen (c .gate) ≡ false → told (refused c 20) buf ≡ nextOf c store time buf
     unfolding nextOf
     next-closed o = rw (r, o)
 
@@ -105,15 +107,6 @@ module _ (c : Connection) (store : List ℕ) (time : ℕ) (buf : List ℕ) where
         → byChoice c store time buf x ≡ nextOf c store time buf
     unfolding nextOf
     next-served o x e = rw (r, o, e)
-
--- a record in range with its store is both
-pub in-both : (c : Connection) (store : List ℕ) → sends c (length store) ≡ true → (inRange c ≡ true) × (length store ≡ together (c .settings .send))
-in-both c store r =
-    let t = so (inRange c && sendStoreOk (c .settings) (length store)) r in (
-      is (inRange c) (and-left (inRange c) (sendStoreOk (c .settings) (length store)) t),
-      eqb-true (length store) (together (c .settings .send))
-          (is (sendStoreOk (c .settings) (length store)) (and-right (inRange c) (sendStoreOk (c .settings) (length store)) t)),
-    )
 
 -- whoever the word chooses is whom the counts choose, and an instance
 pub by-word : (c : Connection) (word : ℕ) (x : Choice) → inRange c ≡ true → length (c .sending .waiting) ≡ instances
@@ -124,10 +117,12 @@ by-word c word x r long w e =
     ∙ ap (λ (n : ℕ). chosenIn n (wordOf (c .sending .waiting)) (c .sending .turn)) (sym long)
     ∙ chosen-word (c .sending .waiting) (c .sending .turn) (omega arith) (omega arith)
 
-pub is-chosen : (c : Connection) (store : List ℕ) (word : ℕ) (x : Choice) → inRange c ≡ true → length store ≡ together (c .settings .send)
+pub is-chosen : (c : Connection) (store : List ℕ) (word : ℕ) (x : Choice) → sends c (length store) ≡ true
     → x ≡ chosenIn instances word (c .sending .turn) → Chosen c store x
-is-chosen c store word x r s e = of x (subst (Low instances) (sym e) (chosen-low instances word (c .sending .turn) (omega arith) (ranged c r .turn .1)))
+is-chosen c store word x r e =
+    let t = ranged c (sends-both c (length store) r .0) .turn in
+    of x (subst (Low instances) (sym e) (chosen-low instances word (c .sending .turn) (omega arith) (t .1)))
   where
     of : (x : Choice) → Low instances x → Chosen c store x
     of Nobody l = tt
-    of (Instance i) l = record { ranged = r; stored = s; instance = l }
+    of (Instance i) l = (r, l)

@@ -5,7 +5,6 @@ use mathlib.Core.List.{List, _++_}
 use lib.Dec.{ltb}
 use lib.ListN.{length, getD, set}
 use lib.Seq.{sets}
-use Rattle.ring.specs.Ring.{baseOf, stream}
 use Rattle.wire.specs.declared.segment.Segment.{Segment}
 use Rattle.wire.specs.declared.instances.Side.{Side}
 use Rattle.wire.specs.Segments.{headerLength, encoded}
@@ -17,20 +16,20 @@ use Rattle.connection.specs.declared.Sending.{Sending}
 use Rattle.connection.specs.declared.Connection.{Connection}
 use Rattle.connection.specs.Closings.{isOpen}
 use Rattle.connection.specs.Ranges.{sends}
-use Rattle.connection.specs.Parts.{withSending}
+use Rattle.connection.specs.Parts.{withSending, firstWaiting}
 use Rattle.sending.specs.declared.Made.{Made}
 
 -- an answer, and what the lent buffer then holds
 pub record Told : Type 0 where
-  pub made : Made
+  pub answer : Made
   pub buffer : List ℕ
 
 abbrev pub told : Made → List ℕ → Told
-told m buf = record { made = m; buffer = buf }
+told m buf = record { answer = m; buffer = buf }
 
 -- a refusal or a notice changes nothing
-abbrev pub refused : Connection → List ℕ → ℕ → Told
-refused c buf n = told (record { number = n; len = 0; connection = c }) buf
+abbrev pub refused : Connection → ℕ → Made
+refused c n = record { number = n; len = 0; connection = c }
 
 -- it sends the smaller of S and the bytes waiting
 abbrev pub much : Connection → ℕ → ℕ
@@ -42,8 +41,7 @@ headed side time i n = record { time = time; mode = modeOf side i; protocol = pr
 
 -- the payload: the first bytes waiting
 abbrev pub payloadOf : Connection → List ℕ → ℕ → List ℕ
-payloadOf c store i =
-    stream store (baseOf (c .settings .send) i) (getD (c .settings .send) i 0) (getD (c .sending .starts) i 0) (much c i)
+payloadOf c store i = firstWaiting c store i (much c i)
 
 -- n bytes of instance i are sent: their room is used again, and the turn moves
 abbrev pub sentOf : Sending → List ℕ → ℕ → ℕ → Sending
@@ -57,16 +55,16 @@ sentOf w caps i n =
 -- 18 is given when the lent buffer is shorter than header and payload
 unfoldable pub serve : Connection → List ℕ → ℕ → List ℕ → ℕ → Told
 serve c store time buf i =
-    cond (ltb (length buf) (headerLength + much c i)) (refused c buf 18)
+    cond (ltb (length buf) (headerLength + much c i)) (told (refused c 18) buf)
     (told (record { number = 0; len = headerLength + much c i; connection = withSending c (sentOf (c .sending) (c .settings .send) i (much c i)) })
     (sets buf 0 (encoded (headed (c .settings .side) time i (much c i)) ++ payloadOf c store i)))
 
 abbrev pub byChoice : Connection → List ℕ → ℕ → List ℕ → Choice → Told
-byChoice c store time buf Nobody = refused c buf 4
+byChoice c store time buf Nobody = told (refused c 4) buf
 byChoice c store time buf (Instance i) = serve c store time buf i
 
 unfoldable pub nextOf : Connection → List ℕ → ℕ → List ℕ → Told
 nextOf c store time buf =
     cond (sends c (length store))
-    (cond (isOpen (c .gate)) (byChoice c store time buf (chosen (c .sending .waiting) (c .sending .turn))) (refused c buf 20))
-    (refused c buf 23)
+    (cond (isOpen (c .gate)) (byChoice c store time buf (chosen (c .sending .waiting) (c .sending .turn))) (told (refused c 20) buf))
+    (told (refused c 23) buf)

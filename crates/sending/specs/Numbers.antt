@@ -16,23 +16,19 @@ use Rattle.connection.specs.Ranges.{inRange, sends}
 use Rattle.sending.specs.declared.Made.{Made}
 use Rattle.sending.specs.NextSegment.{told, much, nextOf}
 
--- a record in range with its send store
-abbrev pub Ranged : Connection → List ℕ → Type 0
-Ranged c store = sends c (length store) ≡ true
-
--- the same, and open
-abbrev pub Ready : Connection → List ℕ → Type 0
-Ready c store = Ranged c store × (isOpen (c .gate) ≡ true)
+-- a record in range with its send store, and not closed
+abbrev pub Unclosed : Connection → List ℕ → Type 0
+Unclosed c store = (sends c (length store) ≡ true) × (isOpen (c .gate) ≡ true)
 
 -- T2: 23 before all others; 20 if closed; notice 4 if every queue is empty; 18 if the buffer is shorter than header and payload; else 0
 pub record Numbers (c : Connection) (store : List ℕ) (time : ℕ) (buf : List ℕ) : Type 0 where
-  pub n23 : (nextOf c store time buf .made .number ≡ 23) ↔ (Ranged c store → ⊥)
-  pub n20 : (nextOf c store time buf .made .number ≡ 20) ↔ (Ranged c store × (isOpen (c .gate) ≡ false))
-  pub n4 : (nextOf c store time buf .made .number ≡ 4) ↔ (Ready c store × ((i : ℕ) → i < instances → getD (c .sending .waiting) i 0 ≡ 0))
-  pub n18 : (nextOf c store time buf .made .number ≡ 18)
-      ↔ (Ready c store × ((i : ℕ) × (chosen (c .sending .waiting) (c .sending .turn) ≡ Instance i) × (length buf < headerLength + much c i)))
-  pub n0 : (nextOf c store time buf .made .number ≡ 0)
-      ↔ (Ready c store × ((i : ℕ) × (chosen (c .sending .waiting) (c .sending .turn) ≡ Instance i) × (headerLength + much c i ≤ length buf)))
+  pub n23 : (nextOf c store time buf .answer .number ≡ 23) ↔ (sends c (length store) ≡ false)
+  pub n20 : (nextOf c store time buf .answer .number ≡ 20) ↔ ((sends c (length store) ≡ true) × (isOpen (c .gate) ≡ false))
+  pub n4 : (nextOf c store time buf .answer .number ≡ 4) ↔ (Unclosed c store × ((i : ℕ) → i < instances → getD (c .sending .waiting) i 0 ≡ 0))
+  pub n18 : (nextOf c store time buf .answer .number ≡ 18)
+      ↔ (Unclosed c store × ((i : ℕ) × (chosen (c .sending .waiting) (c .sending .turn) ≡ Instance i) × (length buf < headerLength + much c i)))
+  pub n0 : (nextOf c store time buf .answer .number ≡ 0)
+      ↔ (Unclosed c store × ((i : ℕ) × (chosen (c .sending .waiting) (c .sending .turn) ≡ Instance i) × (headerLength + much c i ≤ length buf)))
 
 abbrev pub Exactly : Type 0
 Exactly = (c : Connection) (store : List ℕ) (time : ℕ) (buf : List ℕ) → Shaped c → Numbers c store time buf
@@ -53,4 +49,4 @@ Once =
 abbrev pub Keeps : Type 0
 Keeps =
     (c : Connection) (store : List ℕ) (time : ℕ) (buf : List ℕ) → Shaped c → inRange c ≡ true
-    → (inRange (nextOf c store time buf .made .connection) ≡ true) × Shaped (nextOf c store time buf .made .connection)
+    → (inRange (nextOf c store time buf .answer .connection) ≡ true) × Shaped (nextOf c store time buf .answer .connection)

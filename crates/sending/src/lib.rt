@@ -9,21 +9,21 @@ use connection::parts::is_open;
 use connection::parts::with_sending;
 use connection::range::sends;
 use ready::Choice;
+use ready::turn_after;
 use wire::instances::INSTANCES;
 use wire::instances::Side;
-use wire::segment::LENGTH;
+use wire::segment::HEADER;
 use wire::segment::Segment;
 ghost use mathlib.Core.Path.{_≡_};
-ghost use mathlib.Core.Bool.{true};
-ghost use Prim.Native.Nat.{_+_, _<_, _≤_, min};
+ghost use Prim.Native.Nat.{_+_, _<_, _≤_, _^_, min};
 ghost use lib.ListN.{length, getD};
 ghost use lib.Seq.{sets};
 ghost use Rattle.ring.specs.Ring.{baseOf, stream};
 ghost use Rattle.wire.specs.Segments.{headerLength, encoded};
 ghost use Rattle.wire.specs.Instances.{instances};
-ghost use Rattle.ready.specs.Ready.{turnAfter};
-ghost use Rattle.sending.specs.NextSegment.{told, headed, sentOf, serve, byChoice, nextOf};
-ghost use Rattle.sending.specs.Inside.{Area, Waits, Chosen, unmadeOf};
+ghost use Rattle.connection.specs.Parts.{InSend};
+ghost use Rattle.sending.specs.NextSegment.{told, refused, headed, sentOf, serve, byChoice, nextOf};
+ghost use Rattle.sending.specs.Inside.{Area, Chosen};
 
 // The number; where it is 0, how long header and payload are together; and the record.
 pub struct Made {
@@ -32,66 +32,14 @@ pub struct Made {
     pub connection: Connection,
 }
 
-// Makes the next segment at the front of the lent buffer. The caller gives the time.
-pub fn next_segment(c: Connection, store: &[u8], time: u32, buf: &mut [u8]) -> Made
-    ensures { λ r. ⌜ told r (now (buf .exit)) ≡ nextOf c (now (store .entry)) time (now (buf .entry)) ⌝ }
-{
-    if !sends(c, store.len()) {
-        return unmade(c, 23);
-    }
-    let gate = c.gate;
-    if !is_open(gate) {
-        return unmade(c, 20);
-    }
-    let sending = c.sending;
-    let waiting = sending.waiting;
-    let choice = ready::choose(ready::word(waiting), sending.turn as usize);
-    serve_choice(c, store, time, buf, choice)
-}
-
-// A refusal or a notice.
-fn unmade(c: Connection, number: u64) -> Made
-    ensures { λ r. ⌜ r ≡ unmadeOf c number ⌝ }
+// A refusal or a notice changes nothing.
+fn refused(c: Connection, number: u64) -> Made
+    ensures { λ r. ⌜ r ≡ refused c number ⌝ }
 {
     Made {
         number,
         len: 0,
         connection: c,
-    }
-}
-
-fn serve_choice(c: Connection, store: &[u8], time: u32, buf: &mut [u8], choice: Choice) -> Made
-    requires { ⌜ Chosen c (now store) choice ⌝ }
-    ensures { λ r. ⌜ told r (now (buf .exit)) ≡ byChoice c (now (store .entry)) time (now (buf .entry)) choice ⌝ }
-{
-    match choice {
-        Choice::Nobody => unmade(c, 4),
-        Choice::Instance(i) => serve_instance(c, store, time, buf, i),
-    }
-}
-
-// The smaller of S and the bytes waiting, where header and payload have room.
-fn serve_instance(c: Connection, store: &[u8], time: u32, buf: &mut [u8], i: usize) -> Made
-    requires { ⌜ Waits c (now store) i ⌝ }
-    ensures { λ r. ⌜ told r (now (buf .exit)) ≡ serve c (now (store .entry)) time (now (buf .entry)) i ⌝ }
-{
-    let settings = c.settings;
-    let caps = settings.send;
-    let sending = c.sending;
-    let starts = sending.starts;
-    let waiting = sending.waiting;
-    let n = smaller(settings.limit, at(waiting, i));
-    let len = LENGTH + n as usize;
-    if buf.len() < len {
-        return unmade(c, 18);
-    }
-    let side = settings.side;
-    put_header(buf, side, time, i, n);
-    put_payload(buf, store, caps, i, at(starts, i), n);
-    Made {
-        number: 0,
-        len,
-        connection: with_sending(c, sent(sending, caps, i, n)),
     }
 }
 
@@ -122,12 +70,13 @@ fn put_payload(buf: &mut [u8], store: &[u8], caps: [u64; INSTANCES], i: usize, s
 {
     let cap = at(caps, i) as usize;
     let base = ring::base_of(&caps, i);
-    ring::read(buf, LENGTH, store, base, cap, start as usize, n as usize);
+    ring::read(buf, HEADER, store, base, cap, start as usize, n as usize);
 }
 
-// n bytes of instance i are sent: their room is used again, and the turn moves.
+// n bytes of instance i are sent: their room is used again, and the turn moves. Place and bytes are small, so that
+// their sum fits.
 fn sent(w: Sending, caps: [u64; INSTANCES], i: usize, n: u64) -> Sending
-    requires { ⌜ (i < instances) × (0 < getD caps i 0) × (getD (w .starts) i 0 + n < 4294967296) × (n ≤ getD (w .waiting) i 0) ⌝ }
+    requires { ⌜ (i < instances) × (0 < getD caps i 0) × (getD (w .starts) i 0 + n < 2 ^ 32) × (n ≤ getD (w .waiting) i 0) ⌝ }
     ensures { λ r. ⌜ r ≡ sentOf w caps i n ⌝ }
 {
     let starts = w.starts;
@@ -141,13 +90,55 @@ fn sent(w: Sending, caps: [u64; INSTANCES], i: usize, n: u64) -> Sending
     }
 }
 
-// Serving 0 does not move the turn.
-fn turn_after(i: usize, turn: u64) -> u64
-    requires { ⌜ i < instances ⌝ }
-    ensures { λ r. ⌜ r ≡ turnAfter instances i turn ⌝ }
+// The smaller of S and the bytes waiting of instance i, where header and payload have room.
+fn serve(c: Connection, store: &[u8], time: u32, buf: &mut [u8], i: usize) -> Made
+    requires { ⌜ InSend c (now store) i ⌝ }
+    ensures { λ r. ⌜ told r (now (buf .exit)) ≡ serve c (now (store .entry)) time (now (buf .entry)) i ⌝ }
 {
-    if i == 0 {
-        return turn;
+    let settings = c.settings;
+    let caps = settings.send;
+    let sending = c.sending;
+    let starts = sending.starts;
+    let waiting = sending.waiting;
+    let n = smaller(settings.limit, at(waiting, i));
+    let len = HEADER + n as usize;
+    if buf.len() < len {
+        return refused(c, 18);
     }
-    ready::after(i) as u64
+    let side = settings.side;
+    put_header(buf, side, time, i, n);
+    put_payload(buf, store, caps, i, at(starts, i), n);
+    Made {
+        number: 0,
+        len,
+        connection: with_sending(c, sent(sending, caps, i, n)),
+    }
+}
+
+// Whoever is chosen is served.
+fn by_choice(c: Connection, store: &[u8], time: u32, buf: &mut [u8], choice: Choice) -> Made
+    requires { ⌜ Chosen c (now store) choice ⌝ }
+    ensures { λ r. ⌜ told r (now (buf .exit)) ≡ byChoice c (now (store .entry)) time (now (buf .entry)) choice ⌝ }
+{
+    match choice {
+        Choice::Nobody => refused(c, 4),
+        Choice::Instance(i) => serve(c, store, time, buf, i),
+    }
+}
+
+// Makes the next segment at the front of the lent buffer. The caller gives the time.
+pub fn next_segment(c: Connection, store: &[u8], time: u32, buf: &mut [u8]) -> Made
+    ensures { λ r. ⌜ told r (now (buf .exit)) ≡ nextOf c (now (store .entry)) time (now (buf .entry)) ⌝ }
+{
+    if !sends(c, store.len()) {
+        return refused(c, 23);
+    }
+    let gate = c.gate;
+    if !is_open(gate) {
+        return refused(c, 20);
+    }
+    let sending = c.sending;
+    let waiting = sending.waiting;
+    let choice = ready::choose(ready::word(waiting), sending.turn as usize);
+    by_choice(c, store, time, buf, choice)
 }

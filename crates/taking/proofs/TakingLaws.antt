@@ -1,19 +1,20 @@
--- Laws of take: an instance's area, the bytes held in it, and the ways out of the code.
+-- Laws of take: the bytes held of an instance lie around its area, so that judging them there is judging them; and each way out of the code is
+-- the definition.
 -- Assumes nothing.
 use mathlib.Core.Path.{_≡_, refl, sym, ap, _∙_}
-use mathlib.Core.Bool.{Bool, true, false, cond, _&&_}
+use mathlib.Core.Bool.{Bool, true, false}
 use mathlib.Core.List.{List}
 use mathlib.Core.Logic.{_≢_}
-use Prim.Native.Nat.{ℕ, _+_, _-_, _%_, _≤_, _<_}
+use Prim.Native.Nat.{ℕ, _+_, _-_, _≤_, _<_}
 use native.Mathlib.Omega.{arith}
 use native.Mathlib.Decide.{decLt}
 use native.Mathlib.Nat.{mod-eq-of-lt}
 use lib.Dec.{eqb}
 use lib.ListN.{length, getD, take, drop, List·getD-eq-default}
 use lib.Seq.{sets, take-take, length-take-le}
-use borrow.Author.Tests.{eq-eqb, ne-eqb, eqb-true, lt-ltb, le-ltb}
-use Rattle.base.proofs.Conds.{so, is, and-left, and-right, by-test}
-use Rattle.ring.specs.Ring.{baseOf, together, stream, run, around}
+use borrow.Author.Tests.{eq-eqb, ne-eqb, lt-ltb, le-ltb}
+use Rattle.base.proofs.Conds.{by-test}
+use Rattle.ring.specs.Ring.{baseOf, run, around}
 use Rattle.ring.proofs.Areas.{area-in-store}
 use Rattle.ring.proofs.Around.{around-length, around-take, stream-around}
 use Rattle.ring.proofs.Runs.{run-length}
@@ -24,22 +25,18 @@ use Rattle.item.specs.declared.Verdict.the-variants.{Whole, Bad, Incomplete}
 use Rattle.item.specs.Grammar.{nesting}
 use Rattle.item.specs.Verdict.{verdict}
 use Rattle.item.proofs.Theorem.{exactly}
-use Rattle.rows.specs.declared.Next.{Next}
-use Rattle.rows.specs.declared.Next.the-variants.{To, None}
 use Rattle.rows.specs.declared.Protocol.{Protocol}
-use Rattle.rows.specs.Rows.{nextOf}
 use Rattle.rows.specs.Spoken.{speaks}
-use Rattle.messages.specs.declared.Message.{Message}
-use Rattle.messages.specs.Reading.{messageOf, numberOf, flagOf}
 use Rattle.connection.specs.declared.Connection.{Connection}
 use Rattle.connection.specs.Closings.{isOpen}
-use Rattle.connection.specs.Ranges.{inRange, receives, receiveStoreOk}
-use Rattle.connection.proofs.RangeLaws.{ranged}
+use Rattle.connection.specs.Ranges.{receives}
+use Rattle.connection.specs.Parts.{InReceive, firstHeld, heldOf}
+use Rattle.connection.proofs.RangeLaws.{ranged, receives-both}
 use Rattle.judging.specs.declared.Judged.{Judged}
-use Rattle.judging.specs.Judging.{stateOf, unjudged, byRow, judgedOf}
-use Rattle.taking.specs.declared.Taken.{Taken}
-use Rattle.taking.specs.Taking.{Told, told, bytesOf, heldOf, earlyOf, byVerdict, judgeOf, unchanged, undone, handed, hand, takeOf}
-use Rattle.taking.specs.Inside.{Holds, Hands, heardAs}
+use Rattle.judging.specs.Judging.{stateOf, unjudged, judgedOf}
+use Rattle.judging.proofs.JudgingLaws.{Judges, not-read, not-led, message, judges}
+use Rattle.taking.specs.Taking.{told, earlyOf, byVerdict, judgeOf, refused, undone, handed, hand, takeOf}
+use Rattle.taking.specs.Inside.{heardAs}
 
 -- ---- an instance's area
 
@@ -52,15 +49,16 @@ pub record Area (c : Connection) (store : List ℕ) (i : ℕ) : Type 0 where
   pub start : getD (c .receiving .starts) i 0 < getD (c .settings .receive) i 0
   pub held : getD (c .receiving .held) i 0 ≤ getD (c .settings .receive) i 0
 
-pub area : (c : Connection) (store : List ℕ) (i : ℕ) → Holds c store i → Area c store i
-area c store i h =
-    let r = ranged c (h .ranged) in
-    let cap = r .set .receive i (h .instance) in
-    let q = r .receiving i (h .instance) in
+pub area : (c : Connection) (store : List ℕ) (i : ℕ) → InReceive c store i → Area c store i
+area c store i (ok, h) =
+    let p = receives-both c (length store) ok in
+    let r = ranged c (p .0) in
+    let cap = r .set .receive i h in
+    let q = r .receiving i h in
     let listed : i < length (c .settings .receive) = inside (c .settings .receive) i (omega arith) in
     record {
       listed = listed;
-      stored = area-in-store store (c .settings .receive) i (h .stored) listed;
+      stored = area-in-store store (c .settings .receive) i (p .1) listed;
       some = omega arith;
       small = cap .1;
       start = q .0;
@@ -77,7 +75,7 @@ area c store i h =
 -- the first n bytes held lie around the area, from the start place on
 pub held-around : (c : Connection) (store : List ℕ) (i n : ℕ) → Area c store i → n ≤ getD (c .settings .receive) i 0
     → around (run store (baseOf (c .settings .receive) i) (getD (c .settings .receive) i 0)) (getD (c .receiving .starts) i 0) n
-    ≡ bytesOf c store i n
+    ≡ firstHeld c store i n
 held-around c store i n a l =
     let cap = getD (c .settings .receive) i 0 in
     let start = getD (c .receiving .starts) i 0 in
@@ -89,6 +87,14 @@ held-around c store i n a l =
 -- an item is not longer than the bytes that it begins
 pub whole-within : (bs : List ℕ) (m : ℕ) → verdict bs ≡ Whole m → m ≤ length bs
 whole-within bs m e = exactly nesting bs (Whole m) .0 e .0
+
+-- the first n bytes held are n, and an item among those held is not longer than they
+pub first-long : (c : Connection) (store : List ℕ) (i n : ℕ) → length (firstHeld c store i n) ≡ n
+first-long c store i n =
+    stream-length store (baseOf (c .settings .receive) i) (getD (c .settings .receive) i 0) (getD (c .receiving .starts) i 0) n
+
+pub held-within : (c : Connection) (store : List ℕ) (i m : ℕ) → verdict (heldOf c store i) ≡ Whole m → m ≤ getD (c .receiving .held) i 0
+held-within c store i m e = omega (arith, whole-within (heldOf c store i) m e, first-long c store i (getD (c .receiving .held) i 0))
 
 -- the bytes of the item alone are that item
 pub whole-alone : (xs : List ℕ) (from n m : ℕ) → n ≤ length xs → verdict (around xs from n) ≡ Whole m
@@ -119,11 +125,12 @@ part-area store b k base cap e f =
     ap (λ (m : ℕ). take m (drop b store)) q ∙ rw (e, f)
 
 -- judging where the bytes lie is judging the bytes held
-pub judged-there : (c : Connection) (store : List ℕ) (i : ℕ) → Area c store i → (part : List ℕ) (start n : ℕ) (p : Protocol) (state : ℕ) (still : Bool)
+pub judged-there : (c : Connection) (store : List ℕ) (i : ℕ) → Area c store i
+    → (part : List ℕ) (start n : ℕ) (p : Protocol) (state : ℕ) (open′ : Bool)
     → part ≡ run store (baseOf (c .settings .receive) i) (getD (c .settings .receive) i 0) → start ≡ getD (c .receiving .starts) i 0
-    → n ≡ getD (c .receiving .held) i 0 → p ≡ speaks i → state ≡ stateOf c i → still ≡ isOpen (c .gate)
-    → heardAs part start p state still (verdict (around part start n)) ≡ byVerdict c store i (verdict (heldOf c store i))
-judged-there c store i a part start n p state still e f g h s o =
+    → n ≡ getD (c .receiving .held) i 0 → p ≡ speaks i → state ≡ stateOf c i → open′ ≡ isOpen (c .gate)
+    → heardAs part start p state open′ (verdict (around part start n)) ≡ byVerdict c store i (verdict (heldOf c store i))
+judged-there c store i a part start n p state open′ e f g h s o =
     let caps = c .settings .receive in
     let cap = getD caps i 0 in
     let there : List ℕ = run store (baseOf caps i) cap in
@@ -148,59 +155,45 @@ module _ (c : Connection) (store : List ℕ) (i : ℕ) where
 
   -- a message that was judged is held
   pub judged-held : judgeOf c store i .number ≡ 0 → judgeOf c store i .len ≤ getD (c .receiving .held) i 0
-  unfolding judgeOf judgedOf
+  unfolding judgeOf
   judged-held z =
       by-test (eqb (earlyOf c i) 0)
       (λ t. rw t (of (verdict (heldOf c store i)) refl))
       (λ t. rw t (omega arith))
     where
-      by-row : (n : ℕ) (m : Message) (x : Next) → byRow n m x .len ≤ n
-      by-row n m (To s) = omega arith
-      by-row n m None = omega arith
-
-      judged : (p : Protocol) (s : ℕ) (bs : List ℕ) → judgedOf p s bs .len ≤ length bs
-      judged p s bs =
-          let a = messageOf p bs in
-          by-test (eqb (numberOf (a .reading)) 0)
-          (λ t. rw t (by-row (length bs) (a .message) (nextOf p s (a .message .kind) (flagOf p (a .message)))))
-          (λ t. rw t (omega arith))
+      judged : (p : Protocol) (s : ℕ) (bs : List ℕ) (j : Judged) → Judges p s bs j → j .len ≤ length bs
+      judged p s bs j (not-read e) = omega arith
+      judged p s bs j (not-led m e x) = omega arith
+      judged p s bs j (message m to e x) = omega arith
 
       of : (v : Verdict) → verdict (heldOf c store i) ≡ v → byVerdict c store i v .len ≤ getD (c .receiving .held) i 0
       of Incomplete e = omega arith
       of (Bad at) e = omega arith
       of (Whole m) e =
-          omega (arith, judged (speaks i) (stateOf c i) (bytesOf c store i m), whole-within (heldOf c store i) m e, stream-length store (baseOf (c .settings .receive) i) (getD (c .settings .receive) i 0) (getD (c .receiving .starts) i 0) m, stream-length store (baseOf (c .settings .receive) i) (getD (c .settings .receive) i 0) (getD (c .receiving .starts) i 0) (getD (c .receiving .held) i 0))
+          let bs : List ℕ = firstHeld c store i m in
+          let short = judged (speaks i) (stateOf c i) bs (judgedOf (speaks i) (stateOf c i) bs) (judges (speaks i) (stateOf c i) bs) in
+          omega (arith, short, first-long c store i m, held-within c store i m e)
 
 -- ---- handing out
 
 module _ (c : Connection) (store : List ℕ) (i : ℕ) (buf : List ℕ) (j : Judged) where
-  pub hand-short : length buf < j .len → told (unchanged c 18) buf ≡ hand c store i buf j
+  pub hand-short : length buf < j .len → told (refused c 18) buf ≡ hand c store i buf j
   unfolding hand
   hand-short h = rw (lt-ltb (length buf) (j .len) h)
 
-  pub hand-made : (k : Connection) (full : List ℕ) → j .len ≤ length buf → k ≡ handed c i j → full ≡ sets buf 0 (bytesOf c store i (j .len))
+  pub hand-made : (k : Connection) (full : List ℕ) → j .len ≤ length buf → k ≡ handed c i j → full ≡ sets buf 0 (firstHeld c store i (j .len))
       → told (record { number = 0; len = j .len; message = j .message; connection = k }) full ≡ hand c store i buf j
   unfolding hand
   hand-made k full l e f = rw (le-ltb (length buf) (j .len) l, e, f)
 
 -- ---- a call
 
--- a record in range with its store is one whose instances hold
-pub holds : (c : Connection) (store : List ℕ) (i : ℕ) → receives c (length store) ≡ true → i < instances → Holds c store i
-holds c store i r h =
-    let t = so (inRange c && receiveStoreOk (c .settings) (length store)) r in
-    record {
-      ranged = is (inRange c) (and-left (inRange c) (receiveStoreOk (c .settings) (length store)) t);
-      stored = eqb-true (length store) (together (c .settings .receive)) (is (receiveStoreOk (c .settings) (length store)) (and-right (inRange c) (receiveStoreOk (c .settings) (length store)) t));
-      instance = h;
-    }
-
 module _ (c : Connection) (store : List ℕ) (i : ℕ) (buf : List ℕ) where
-  pub take-range : receives c (length store) ≡ false → told (unchanged c 23) buf ≡ takeOf c store i buf
+  pub take-range : receives c (length store) ≡ false → told (refused c 23) buf ≡ takeOf c store i buf
   unfolding takeOf
   take-range r = rw r
 
-  pub take-instance : receives c (length store) ≡ true → instances ≤ i → told (unchanged c 10) buf ≡ takeOf c store i buf
+  pub take-instance : receives c (length store) ≡ true → instances ≤ i → told (refused c 10) buf ≡ takeOf c store i buf
   unfolding takeOf
   take-instance r h = rw (r, le-ltb i instances h)
 

@@ -1,3 +1,3 @@
 pub mod Taking
-pub mod Inside
 pub mod Numbers
+pub mod Inside

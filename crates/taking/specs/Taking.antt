@@ -6,7 +6,6 @@ use mathlib.Core.List.{List}
 use lib.Dec.{eqb, leb, ltb}
 use lib.ListN.{length, getD, set}
 use lib.Seq.{sets}
-use Rattle.ring.specs.Ring.{baseOf, stream}
 use Rattle.wire.specs.Instances.{instances}
 use Rattle.item.specs.declared.Verdict.{Verdict}
 use Rattle.item.specs.declared.Verdict.the-variants.{Whole, Bad, Incomplete}
@@ -19,28 +18,20 @@ use Rattle.connection.specs.declared.Connection.{Connection}
 use Rattle.connection.specs.declared.Closing.the-variants.{Of}
 use Rattle.connection.specs.Closings.{isOpen, closedBy}
 use Rattle.connection.specs.Ranges.{receives}
-use Rattle.connection.specs.Parts.{withReceiving, withTalk, withGate}
+use Rattle.connection.specs.Parts.{withReceiving, withTalk, withGate, firstHeld, heldOf}
 use Rattle.judging.specs.declared.Judged.{Judged}
 use Rattle.judging.specs.Judging.{stateOf, ours, barred, movedBy, unjudged, judgedOf}
 use Rattle.taking.specs.declared.Taken.{Taken}
 
 -- an answer, and what the lent buffer then holds
 pub record Told : Type 0 where
-  pub taken : Taken
+  pub answer : Taken
   pub buffer : List ℕ
 
 abbrev pub told : Taken → List ℕ → Told
-told t buf = record { taken = t; buffer = buf }
+told t buf = record { answer = t; buffer = buf }
 
 -- ---- judging
-
--- the first n bytes held of instance i, and all of them
-abbrev pub bytesOf : Connection → List ℕ → ℕ → ℕ → List ℕ
-bytesOf c store i n =
-    stream store (baseOf (c .settings .receive) i) (getD (c .settings .receive) i 0) (getD (c .receiving .starts) i 0) n
-
-abbrev pub heldOf : Connection → List ℕ → ℕ → List ℕ
-heldOf c store i = bytesOf c store i (getD (c .receiving .held) i 0)
 
 -- 19; at Done, notice 3 with nothing held, else 17; our agency, notice 2; and else 0: the bytes decide
 abbrev pub earlyOf : Connection → ℕ → ℕ
@@ -53,9 +44,9 @@ earlyOf c i =
 abbrev pub byVerdict : Connection → List ℕ → ℕ → Verdict → Judged
 byVerdict c store i Incomplete = unjudged (cond (isOpen (c .gate)) 1 20)
 byVerdict c store i (Bad at) = unjudged 14
-byVerdict c store i (Whole n) = judgedOf (speaks i) (stateOf c i) (bytesOf c store i n)
+byVerdict c store i (Whole n) = judgedOf (speaks i) (stateOf c i) (firstHeld c store i n)
 
--- what take answers up to 16
+-- what take answers behind 23 and 10, up to 16
 unfoldable pub judgeOf : Connection → List ℕ → ℕ → Judged
 judgeOf c store i = cond (eqb (earlyOf c i) 0) (byVerdict c store i (verdict (heldOf c store i))) (unjudged (earlyOf c i))
 
@@ -66,11 +57,11 @@ abbrev pub faulty : ℕ → Bool
 faulty n = leb 14 n && leb n 17
 
 -- a refusal otherwise changes nothing
-abbrev pub unchanged : Connection → ℕ → Taken
-unchanged c n = record { number = n; len = 0; message = begun 0; connection = c }
+abbrev pub refused : Connection → ℕ → Taken
+refused c n = record { number = n; len = 0; message = begun 0; connection = c }
 
 abbrev pub undone : Connection → ℕ → ℕ → Taken
-undone c i n = cond (faulty n) (unchanged (withGate c (closedBy (c .gate) (Of n i))) n) (unchanged c n)
+undone c i n = cond (faulty n) (refused (withGate c (closedBy (c .gate) (Of n i))) n) (refused c n)
 
 -- ---- handing out
 
@@ -94,8 +85,8 @@ handed c i j =
 -- 18; then the message's bytes are copied to the front of the lent buffer, freed, and the state moves
 unfoldable pub hand : Connection → List ℕ → ℕ → List ℕ → Judged → Told
 hand c store i buf j =
-    cond (ltb (length buf) (j .len)) (told (unchanged c 18) buf)
-    (told (record { number = 0; len = j .len; message = j .message; connection = handed c i j }) (sets buf 0 (bytesOf c store i (j .len))))
+    cond (ltb (length buf) (j .len)) (told (refused c 18) buf)
+    (told (record { number = 0; len = j .len; message = j .message; connection = handed c i j }) (sets buf 0 (firstHeld c store i (j .len))))
 
 -- ---- a call
 
@@ -105,5 +96,5 @@ byJudged c store i buf j = cond (eqb (j .number) 0) (hand c store i buf j) (told
 unfoldable pub takeOf : Connection → List ℕ → ℕ → List ℕ → Told
 takeOf c store i buf =
     cond (receives c (length store))
-    (cond (ltb i instances) (byJudged c store i buf (judgeOf c store i)) (told (unchanged c 10) buf))
-    (told (unchanged c 23) buf)
+    (cond (ltb i instances) (byJudged c store i buf (judgeOf c store i)) (told (refused c 10) buf))
+    (told (refused c 23) buf)

@@ -20,14 +20,17 @@ use messages::Message;
 use rows::Protocol;
 use wire::instances::INSTANCES;
 ghost use mathlib.Core.Path.{_≡_};
-ghost use Prim.Native.Nat.{_+_, _≤_, _<_};
+ghost use mathlib.Core.Bool.{true};
+ghost use Prim.Native.Nat.{_+_, _≤_, _<_, _^_};
 ghost use lib.ListN.{length, getD};
 ghost use lib.Seq.{sets};
 ghost use Rattle.ring.specs.Ring.{around};
 ghost use Rattle.wire.specs.Instances.{instances};
 ghost use Rattle.item.specs.Verdict.{verdict};
-ghost use Rattle.taking.specs.Taking.{told, bytesOf, heldOf, earlyOf, byVerdict, judgeOf, faulty, unchanged, undone, freedOf, handed, hand, takeOf};
-ghost use Rattle.taking.specs.Inside.{Holds, Hands, heardAs};
+ghost use Rattle.connection.specs.Parts.{InReceive, firstHeld, heldOf};
+ghost use Rattle.connection.specs.Ranges.{inRange};
+ghost use Rattle.taking.specs.Taking.{told, earlyOf, byVerdict, judgeOf, faulty, refused, undone, freedOf, handed, hand, takeOf};
+ghost use Rattle.taking.specs.Inside.{heardAs};
 
 // The number; where it is 0, the message's length and what it says; and the record.
 pub struct Taken {
@@ -45,32 +48,31 @@ fn early(c: Connection, i: usize) -> u64
     let settings = c.settings;
     let side = settings.side;
     let talk = c.talk;
-    let states = talk.states;
-    let state = at(states, i);
+    let state = judging::state(talk, i);
     let receiving = c.receiving;
     let held = receiving.held;
     let finished = base::choose(at(held, i) == 0, 3, 17);
-    let waits = base::choose(judging::ours(side, i, state), 2, 0);
-    let ends = base::choose(state == done(i), finished, waits);
+    let our_turn = base::choose(judging::ours(side, i, state), 2, 0);
+    let ends = base::choose(state == done(i), finished, our_turn);
     base::choose(judging::barred(talk, i), 19, ends)
 }
 
 // The n bytes from the place `start` on of an area, which is a ring, in a state of the protocol.
-fn heard(area: &[u8], start: usize, n: usize, p: Protocol, state: u64, still: bool) -> Judged
+fn heard(area: &[u8], start: usize, n: usize, p: Protocol, state: u64, going: bool) -> Judged
     requires { ⌜ (start ≤ length (now area)) × (n ≤ length (now area)) ⌝ }
-    ensures { λ r. ⌜ r ≡ heardAs (now (area .entry)) start p state still (verdict (around (now (area .entry)) start n)) ⌝ }
+    ensures { λ r. ⌜ r ≡ heardAs (now (area .entry)) start p state going (verdict (around (now (area .entry)) start n)) ⌝ }
 {
     let v = cbor::measure(area, start, n);
     match v {
         Verdict::Whole(len) => judging::judge(p, state, area, start, len),
-        Verdict::Bad(_) => judging::refused(14),
-        Verdict::Incomplete => judging::refused(base::choose(still, 1, 20)),
+        Verdict::Bad(_) => judging::unjudged(14),
+        Verdict::Incomplete => judging::unjudged(base::choose(going, 1, 20)),
     }
 }
 
 // The bytes held of instance i, where they lie.
 fn judge_held(c: Connection, store: &[u8], i: usize) -> Judged
-    requires { ⌜ Holds c (now store) i ⌝ }
+    requires { ⌜ InReceive c (now store) i ⌝ }
     ensures { λ r. ⌜ r ≡ byVerdict c (now (store .entry)) i (verdict (heldOf c (now (store .entry)) i)) ⌝ }
 {
     let settings = c.settings;
@@ -79,7 +81,6 @@ fn judge_held(c: Connection, store: &[u8], i: usize) -> Judged
     let starts = receiving.starts;
     let held = receiving.held;
     let talk = c.talk;
-    let states = talk.states;
     let gate = c.gate;
     let base = ring::base_of(&caps, i);
     let end = base + at(caps, i) as usize;
@@ -89,32 +90,33 @@ fn judge_held(c: Connection, store: &[u8], i: usize) -> Judged
         at(starts, i) as usize,
         at(held, i) as usize,
         p,
-        at(states, i),
+        judging::state(talk, i),
         is_open(gate),
     )
 }
 
-// What take answers up to 16. Nothing is changed, and no buffer is asked for.
+// What take answers behind 23 and 10, up to 16. Nothing is changed, and no buffer is asked for.
 pub fn judge(c: Connection, store: &[u8], i: usize) -> Judged
-    requires { ⌜ Holds c (now store) i ⌝ }
+    requires { ⌜ InReceive c (now store) i ⌝ }
     ensures { λ r. ⌜ r ≡ judgeOf c (now (store .entry)) i ⌝ }
 {
     let number = early(c, i);
     if number != 0 {
-        return judging::refused(number);
+        return judging::unjudged(number);
     }
     judge_held(c, store, i)
 }
 
-fn is_fault(number: u64) -> bool
+// 14 to 17 are faults: they close.
+fn faulty(number: u64) -> bool
     ensures { λ r. ⌜ r ≡ faulty number ⌝ }
 {
     base::and(14 <= number, number <= 17)
 }
 
 // A refusal or a notice that changes nothing.
-fn left(c: Connection, number: u64) -> Taken
-    ensures { λ r. ⌜ r ≡ unchanged c number ⌝ }
+fn refused(c: Connection, number: u64) -> Taken
+    ensures { λ r. ⌜ r ≡ refused c number ⌝ }
 {
     Taken {
         number,
@@ -125,20 +127,20 @@ fn left(c: Connection, number: u64) -> Taken
 }
 
 // A fault closes the connection, with its number and instance; any other number changes nothing.
-fn refuse(c: Connection, instance: u64, number: u64) -> Taken
+fn undone(c: Connection, instance: u64, number: u64) -> Taken
     ensures { λ r. ⌜ r ≡ undone c instance number ⌝ }
 {
-    if is_fault(number) {
+    if faulty(number) {
         let gate = c.gate;
         let closed = with_gate(c, close(gate, Closing::Of(number, instance)));
-        return left(closed, number);
+        return refused(closed, number);
     }
-    left(c, number)
+    refused(c, number)
 }
 
-// n bytes of instance i are freed: their room is used again.
+// n bytes of instance i are freed: their room is used again. Place and bytes are small, so that their sum fits.
 fn freed(r: Receiving, caps: [u64; INSTANCES], i: usize, n: u64) -> Receiving
-    requires { ⌜ (i < instances) × (0 < getD caps i 0) × (getD (r .starts) i 0 + n < 4294967296) × (n ≤ getD (r .held) i 0) ⌝ }
+    requires { ⌜ (i < instances) × (0 < getD caps i 0) × (getD (r .starts) i 0 + n < 2 ^ 32) × (n ≤ getD (r .held) i 0) ⌝ }
     ensures { λ q. ⌜ q ≡ freedOf r caps i n ⌝ }
 {
     let starts = r.starts;
@@ -156,8 +158,8 @@ fn freed(r: Receiving, caps: [u64; INSTANCES], i: usize, n: u64) -> Receiving
 }
 
 // The record once the message that was judged is handed out.
-fn after(c: Connection, i: usize, j: Judged) -> Connection
-    requires { ⌜ Hands c i j ⌝ }
+fn handed(c: Connection, i: usize, j: Judged) -> Connection
+    requires { ⌜ (inRange c ≡ true) × (i < instances) × (j .len ≤ getD (c .receiving .held) i 0) ⌝ }
     ensures { λ r. ⌜ r ≡ handed c i j ⌝ }
 {
     let settings = c.settings;
@@ -167,13 +169,13 @@ fn after(c: Connection, i: usize, j: Judged) -> Connection
     let gate = c.gate;
     let message = j.message;
     let emptier = with_receiving(c, freed(receiving, caps, i, j.len as u64), gate);
-    with_talk(emptier, judging::moved(talk, i, message.kind, j.next))
+    with_talk(emptier, judging::moved_by(talk, i, message.kind, j.next))
 }
 
 // The message's bytes to the front of the lent buffer.
 fn copy(c: Connection, store: &[u8], i: usize, buf: &mut [u8], n: usize)
-    requires { ⌜ Holds c (now store) i × (n ≤ getD (c .receiving .held) i 0) × (n ≤ length (now buf)) ⌝ }
-    ensures { λ _. ⌜ now (buf .exit) ≡ sets (now (buf .entry)) 0 (bytesOf c (now (store .entry)) i n) ⌝ }
+    requires { ⌜ InReceive c (now store) i × (n ≤ getD (c .receiving .held) i 0) × (n ≤ length (now buf)) ⌝ }
+    ensures { λ _. ⌜ now (buf .exit) ≡ sets (now (buf .entry)) 0 (firstHeld c (now (store .entry)) i n) ⌝ }
 {
     let settings = c.settings;
     let caps = settings.receive;
@@ -192,12 +194,12 @@ fn copy(c: Connection, store: &[u8], i: usize, buf: &mut [u8], n: usize)
 }
 
 // The message that was judged is handed out, if there is room for it.
-fn hand_out(c: Connection, store: &[u8], i: usize, buf: &mut [u8], j: Judged) -> Taken
-    requires { ⌜ Holds c (now store) i × Hands c i j ⌝ }
+fn hand(c: Connection, store: &[u8], i: usize, buf: &mut [u8], j: Judged) -> Taken
+    requires { ⌜ InReceive c (now store) i × (j .len ≤ getD (c .receiving .held) i 0) ⌝ }
     ensures { λ r. ⌜ told r (now (buf .exit)) ≡ hand c (now (store .entry)) i (now (buf .entry)) j ⌝ }
 {
     if buf.len() < j.len {
-        return left(c, 18);
+        return refused(c, 18);
     }
     copy(c, store, i, buf, j.len);
     let message = j.message;
@@ -205,7 +207,7 @@ fn hand_out(c: Connection, store: &[u8], i: usize, buf: &mut [u8], j: Judged) ->
         number: 0,
         len: j.len,
         message,
-        connection: after(c, i, j),
+        connection: handed(c, i, j),
     }
 }
 
@@ -214,15 +216,15 @@ pub fn take(c: Connection, store: &[u8], instance: u64, buf: &mut [u8]) -> Taken
     ensures { λ r. ⌜ told r (now (buf .exit)) ≡ takeOf c (now (store .entry)) instance (now (buf .entry)) ⌝ }
 {
     if !receives(c, store.len()) {
-        return left(c, 23);
+        return refused(c, 23);
     }
     if INSTANCES as u64 <= instance {
-        return left(c, 10);
+        return refused(c, 10);
     }
     let i = instance as usize;
     let j = judge(c, store, i);
     if j.number != 0 {
-        return refuse(c, instance, j.number);
+        return undone(c, instance, j.number);
     }
-    hand_out(c, store, i, buf, j)
+    hand(c, store, i, buf, j)
 }

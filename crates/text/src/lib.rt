@@ -7,6 +7,9 @@ ghost use lib.Seq.{sets};
 ghost use Rattle.io.specs.Digits.{glyph};
 ghost use Rattle.text.specs.Text.{Decimal};
 
+// How many digits a number of 64 bits has at most.
+pub const DIGITS: usize = 20;
+
 // One byte.
 pub fn byte(out: &mut [u8], at: usize, b: u8) -> usize
     requires { ⌜ at < length (now out) ⌝ }
@@ -21,14 +24,14 @@ pub fn decimal(out: &mut [u8], at: usize, n: u64) -> usize
     requires { ⌜ at + 20 ≤ length (now out) ⌝ }
     ensures { λ r. ⌜ Decimal (now (out .entry)) at n (now (out .exit)) r ⌝ }
 {
-    let mut digits = [0u8; 20];
+    let mut digits = [0u8; DIGITS];
     let k = io::decimal(n, &mut digits);
     front(out, at, &digits, k);
     at + k
 }
 
-// The first k of twenty digits.
-fn front(out: &mut [u8], at: usize, digits: &[u8; 20], k: usize)
+// The first k digits.
+fn front(out: &mut [u8], at: usize, digits: &[u8; DIGITS], k: usize)
     requires { ⌜ (at + k ≤ length (now out)) × (k ≤ 20) ⌝ }
     ensures { λ _. ⌜ now (out .exit) ≡ sets (now (out .entry)) at (take k (now (digits .entry))) ⌝ }
 {
@@ -53,5 +56,5 @@ fn digit(d: u8) -> u8
     if d < 10 {
         return b'0' + d;
     }
-    87 + d
+    b'a' - 10 + d
 }

@@ -16,6 +16,9 @@ ghost use lib.ListN.{length};
 // No vector is longer than the ring.
 const ROOM: usize = 32;
 
+// No line is longer.
+const LINE: usize = 128;
+
 fn main() {
     io::write_all(STDOUT_FILENO, b"RFC 8949, appendix A\n");
     numbers();
@@ -31,6 +34,7 @@ fn main() {
     each(b"8181818181818181818181818181818100 8181818181818181818181818181818181");
     io::write_all(STDOUT_FILENO, b"Easy to get wrong\n");
     nested();
+    chunks();
     greatest();
 }
 
@@ -112,6 +116,11 @@ fn nested() {
     each(b"818181818181818181818181818181815f4100ff 8181818181818181818181818181818140");
 }
 
+// A chunk is a string of the same type, and known to be none by its first byte; a pair is a key and a value.
+fn chunks() {
+    each(b"5f4100ff 5f61 7f6100ff a10001");
+}
+
 // As many bytes, elements and pairs as can be announced are merely incomplete; bytes after an item are not the item's;
 // a break is no tag's content.
 fn greatest() {
@@ -124,28 +133,13 @@ fn greatest() {
 fn each(row: &[u8]) {
     let mut from: usize = 0;
     while from < row.len() {
-        let to = end(row, from);
+        let to = script::end(row, from, b' ');
         vector(&row[from..to]);
         if to == row.len() {
             return;
         }
         from = to + 1;
     }
-}
-
-// Where the word from a place on ends.
-fn end(row: &[u8], from: usize) -> usize
-    requires { ⌜ from ≤ length (now row) ⌝ }
-    ensures { λ r. ⌜ (from ≤ r) × (r ≤ length (now (row .entry))) ⌝ }
-{
-    let mut at = from;
-    while at < row.len() {
-        if row[at] == b' ' {
-            return at;
-        }
-        at += 1;
-    }
-    at
 }
 
 // One vector, in hex.
@@ -188,15 +182,18 @@ fn digit(x: u8) -> u8
     (x - b'a') % 6 + 10
 }
 
+// The line of one vector.
 fn line(bytes: &[u8])
     requires { ⌜ length (now bytes) ≤ 32 ⌝ }
 {
     let v = cbor::measure_slice(bytes);
-    print_bytes(bytes);
-    print_verdict(v);
-    print(b", prefixes ", prefixes(bytes));
-    print(b", rings ", rings(bytes, v));
-    io::write_all(STDOUT_FILENO, b"\n");
+    let mut space = [0u8; LINE];
+    let out: &mut [u8] = &mut space;
+    let mut at = answers::hex(out, 0, bytes);
+    at = verdict(out, at, v);
+    at = count(out, at, b", prefixes", prefixes(bytes));
+    at = count(out, at, b", rings", rings(bytes, v));
+    answers::end(out, at);
 }
 
 // How many proper prefixes are incomplete.
@@ -241,6 +238,7 @@ fn measured(store: &[u8; ROOM], from: usize, n: usize) -> Verdict
     cbor::measure(store, from, n)
 }
 
+// Whether two verdicts are the same, by cases.
 fn agree(v: Verdict, w: Verdict) -> bool {
     match v {
         Verdict::Whole(n) => whole(w, n),
@@ -249,6 +247,7 @@ fn agree(v: Verdict, w: Verdict) -> bool {
     }
 }
 
+// The three cases, each with its number.
 fn whole(v: Verdict, n: usize) -> bool {
     match v {
         Verdict::Whole(m) => m == n,
@@ -283,30 +282,17 @@ fn one(so: bool) -> usize
     0
 }
 
-fn print_bytes(bytes: &[u8]) {
-    let mut i: usize = 0;
-    while i < bytes.len() {
-        print_byte(bytes[i]);
-        i += 1;
-    }
-}
-
-fn print_byte(b: u8) {
-    io::print_hex(STDOUT_FILENO, b as u64, 2);
-}
-
-fn print_verdict(v: Verdict) {
+// A verdict in words, with its number.
+fn verdict(out: &mut [u8], at: usize, v: Verdict) -> usize {
     match v {
-        Verdict::Whole(n) => print(b" whole ", n),
-        Verdict::Bad(at) => print(b" bad ", at),
-        Verdict::Incomplete => {
-            io::write_all(STDOUT_FILENO, b" incomplete");
-        }
+        Verdict::Whole(n) => count(out, at, b" whole", n),
+        Verdict::Bad(n) => count(out, at, b" bad", n),
+        Verdict::Incomplete => answers::words(out, at, b" incomplete"),
     }
 }
 
-// A word and a number.
-fn print(word: &[u8], n: usize) {
-    io::write_all(STDOUT_FILENO, word);
-    io::print_decimal(STDOUT_FILENO, n as u64);
+// Words and a number.
+fn count(out: &mut [u8], at: usize, words: &[u8], n: usize) -> usize {
+    let next = answers::words(out, at, words);
+    answers::number(out, next, n as u64)
 }

@@ -16,7 +16,7 @@ use Rattle.wire.specs.declared.instances.Side.{Side}
 use Rattle.wire.specs.declared.instances.Side.the-variants.{Dialler, Accepter}
 use Rattle.wire.specs.declared.instances.Route.{Route}
 use Rattle.wire.specs.declared.instances.Route.the-variants.{Unknown, Wrong, To}
-use Rattle.wire.specs.Instances.{Instance, Role, ofSide, bundle, instances, protocolOf, modeOf, modeFrom, initiates, find, takes, orElse, routeOf, other, pairOf, OneWay}
+use Rattle.wire.specs.Instances.{Instance, Role, ofSide, bundle, instances, protocolOf, modeOf, modeFrom, initiates, find, takes, orElse, routeOf, Within, other, pairOf, OneWay}
 use Rattle.wire.specs.Inside.{columnOf, byMode}
 
 -- what stands past the bundle's end
@@ -313,6 +313,26 @@ wrong side p m i two = by-test (ltb p (length table)) (λ t. wrong-at side p m i
 
 pub one-way : OneWay
 one-way = record { reached = reached; only = only; unknown = unknown; wrong = wrong; arrives = arrives; paired = paired }
+
+-- ---- a route leads to an instance, if to any
+
+found-within : (f : Instance → Bool) (i : ℕ) → find f 0 bundle ≡ some i → i < instances
+found-within f i e = let q = find-some f nobody bundle 0 i e in omega (arith, q .1, q .2)
+
+within-or : (o : Option ℕ) (r : Route) → ((i : ℕ) → o ≡ some i → i < instances) → Within r → Within (orElse o Wrong r)
+within-or none r f h = h
+within-or (some i) r f h = f i refl
+
+pub route-within : (side : Side) (p m : ℕ) → Within (routeOf side p m)
+unfolding routeOf
+route-within side p m = go (find (takes side p m) 0 bundle) refl
+  where
+    speaks : Instance → Bool
+    speaks x = eqb (x .protocol) p
+
+    go : (o : Option ℕ) → find (takes side p m) 0 bundle ≡ o → Within (orElse o To (orElse (find speaks 0 bundle) Wrong Unknown))
+    go (some i) e = found-within (takes side p m) i e
+    go none e = within-or (find speaks 0 bundle) Unknown (λ i q. found-within speaks i q) tt
 
 -- ---- what a header can hold
 

@@ -1,17 +1,20 @@
 -- Laws of segments. T5, the round trip of the header, is `round-trip`.
 -- Assumes nothing.
 use mathlib.Core.Path.{_≡_, refl, sym, ap, _∙_}
-use mathlib.Core.List.{List, [], _∷_, _++_}
-use Prim.Native.Nat.{ℕ, zero, suc, _+_, _*_, _/_, _%_, _^_, _<_, _≤_}
+use mathlib.Core.List.{List, [], _∷_, _++_, append-nil, append-assoc}
+use Prim.Native.Nat.{ℕ, zero, suc, _+_, _-_, _*_, _/_, _%_, _^_, _<_, _≤_}
 use native.Mathlib.Omega.{arith}
+use native.Mathlib.Numerals.{add-one}
 use native.Mathlib.Nat.{div-add-mod', mod-lt}
-use lib.ListN.{length, take, drop, length-append, length-drop, take-append-drop}
-use lib.Seq.{sets, take-at, drop-at, take-all, take-add, drop-drop, length-take-le}
+use lib.ListN.{length, take, drop, set, replicate, length-append, length-drop, take-append-drop}
+use lib.Seq.{sets, set-at, take-at, drop-at, take-all, take-add, take-suc-set, drop-drop, length-take-le}
+use borrow.Author.Tests.{lt-ltb}
 use Rattle.base.specs.Numbers.{Bytes, number, octets}
 use Rattle.base.proofs.ListLaws.{sets-append}
 use Rattle.base.proofs.NumberLaws.{length-octets, number-octets, octets-number, number-below, bytes-take, bytes-drop}
 use Rattle.wire.specs.declared.segment.Segment.{Segment}
-use Rattle.wire.specs.Segments.{headerLength, Fits, decoded, encoded, RoundTrip, Carried, Divided, in-header, in-payload, whole, DividedOnce}
+use Rattle.wire.specs.declared.segment.Header.{Header}
+use Rattle.wire.specs.Segments.{headerLength, Fits, decoded, encoded, RoundTrip, added, Adds, Carried, Divided, in-header, in-payload, whole, DividedOnce}
 
 -- the three fields stored one after the other are the header
 pub stored : (l : List ℕ) (s : Segment)
@@ -57,15 +60,15 @@ module _ (s : Segment) where
       rw (t, w, l, m, p)
 
 module _ (bs : List ℕ) (eight : length bs ≡ headerLength) (bytes : Bytes bs) where
-  part : (k at : ℕ) → k + at ≤ 8 → (length (take k (drop at bs)) ≡ k) × Bytes (take k (drop at bs))
-  part k at h =
+  piece : (k at : ℕ) → k + at ≤ 8 → (length (take k (drop at bs)) ≡ k) × Bytes (take k (drop at bs))
+  piece k at h =
       (length-take-le k (drop at bs) (omega (arith, length-drop at bs)), bytes-take k (drop at bs) (bytes-drop at bs bytes))
 
   below : (k at : ℕ) → k + at ≤ 8 → number (take k (drop at bs)) < 256 ^ k
-  below k at h = let p = part k at h in rw (p .0) at (number-below (take k (drop at bs)) (p .1))
+  below k at h = let p = piece k at h in rw (p .0) at (number-below (take k (drop at bs)) (p .1))
 
   again : (k at : ℕ) → k + at ≤ 8 → octets k (number (take k (drop at bs))) ≡ take k (drop at bs)
-  again k at h = let p = part k at h in rw (p .0) at (octets-number (take k (drop at bs)) (p .1))
+  again k at h = let p = piece k at h in rw (p .0) at (octets-number (take k (drop at bs)) (p .1))
 
   written-read : Fits (decoded bs) × (encoded (decoded bs) ≡ bs)
   unfolding decoded encoded
@@ -80,6 +83,33 @@ module _ (bs : List ℕ) (eight : length bs ≡ headerLength) (bytes : Bytes bs)
 
 pub round-trip : RoundTrip
 round-trip = record { read-written = read-written; written-read = written-read }
+
+-- ---- the header record
+
+-- the header record with the bytes hs, of which there are eight at the most
+abbrev pub part : List ℕ → Header
+part hs = record { bytes = hs ++ replicate (headerLength - length hs) 0; count = length hs }
+
+pub add-part : (hs : List ℕ) (b : ℕ) → length hs < headerLength → added (part hs) b ≡ part (hs ++ (b ∷ []))
+unfolding added
+add-part hs b h =
+    let n = length hs in
+    let e : headerLength - n ≡ suc (headerLength - suc n) = omega arith in
+    let l : length (hs ++ (b ∷ [])) ≡ suc n = length-append hs (b ∷ []) ∙ omega arith in
+    let s : set (hs ++ replicate (headerLength - n) 0) n b ≡ hs ++ (b ∷ replicate (headerLength - suc n) 0) =
+    ap (λ (k : ℕ). set (hs ++ replicate k 0) n b) e ∙ set-at hs 0 (replicate (headerLength - suc n) 0) b n refl in
+    rw (lt-ltb n headerLength h, s, l, append-assoc)
+    (ap (λ (k : ℕ). record { bytes = hs ++ (b ∷ replicate (headerLength - suc n) 0); count = k }) (omega arith))
+
+-- a whole header has its bytes and no others
+pub part-whole : (hs : List ℕ) → length hs ≡ headerLength → part hs .bytes ≡ hs
+part-whole hs e =
+    let z : headerLength - length hs ≡ 0 = omega arith in
+    ap (λ (k : ℕ). hs ++ replicate k 0) z ∙ append-nil hs
+
+pub adds : Adds
+unfolding added
+adds h b eight some = rw (lt-ltb (h .count) headerLength some, add-one) (take-suc-set (h .bytes) (h .count) b (omega arith))
 
 -- ---- one division
 

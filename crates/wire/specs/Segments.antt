@@ -38,9 +38,17 @@ pub record RoundTrip : Type 0 where
 abbrev pub empty : Header
 empty = record { bytes = replicate headerLength 0; count = 0 }
 
+-- the bytes that have come
+abbrev pub came : Header → List ℕ
+came h = take (h .count) (h .bytes)
+
 -- one byte more; a whole record stays
 unfoldable pub added : Header → ℕ → Header
 added h b = cond (ltb (h .count) headerLength) (record { bytes = set (h .bytes) (h .count) b; count = h .count + 1 }) h
+
+-- the bytes that have come, with one more, are those that had come with it behind them
+abbrev pub Adds : Type 0
+Adds = (h : Header) (b : ℕ) → length (h .bytes) ≡ headerLength → h .count < headerLength → came (added h b) ≡ came h ++ (b ∷ [])
 
 -- a whole segment: what its header says, and its payload
 pub record Carried : Type 0 where

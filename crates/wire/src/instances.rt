@@ -25,9 +25,9 @@ pub enum Route {
 // a number with no instance has NONE.
 const NUMBERS: usize = 9;
 
-const NONE: usize = 255;
+const NONE: u8 = 255;
 
-const ROWS: [[usize; 2]; 9] = [
+const ROWS: [[u8; 2]; NUMBERS] = [
     [0, 0],
     [NONE, NONE],
     [2, 1],
@@ -40,10 +40,10 @@ const ROWS: [[usize; 2]; 9] = [
 ];
 
 // The protocol number by instance.
-const PROTOCOLS: [u16; 9] = [0, 2, 2, 3, 3, 4, 4, 8, 8];
+const PROTOCOLS: [u16; INSTANCES] = [0, 2, 2, 3, 3, 4, 4, 8, 8];
 
 // The mode of what we send by instance, then by side, the dialler first: 0 as initiator, 1 as responder.
-const MODES: [[u8; 2]; 9] = [
+const MODES: [[u8; 2]; INSTANCES] = [
     [0, 1],
     [0, 0],
     [1, 1],
@@ -95,7 +95,7 @@ pub fn find(side: Side, protocol: u16, mode: u8) -> Route
     if i == NONE {
         return Route::Unknown;
     }
-    by_mode(side, mode, i)
+    by_mode(side, mode, i as usize)
 }
 
 // A segment with the mode of our own end did not come from the other.

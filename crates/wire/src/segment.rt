@@ -9,7 +9,10 @@ ghost use lib.Seq.{sets};
 ghost use Rattle.wire.specs.Segments.{headerLength, empty, added, Fits, decoded, encoded};
 
 // How many bytes a header has.
-pub const LENGTH: usize = 8;
+pub const HEADER: usize = 8;
+
+// What the mode counts in the two bytes that it has with the protocol number.
+const MODE: u64 = 32768;
 
 // What a header says: len counts the payload's bytes.
 pub struct Segment {
@@ -21,7 +24,7 @@ pub struct Segment {
 
 // The header bytes that have come so far: the first `count` of `bytes`.
 pub struct Header {
-    pub bytes: [u8; 8],
+    pub bytes: [u8; HEADER],
     pub count: usize,
 }
 
@@ -31,7 +34,7 @@ impl Header {
         ensures { λ r. ⌜ r ≡ empty ⌝ }
     {
         Header {
-            bytes: [0; 8],
+            bytes: [0; HEADER],
             count: 0,
         }
     }
@@ -41,7 +44,7 @@ impl Header {
         ensures { λ r. ⌜ r ≡ added self b ⌝ }
     {
         let at = self.count;
-        if LENGTH <= at {
+        if HEADER <= at {
             return self;
         }
         let mut next = self;
@@ -54,10 +57,10 @@ impl Header {
     pub fn whole(self) -> bool
         ensures { λ r. ⌜ r ≡ leb headerLength (self .count) ⌝ }
     {
-        LENGTH <= self.count
+        HEADER <= self.count
     }
 
-    // What the eight bytes say.
+    // What they say once all are in.
     pub fn segment(self) -> Segment
         ensures { λ r. ⌜ (r ≡ decoded (self .bytes)) × Fits r ⌝ }
     {
@@ -66,7 +69,8 @@ impl Header {
     }
 }
 
-fn decode(bytes: [u8; 8]) -> Segment
+// What eight bytes say.
+fn decode(bytes: [u8; HEADER]) -> Segment
     ensures { λ r. ⌜ (r ≡ decoded bytes) × Fits r ⌝ }
 {
     let time = number::read(&bytes, 0, 4);
@@ -74,8 +78,8 @@ fn decode(bytes: [u8; 8]) -> Segment
     let len = number::read(&bytes, 6, 2);
     Segment {
         time: time as u32,
-        mode: (word / 32768) as u8,
-        protocol: (word % 32768) as u16,
+        mode: (word / MODE) as u8,
+        protocol: (word % MODE) as u16,
         len: len as u16,
     }
 }
@@ -85,7 +89,7 @@ pub fn write(buf: &mut [u8], s: Segment)
     requires { ⌜ (headerLength ≤ length (now buf)) × Fits s ⌝ }
     ensures { λ _. ⌜ now (buf .exit) ≡ sets (now (buf .entry)) 0 (encoded s) ⌝ }
 {
-    let word = (s.mode as u64) * 32768 + (s.protocol as u64);
+    let word = (s.mode as u64) * MODE + (s.protocol as u64);
     number::write(buf, 0, 4, s.time as u64);
     number::write(buf, 4, 2, word);
     number::write(buf, 6, 2, s.len as u64);

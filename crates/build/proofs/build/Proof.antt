@@ -11,13 +11,13 @@ use Rattle.build.proofs.build.Tie as tie
 returns : tie.Need-returns
 returns c =
     let a = c .before .before .before .before .before .before .args in
-    rw (c .refuse .ensures) (build-above (a .instance) (a .kind) (a .numbers .now) (a .runs) (a .first .now) (a .second .now) (a .buf .now)
+    rw (c .refused .ensures) (build-above (a .instance) (a .kind) (a .numbers .now) (a .runs) (a .first .now) (a .second .now) (a .buf .now)
     (c .before .if1 .taken))
 
 returns-2 : tie.Need-returns-2
 returns-2 c =
     let a = c .before .before .before .before .before .before .before .before .args in
-    rw (c .refuse2 .ensures)
+    rw (c .refused2 .ensures)
     (build-not-given (a .instance) (a .kind) (a .numbers .now) (a .runs) (a .first .now) (a .second .now) (a .buf .now)
     (c .before .before .before .if1 .left)
     (sym (c .before .before .are-given .ensures) ∙ not-true _ (c .before .if2 .taken)))
@@ -45,7 +45,7 @@ returns-3 c =
 returns-4 : tie.Need-returns-4
 returns-4 c =
     let a = c .before .before .before .before .before .before .before .before .before .before .before .before .args in
-    rw (c .refuse3 .ensures)
+    rw (c .refused3 .ensures)
     (build-unknown (a .instance) (a .kind) (a .numbers .now) (a .runs) (a .first .now) (a .second .now) (a .buf .now)
     (c .before .before .before .before .before .before .before .if1 .left)
     (sym (c .before .before .before .before .before .before .are-given .ensures) ∙ not-false _ (c .before .before .before .before .before .if2 .left))

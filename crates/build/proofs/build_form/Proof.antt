@@ -10,7 +10,7 @@ use Rattle.build.proofs.build_form.Tie as tie
 returns : tie.Need-returns
 returns c =
     let a = c .before .before .before .before .before .before .before .before .args in
-    rw (c .refuse .ensures)
+    rw (c .refused .ensures)
     (unplanned (a .numbers .now) (a .runs) (a .first .now) (a .second .now) (a .kind) (formAt (a .row) .fields) (a .buf .now)
     (c .before .before .before .judge .result)
     (c .before .before .before .judge .ensures) (not-true _ (c .before .if1 .taken)))

@@ -15,7 +15,7 @@ returns : tie.Need-returns
 returns c =
     let s = c .before .before .before .before .before .before .before in
     let a = s .args in
-    rw (c .refuse .ensures)
+    rw (c .refused .ensures)
     (hand-short (a .first .now) (a .second .now) (formAt (a .row) .fields) (a .kind) (a .arguments) (a .buf .now) (s .pre .1)
     (c .before .before .before .heads .ensures .0)
     (c .before .before .fits2 .ensures) (not-true _ (c .before .if1 .taken)))

@@ -25,7 +25,7 @@ returns c =
 
 number-at-requires : tie.Need-number-at-requires
 number-at-requires c κs =
-    let p = c .before .before .before .before .pre .0 in (p .0, p .1, omega arith, p .3)
+    let p = c .before .before .before .before .pre .0 in (p .0, p .1, omega arith, omega arith)
 
 left-of-requires : tie.Need-left-of-requires
 left-of-requires c κs =
@@ -40,7 +40,7 @@ returns-2 c =
     let may : mayBegin (a .kind) (a .depth) (a .m) ≡ true = sym (c .before .before .before .before .before .may-begin .ensures) ∙ c .before .before .before .before .if1 .taken in
     c .follows .ensures xs (a .at) (a .kind) (a .count) (a .depth) len (omega arith) (omega arith) (p .0 .5) (p .0 .4)
     (c .before .left-of .ensures) may
-    (subst⁻¹ (λ (v : ℕ). Asked xs (a .at) (a .kind) (a .count) (a .depth) (content (a .m) v) (a .at + 1 + (a .k + 1))) (c .before .before .number-at .ensures)
+    (subst⁻¹ (λ (v : ℕ). Asked xs (a .at) (a .kind) (a .count) (a .depth) (content (a .m) v) (a .at + 1 + (a .k + 1))) (c .before .before .number-at .ensures .0)
     (asked-long xs (a .at) (a .kind) (a .count) (a .depth) (omega arith) (p .0 .5) (a .m) (a .k) (p .1) may (omega arith)))
 
 returns-3 : tie.Need-returns-3
@@ -60,6 +60,7 @@ long-spec =
     (λ c. search needs)
     (λ c. search needs)
     returns
+    (λ c. search needs)
     (λ c. search needs)
     number-at-requires
     (λ c. search needs)

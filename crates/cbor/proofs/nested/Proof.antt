@@ -18,7 +18,7 @@ returns-2 c =
     let a = c .before .before .before .before .args in
     let p = c .before .before .before .before .pre in
     λ xs l e.
-    subst (Enters xs (a .at) (a .depth) (a .at + 1) 0) (sym (c .wide .ensures))
+    subst (Enters xs (a .at) (a .depth) (a .at + 1) 0) (sym (c .wide .ensures .0))
     (enter-array xs (a .at) (a .depth) (a .b) l e (omega arith) (omega arith) (p .1) (omega arith))
 
 returns-3 : tie.Need-returns-3
@@ -26,7 +26,7 @@ returns-3 c =
     let a = c .before .before .before .before .args in
     let p = c .before .before .before .before .pre in
     λ xs l e.
-    subst (λ (v : ℕ). Enters xs (a .at) (a .depth) (a .at + 1) 0 (v * 2)) (sym (c .wide2 .ensures))
+    subst (λ (v : ℕ). Enters xs (a .at) (a .depth) (a .at + 1) 0 (v * 2)) (sym (c .wide2 .ensures .0))
     (enter-map xs (a .at) (a .depth) (a .b) l e (omega arith) (omega arith) (omega arith) (p .2))
 
 returns-4 : tie.Need-returns-4

@@ -13,7 +13,7 @@ returns : tie.Need-returns
 returns c =
     let a = c .before .before .before .args in
     subst⁻¹ (Pieces (a .len) (a .from) (a .n) (a .at) (a .from) 0) (c .less .ensures)
-    (pieces-near (a .len) (a .from) (a .n) (a .at) (c .before .least .result) (omega arith) (omega arith) (omega arith))
+    (pieces-near (a .len) (a .from) (a .n) (a .at) (c .before .smaller .result) (omega arith) (omega arith) (omega arith))
 
 returns-2 : tie.Need-returns-2
 returns-2 c =

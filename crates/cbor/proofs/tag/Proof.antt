@@ -26,7 +26,7 @@ returns-3 c =
     let p = c .before .before .before .before .pre in
     λ xs l e.
     enter-tag xs (a .at) (a .depth) (a .b) l e (a .at + 1 + c .size .result)
-    (ap (λ (w : ℕ). a .at + 1 + w) (c .size .ensures ∙ c .before .width .ensures)) (omega arith) (omega arith) (p .1) (p .2)
+    (ap (λ (w : ℕ). a .at + 1 + w) (c .size .ensures ∙ c .before .following .ensures)) (omega arith) (omega arith) (p .1) (p .2)
 
 pub tag-spec : {M : Type 1} → statement M
 tag-spec =

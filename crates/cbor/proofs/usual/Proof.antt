@@ -73,10 +73,10 @@ returns-3 c =
     let b = getD (a .s .now) (a .p) 0 in
     let e : b ≡ getD xs (a .at) 0 = spot-here (a .s .now) (a .from) (a .n) (a .at) (a .p) (p .1) q in
     pass-number xs (a .at) (a .depth) b (omega arith) e (a .at + 1 + c .size .result)
-    (ap (λ (w : ℕ). a .at + 1 + w) (c .size .ensures ∙ c .before .width .ensures)) (omega arith) (omega arith)
+    (ap (λ (w : ℕ). a .at + 1 + w) (c .size .ensures ∙ c .before .following .ensures)) (omega arith) (omega arith)
 
-add-text : tie.Need-add-text
-add-text c =
+add-short-string : tie.Need-add-short-string
+add-short-string c =
     let a = c .before .before .before .before .before .args in
     let p = c .before .before .before .before .before .pre in
     let q = p .2 in
@@ -84,8 +84,8 @@ add-text c =
     let room = q .inside in
     omega arith
 
-shared-slice-read-text : tie.Need-shared-slice-read-text
-shared-slice-read-text c =
+shared-slice-read-short-string : tie.Need-shared-slice-read-short-string
+shared-slice-read-short-string c =
     let a = c .before .before .before .before .before .before .args in
     let p = c .before .before .before .before .before .before .pre in
     let q = p .2 in
@@ -93,8 +93,8 @@ shared-slice-read-text c =
     let room = q .inside in
     omega arith
 
-text-requires : tie.Need-text-requires
-text-requires c κs =
+short-string-requires : tie.Need-short-string-requires
+short-string-requires c κs =
     let a = c .before .before .before .before .before .before .args in
     let p = c .before .before .before .before .before .before .pre in
     let q = p .2 in
@@ -113,7 +113,7 @@ returns-4 c =
     let len = around-length (a .s .now) (a .from) (a .n) (p .1) in
     let b = getD (a .s .now) (a .p) 0 in
     let e : b ≡ getD xs (a .at) 0 = spot-here (a .s .now) (a .from) (a .n) (a .at) (a .p) (p .1) q in
-    c .text .ensures xs (a .depth) b len e (spot-byte (a .s .now) (a .from) (a .n) (a .at) (a .p) 1 (p .1) q (omega arith)) refl (omega arith)
+    c .short-string .ensures xs (a .depth) b len e (spot-byte (a .s .now) (a .from) (a .n) (a .at) (a .p) 1 (p .1) q (omega arith)) refl (omega arith)
     (omega arith)
 
 nested-requires : tie.Need-nested-requires
@@ -190,7 +190,7 @@ returns-9 c =
     let b = getD (a .s .now) (a .p) 0 in
     let e : b ≡ getD xs (a .at) 0 = spot-here (a .s .now) (a .from) (a .n) (a .at) (a .p) (p .1) q in
     pass-simple xs (a .at) (a .depth) b (omega arith) e (a .at + 1 + c .size2 .result)
-    (ap (λ (w : ℕ). a .at + 1 + w) (c .size2 .ensures ∙ c .before .width2 .ensures)) (omega arith) (omega arith)
+    (ap (λ (w : ℕ). a .at + 1 + w) (c .size2 .ensures ∙ c .before .following2 .ensures)) (omega arith) (omega arith)
     (omega (arith, c .before .before .before .before .before .before .before .before .before .shared-slice-known2 .given (a .p)))
     (c .before .before .before .if7 .left)
 
@@ -207,9 +207,9 @@ usual-spec =
     (λ c κs. search needs)
     add-t17
     returns-3
-    add-text
-    shared-slice-read-text
-    text-requires
+    add-short-string
+    shared-slice-read-short-string
+    short-string-requires
     returns-4
     nested-requires
     returns-5

@@ -100,15 +100,9 @@ chunkOf Tag k = false
 abbrev pub mayBegin : ℕ → ℕ → Major → Bool
 mayBegin k d m = cond (ltb k 4) (roomFor m d) (chunkOf m k)
 
--- k bytes as a number, the first the highest, after v
-unfoldable pub number : ℕ → ℕ → List ℕ → ℕ
-number v zero bs = v
-number v (suc k) [] = v
-number v (suc k) (x ∷ bs) = number (v * 256 + x) k bs
-
 -- how many bytes follow an initial byte, by its additional information
-abbrev pub widthOf : ℕ → ℕ
-widthOf i = cond (eqb i 24) 1 (cond (eqb i 25) 2 (cond (eqb i 26) 4 (cond (eqb i 27) 8 0)))
+abbrev pub following : ℕ → ℕ
+following i = cond (eqb i 24) 1 (cond (eqb i 25) 2 (cond (eqb i 26) 4 (cond (eqb i 27) 8 0)))
 
 -- an argument in the additional information or in one byte
 abbrev pub smallOf : ℕ → ℕ → ℕ

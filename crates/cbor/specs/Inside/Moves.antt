@@ -1,5 +1,5 @@
 -- What a head does to a walk, whatever bytes come after those that are there.
-use Prim.Native.Nat.{ℕ, _+_, _*_, _-_, _≤_, _<_, _%_}
+use Prim.Native.Nat.{ℕ, _+_, _*_, _-_, _^_, _≤_, _<_, _%_}
 use mathlib.Core.List.{List, _++_}
 use mathlib.Core.Bool.{true}
 use mathlib.Core.Path.{_≡_}
@@ -36,7 +36,7 @@ pub record Downs (xs : List ℕ) (at k c d p : ℕ) (l i : Level) : Type 0 where
   pub on : at < p
   pub inside : p ≤ length xs
   pub items : l .kind < 4
-  pub room : d < 17
+  pub room : d < nesting + 1
   pub good : Good (i .kind) (i .count) (d + 1)
   pub same : Goes xs at p (push (nesting - d) (frameOf k c))
       (λ fs. push (nesting - (d + 1)) (frameOf (i .kind) (i .count)) (push (nesting - d) (frameOf (l .kind) (l .count)) fs))
@@ -134,7 +134,7 @@ pub record Breaks (xs : List ℕ) (at p : ℕ) : Type 0 where
 abbrev pub Quickly : List ℕ → ℕ → ℕ → Quick → Type 0
 Quickly xs at d (Past p) = Passes xs at d p
 Quickly xs at d (Asks p c) = Enters xs at d p 0 c
-Quickly xs at d (Opens p k) = Enters xs at d p k 9223372036854775808
+Quickly xs at d (Opens p k) = Enters xs at d p k (2 ^ 63)
 Quickly xs at d (Ends p) = Breaks xs at p
 Quickly xs at d Unusual = Unit {0}
 

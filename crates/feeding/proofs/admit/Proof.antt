@@ -27,7 +27,8 @@ returns-2 c =
     let f = c .before .before .before .before .before .find in
     let d = c .before .before .before .before .before .before .segment in
     let by = admission-by (a .side) (now (a .caps)) (now (a .held)) (a .h) (d .result) (f .result) (d .ensures .0) (f .ensures .0) in
-    c .wrong .ensures ∙ ap (λ (r : Route). admitted (now (a .caps)) (now (a .held)) (d .result .len) r) (sym (c .before .before .route .given .1)) ∙ by
+    c .wrong .ensures
+    ∙ ap (λ (r : Route). admitted (now (a .caps)) (now (a .held)) (d .result .len) r) (sym (c .before .before .route .given .1)) ∙ by
 
 returns-3 : tie.Need-returns-3
 returns-3 c =
@@ -35,7 +36,8 @@ returns-3 c =
     let f = c .before .before .before .before .before .find in
     let d = c .before .before .before .before .before .before .segment in
     let by = admission-by (a .side) (now (a .caps)) (now (a .held)) (a .h) (d .result) (f .result) (d .ensures .0) (f .ensures .0) in
-    c .room .ensures ∙ ap (λ (r : Route). admitted (now (a .caps)) (now (a .held)) (d .result .len) r) (sym (c .before .before .route2 .given .1)) ∙ by
+    c .room .ensures
+    ∙ ap (λ (r : Route). admitted (now (a .caps)) (now (a .held)) (d .result .len) r) (sym (c .before .before .route2 .given .1)) ∙ by
 
 pub admit-spec : {M : Type 1} → statement M
 admit-spec =

@@ -6,7 +6,7 @@ use Rattle.feeding.proofs.begin.Statement.{statement}
 use Rattle.feeding.proofs.begin.Tie as tie
 
 returns : tie.Need-returns
-returns c = record { one = refl; leaves = λ starts held store. rw (c .before .empty .ensures, c .instance-for .ensures) }
+returns c = record { uses = refl; leaves = λ starts held store. rw (c .before .empty .ensures, c .instance-for .ensures) }
 
 pub begin-spec : {M : Type 1} → statement M
 begin-spec =

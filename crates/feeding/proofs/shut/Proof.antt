@@ -6,7 +6,7 @@ use Rattle.feeding.proofs.shut.Statement.{statement}
 use Rattle.feeding.proofs.shut.Tie as tie
 
 returns : tie.Need-returns
-returns c = record { one = refl; leaves = λ starts held store. rw (c .empty .ensures) }
+returns c = record { uses = refl; leaves = λ starts held store. rw (c .empty .ensures) }
 
 pub shut-spec : {M : Type 1} → statement M
 shut-spec =

@@ -25,7 +25,7 @@ add-from : tie.Need-add-from Inv-loop μ-loop
 add-from c =
     let run = c .before .before .before .before .before .before .before .args .run .now in
     let l = c .before .before .before .before .before .loop in
-    let t = c .before .before .before .turn in
+    let t = c .before .before .before .step in
     let on = onward (l .known) run (l .from) (t .result) (search needs) (t .ensures) in
     record { fits = omega arith }
 
@@ -33,7 +33,7 @@ loop-less : tie.Need-loop-less Inv-loop μ-loop
 loop-less c =
     let run = c .before .before .before .before .before .before .before .args .run .now in
     let l = c .before .before .before .before .before .loop in
-    let t = c .before .before .before .turn in
+    let t = c .before .before .before .step in
     let on = onward (l .known) run (l .from) (t .result) (search needs) (t .ensures) in
     omega arith
 
@@ -41,7 +41,7 @@ loop-again : tie.Need-loop-again Inv-loop μ-loop
 loop-again c =
     let run = c .before .before .before .before .before .before .before .args .run .now in
     let l = c .before .before .before .before .before .loop in
-    let t = c .before .before .before .turn in
+    let t = c .before .before .before .step in
     let on = onward (l .known) run (l .from) (t .result) (search needs) (t .ensures) in
     (on .few, on .same ∙ l .inv .1)
 

@@ -6,7 +6,7 @@ use Rattle.putting.proofs.after.Tie as tie
 
 returns : tie.Need-returns
 returns c =
-    rw (c .with-talk .ensures, c .before .moved .ensures, c .before .before .with-sending .ensures, c .before .before .before .longer .ensures)
+    rw (c .with-talk .ensures, c .before .moved-by .ensures, c .before .before .with-sending .ensures, c .before .before .before .longer .ensures)
 
 pub after-spec : {M : Type 1} → statement M
 after-spec =

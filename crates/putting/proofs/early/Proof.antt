@@ -13,7 +13,7 @@ returns c =
       c .before .before .before .barred .ensures,
       c .before .before .before .before .choose .ensures,
       c .before .before .before .before .before .ours .ensures,
-      c .before .before .before .before .before .before .at .ensures,
+      c .before .before .before .before .before .before .state .ensures,
     )
 
 pub early-spec : {M : Type 1} → statement M

@@ -10,14 +10,15 @@ returns : tie.Need-returns
 returns c =
     let a = c .before .before .before .before .args in
     let number = c .before .before .early in
-    c .refused .ensures ∙ judge-early (a .c) (a .i) (a .message .now) (number .result) (number .ensures) (c .before .if1 .taken)
+    c .unjudged .ensures ∙ judge-early (a .c) (a .i) (a .message .now) (number .result) (number .ensures) (c .before .if1 .taken)
 
 returns-2 : tie.Need-returns-2
 returns-2 c =
-    let a = c .before .before .before .before .before .before .before .before .args in
-    let number = c .before .before .before .before .before .before .early in
-    rw (c .judge-slice .ensures, c .before .before .protocol .ensures, c .before .at .ensures)
-    (judge-bytes (a .c) (a .i) (a .message .now) (number .result) (number .ensures) (c .before .before .before .before .before .if1 .left))
+    let past = c .before .before .before .before in
+    let a = past .before .before .before .args in
+    let number = past .before .early in
+    rw (c .judge-slice .ensures, c .before .before .protocol .ensures, c .before .state .ensures)
+    (judge-bytes (a .c) (a .i) (a .message .now) (number .result) (number .ensures) (past .if1 .left))
 
 pub judge-spec : {M : Type 1} → statement M
 judge-spec =

@@ -5,8 +5,8 @@ use native.Mathlib.Omega.{arith}
 use lib.ListN.{length, length-map}
 use lib.Seq.{take-length}
 use Rattle.wire.specs.Instances.{instances}
-use Rattle.connection.proofs.RangeLaws.{ranged}
-use Rattle.putting.proofs.PuttingLaws.{area-lent, base-fits, area-small}
+use Rattle.connection.proofs.RangeLaws.{ranged, sends-both}
+use Rattle.putting.proofs.PuttingLaws.{area-lent, area-small}
 use borrow.Author.Needs.{needs}
 use Rattle.putting.proofs.lay.Statement.{statement}
 use Rattle.putting.proofs.lay.Tie as tie
@@ -17,7 +17,7 @@ base-of-requires c κs =
     let a = s .args in
     let l = s .pre .0 in
     let long : length (a .c .settings .send) ≡ instances = simp length-map at (s .good .0 .1 .1 .0 .1 .1 .1 .1 .1 .0 .1 .0 .1) in
-    (omega (arith, l .instance), base-fits (a .c) (a .store .now) (a .i) l long)
+    (omega (arith, l .1), omega (arith, area-lent (a .c) (a .store .now) (a .i) l long))
 
 add-end : tie.Need-add-end
 add-end c =
@@ -34,7 +34,7 @@ write-requires c κs =
     let long : length (a .c .settings .send) ≡ instances = simp length-map at (s .good .0 .1 .1 .0 .1 .1 .1 .1 .1 .0 .1 .0 .1) in
     let cap = c .before .before .before .at .ensures in
     let base = c .before .before .before .before .base-of .ensures in
-    let some = ranged (a .c) (l .ranged) .set .send (a .i) (l .instance) in (
+    let some = ranged (a .c) (sends-both (a .c) (length (a .store .now)) (l .0) .0) .set .send (a .i) (l .1) in (
       omega (arith, s .pre .1),
       omega arith,
       rw (cap, base) (area-lent (a .c) (a .store .now) (a .i) l long),

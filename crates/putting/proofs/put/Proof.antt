@@ -2,10 +2,18 @@
 -- Assumes nothing.
 use mathlib.Core.Path.{sym, _∙_}
 use borrow.Author.Tests.{not-true, not-false}
-use Rattle.putting.proofs.PuttingLaws.{put-unranged, put-above, put-lends, put-refused, put-judged}
+use Rattle.connection.specs.Parts.{InSend}
+use Rattle.putting.proofs.PuttingLaws.{put-unranged, put-above, put-refused, put-judged}
 use borrow.Author.Needs.{needs}
 use Rattle.putting.proofs.put.Statement.{statement}
 use Rattle.putting.proofs.put.Tie as tie
+
+-- past both tests: where the call began, and that the instance is one of a record in range with its store
+abbrev start : tie.Else2 → tie.Start
+start c = c .before .before .before .before .before
+
+asked : (c : tie.Else2) → InSend (start c .args .c) (start c .args .store .now) (start c .args .instance)
+asked c = (sym (c .before .before .sends .ensures) ∙ not-false _ (c .before .if1 .left), c .if2 .left)
 
 returns : tie.Need-returns
 returns c =
@@ -21,30 +29,20 @@ returns-2 c =
 
 returns-3 : tie.Need-returns-3
 returns-3 c =
-    let a = c .before .before .before .before .before .before .before .before .before .args in
-    let s = c .before .before .before .before .before .before .sends in
-    let r = sym (s .ensures) ∙ not-false _ (c .before .before .before .before .before .if1 .left) in
-    let h = c .before .before .before .before .if2 .left in
+    let b = c .before .before .before .before in
+    let a = start b .args in
     let j = c .before .before .before .judge in
     rw (c .refused3 .ensures)
-    (put-refused (a .c) (a .store .now) (a .instance) (a .message .now) r h (j .result) (j .ensures) (c .before .if3 .taken))
-
-queue-requires : tie.Need-queue-requires
-queue-requires c κs =
-    let a = c .before .before .before .before .before .before .before .before .before .args in
-    let s = c .before .before .before .before .before .before .sends in
-    let r = sym (s .ensures) ∙ not-false _ (c .before .before .before .before .before .if1 .left) in
-    put-lends (a .c) (a .store .now) (a .instance) (a .message .now) r (c .before .before .before .before .if2 .left)
+    (put-refused (a .c) (a .store .now) (a .instance) (a .message .now) (asked b .0) (asked b .1) (j .result) (j .ensures) (c .before .if3 .taken))
 
 returns-4 : tie.Need-returns-4
 returns-4 c =
-    let a = c .before .before .before .before .before .before .before .before .before .before .before .before .args in
-    let s = c .before .before .before .before .before .before .before .before .before .sends in
-    let r = sym (s .ensures) ∙ not-false _ (c .before .before .before .before .before .before .before .before .if1 .left) in
-    let h = c .before .before .before .before .before .before .before .if2 .left in
+    let b = c .before .before .before .before .before .before .before in
+    let a = start b .args in
     let j = c .before .before .before .before .before .before .judge in
-    let z = c .before .before .before .before .if3 .left in
-    c .before .before .queue .ensures ∙ put-judged (a .c) (a .store .now) (a .instance) (a .message .now) r h (j .result) (j .ensures) z
+    c .before .before .queue .ensures
+    ∙ put-judged (a .c) (a .store .now) (a .instance) (a .message .now) (asked b .0) (asked b .1) (j .result) (j .ensures)
+    (c .before .before .before .before .if3 .left)
 
 pub put-spec : {M : Type 1} → statement M
 put-spec =
@@ -58,6 +56,6 @@ put-spec =
     (λ c κs. search needs)
     (λ c κs. search needs)
     returns-3
-    queue-requires
+    (λ c κs. asked (c .before .before .before .before))
     (λ c. search needs)
     returns-4)

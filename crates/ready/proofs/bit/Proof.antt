@@ -1,7 +1,6 @@
 -- `ready::bit` meets its contract: the test decides.
 -- Assumes nothing.
 use Rattle.base.proofs.Conds.{tests}
-use borrow.Author.Needs.{needs}
 use Rattle.ready.proofs.bit.Statement.{statement}
 use Rattle.ready.proofs.bit.Tie as tie
 

@@ -1,10 +1,11 @@
 -- `ready::choose` meets its contract. The loop's invariant: the search from here on finds what that from the turn on finds.
 -- Assumes nothing.
 use mathlib.Core.Path.{_≡_, refl, sym, ap, _∙_}
+use mathlib.Core.Bool.{true}
 use Prim.Native.Nat.{_-_, _<_}
 use native.Mathlib.Omega.{arith}
 use Rattle.wire.specs.Instances.{instances}
-use Rattle.ready.specs.Inside.{seekIn}
+use Rattle.ready.specs.Inside.{bitSet, seekIn}
 use Rattle.ready.proofs.ReadyLaws.{seek-hit, seek-on}
 use borrow.Author.Needs.{needs}
 use Rattle.ready.proofs.choose.Statement.{statement}
@@ -17,7 +18,7 @@ abbrev μ-loop : tie.MeasureT-loop
 μ-loop word turn i₀ left₀ i left = left
 
 returns : tie.Need-returns Inv-loop μ-loop
-returns c = let t = sym (c .before .is-set .ensures) ∙ c .if1 .taken in rw t
+returns c = let first : bitSet (c .before .before .args .word) 0 ≡ true = sym (c .before .is-set .ensures) ∙ c .if1 .taken in rw first
 
 loop-holds : tie.Need-loop-holds Inv-loop μ-loop
 loop-holds c = (search needs, refl)

@@ -1,10 +1,15 @@
 -- `rows::count` meets its contract: the table by protocol has it.
 -- Assumes nothing.
+use mathlib.Core.List.{map}
 use borrow.Author.Needs.{needs}
-use Rattle.rows.specs.Inside.{countOf}
+use Rattle.base.proofs.Table.{entry-fits}
+use Rattle.rows.specs.Inside.{protocols, countOf}
 use Rattle.rows.proofs.RowLaws.{by-protocol}
 use Rattle.rows.proofs.count.Statement.{statement}
 use Rattle.rows.proofs.count.Tie as tie
+
+cast-result : tie.Need-cast-result
+cast-result c = record { fits = entry-fits (map countOf protocols) tt (c .place .result) (c .place .ensures .1) }
 
 returns : tie.Need-returns
 returns c = rw (c .place .ensures .0) (by-protocol countOf (c .before .args .p))
@@ -15,5 +20,5 @@ count-spec =
     (tie.spec
     (λ c κs. search needs)
     (λ c. search needs)
-    (λ c. search needs)
+    cast-result
     returns)

@@ -1,10 +1,17 @@
 -- `rows::done` meets its contract: the table by protocol has it.
 -- Assumes nothing.
+use mathlib.Core.List.{map}
 use borrow.Author.Needs.{needs}
+use Rattle.base.proofs.Table.{entry-fits}
 use Rattle.rows.specs.Rows.{doneOf, placeIn}
+use Rattle.rows.specs.Inside.{protocols}
 use Rattle.rows.proofs.RowLaws.{by-protocol}
 use Rattle.rows.proofs.done.Statement.{statement}
 use Rattle.rows.proofs.done.Tie as tie
+
+cast-result : tie.Need-cast-result
+unfolding placeIn
+cast-result c = record { fits = entry-fits (map doneOf protocols) tt (c .place .result) (c .place .ensures .1) }
 
 returns : tie.Need-returns
 unfolding placeIn
@@ -16,5 +23,5 @@ done-spec =
     (tie.spec
     (λ c κs. search needs)
     (λ c. search needs)
-    (λ c. search needs)
+    cast-result
     returns)

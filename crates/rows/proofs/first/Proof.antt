@@ -1,11 +1,17 @@
 -- `rows::first` meets its contract: the table by protocol has it.
 -- Assumes nothing.
+use mathlib.Core.List.{map}
 use borrow.Author.Needs.{needs}
-use Rattle.rows.specs.Inside.{firstOf, rowsUpTo}
+use Rattle.base.proofs.Table.{entry-fits}
+use Rattle.rows.specs.Inside.{protocols, firstOf, rowsUpTo}
 use Rattle.rows.specs.Rows.{placeIn}
 use Rattle.rows.proofs.RowLaws.{by-protocol}
 use Rattle.rows.proofs.first.Statement.{statement}
 use Rattle.rows.proofs.first.Tie as tie
+
+cast-result : tie.Need-cast-result
+unfolding placeIn rowsUpTo
+cast-result c = record { fits = entry-fits (map firstOf protocols) tt (c .place .result) (c .place .ensures .1) }
 
 returns : tie.Need-returns
 unfolding placeIn rowsUpTo
@@ -17,5 +23,5 @@ first-spec =
     (tie.spec
     (λ c κs. search needs)
     (λ c. search needs)
-    (λ c. search needs)
+    cast-result
     returns)

@@ -1,47 +1,59 @@
 -- `sending::next_segment` meets its contract: each way out is one of the laws of next segment.
 -- Assumes nothing.
-use mathlib.Core.Path.{_≡_, sym, ap, _∙_}
+use mathlib.Core.Path.{_≡_, sym, _∙_}
+use mathlib.Core.Bool.{true}
+use lib.ListN.{length}
 use borrow.Author.Tests.{not-true, not-false}
-use Rattle.connection.proofs.RangeLaws.{ranged}
-use Rattle.sending.proofs.SendingLaws.{in-both, next-unranged, next-closed, next-served, by-word, is-chosen}
+use Rattle.connection.specs.Ranges.{inRange, sends}
+use Rattle.connection.proofs.RangeLaws.{ranged, sends-both}
+use Rattle.sending.proofs.SendingLaws.{next-unranged, next-closed, next-served, by-word, is-chosen}
 use borrow.Author.Needs.{needs}
 use Rattle.sending.proofs.next_segment.Statement.{statement}
 use Rattle.sending.proofs.next_segment.Tie as tie
+
+-- past the first test: where the call began, and that the record is in range with its store
+abbrev start : tie.Else1 → tie.Start
+start c = c .before .before .before .before
+
+fit : (c : tie.Else1) → sends (start c .args .c) (length (start c .args .store .now)) ≡ true
+fit c = sym (c .before .sends .ensures) ∙ not-false _ (c .if1 .left)
+
+in-range : (c : tie.Else1) → inRange (start c .args .c) ≡ true
+in-range c = sends-both (start c .args .c) (length (start c .args .store .now)) (fit c) .0
 
 returns : tie.Need-returns
 returns c =
     let a = c .before .before .before .before .before .args in
     let r = sym (c .before .before .sends .ensures) ∙ not-true _ (c .before .if1 .taken) in
-    rw (c .unmade .ensures) (next-unranged (a .c) (a .store .now) (a .time) (a .buf .now) r)
+    rw (c .refused .ensures) (next-unranged (a .c) (a .store .now) (a .time) (a .buf .now) r)
 
 returns-2 : tie.Need-returns-2
 returns-2 c =
-    let a = c .before .before .before .before .before .before .before .args in
-    let r = sym (c .before .before .before .before .sends .ensures) ∙ not-false _ (c .before .before .before .if1 .left) in
+    let b = c .before .before .before in
+    let a = start b .args in
     let o = sym (c .before .before .is-open .ensures) ∙ not-true _ (c .before .if2 .taken) in
-    rw (c .unmade2 .ensures) (next-closed (a .c) (a .store .now) (a .time) (a .buf .now) r o)
+    rw (c .refused2 .ensures) (next-closed (a .c) (a .store .now) (a .time) (a .buf .now) (fit b) o)
 
 choose-requires : tie.Need-choose-requires
-choose-requires c κs =
-    let a = c .before .before .before .before .before .before .before .before .before .args in
-    let r = sym (c .before .before .before .before .before .before .sends .ensures) ∙ not-false _ (c .before .before .before .before .before .if1 .left) in
-    ranged (a .c) (in-both (a .c) (a .store .now) r .0) .turn .1
+choose-requires c κs = let b = c .before .before .before .before .before in ranged (start b .args .c) (in-range b) .turn .1
 
-serve-choice-requires : tie.Need-serve-choice-requires
-serve-choice-requires c κs =
-    let a = c .before .before .before .before .before .before .before .before .before .before .before .args in
-    let r = in-both (a .c) (a .store .now) (sym (c .before .before .before .before .before .before .before .before .sends .ensures) ∙ not-false _ (c .before .before .before .before .before .before .before .if1 .left)) in
-    is-chosen (a .c) (a .store .now) (c .before .before .word .result) (c .before .choose .result) (r .0) (r .1) (c .before .choose .ensures)
+by-choice-requires : tie.Need-by-choice-requires
+by-choice-requires c κs =
+    let b = c .before .before .before .before .before .before .before in
+    let a = start b .args in
+    is-chosen (a .c) (a .store .now) (c .before .before .word .result) (c .before .choose .result) (fit b) (c .before .choose .ensures)
 
 returns-3 : tie.Need-returns-3
 returns-3 c =
-    let a = c .before .before .before .before .before .before .before .before .before .before .before .before .before .before .args in
-    let r = sym (c .before .before .before .before .before .before .before .before .before .before .before .sends .ensures) ∙ not-false _ (c .before .before .before .before .before .before .before .before .before .before .if1 .left) in
-    let o = sym (c .before .before .before .before .before .before .before .before .before .is-open .ensures) ∙ not-false _ (c .before .before .before .before .before .before .before .before .if2 .left) in
+    let b = c .before .before .before .before .before .before .before .before .before .before in
+    let a = start b .args in
+    let o =
+    sym (c .before .before .before .before .before .before .before .before .before .is-open .ensures)
+    ∙ not-false _ (c .before .before .before .before .before .before .before .before .if2 .left) in
     let word = c .before .before .before .before .before .word in
     let x = c .before .before .before .before .choose in
-    let e = by-word (a .c) (word .result) (x .result) (in-both (a .c) (a .store .now) r .0) (word .ensures .2) (word .ensures .0) (x .ensures) in
-    c .before .before .serve-choice .ensures ∙ next-served (a .c) (a .store .now) (a .time) (a .buf .now) r o (x .result) e
+    let e = by-word (a .c) (word .result) (x .result) (in-range b) (word .ensures .2) (word .ensures .0) (x .ensures) in
+    c .before .before .by-choice .ensures ∙ next-served (a .c) (a .store .now) (a .time) (a .buf .now) (fit b) o (x .result) e
 
 pub next-segment-spec : {M : Type 1} → statement M
 next-segment-spec =
@@ -55,6 +67,6 @@ next-segment-spec =
     returns-2
     (λ c κs. search needs)
     choose-requires
-    serve-choice-requires
+    by-choice-requires
     (λ c. search needs)
     returns-3)

@@ -1,7 +1,6 @@
 -- `sending::put_header` meets its contract: the numbers of the instance are those of the header, and they fit.
 -- Assumes nothing.
 use mathlib.Core.Path.{_∙_}
-use Rattle.wire.specs.Segments.{Fits}
 use Rattle.sending.proofs.SendingLaws.{header-fits}
 use borrow.Author.Needs.{needs}
 use Rattle.sending.proofs.put_header.Statement.{statement}
@@ -17,7 +16,9 @@ write-requires c κs =
     )
 
 returns : tie.Need-returns
-returns c = c .before .before .write .ensures ∙ rw (c .before .before .before .before .before .mode .ensures, c .before .before .before .before .protocol .ensures)
+returns c =
+    c .before .before .write .ensures
+    ∙ rw (c .before .before .before .before .before .mode .ensures, c .before .before .before .before .protocol .ensures)
 
 pub put-header-spec : {M : Type 1} → statement M
 put-header-spec =

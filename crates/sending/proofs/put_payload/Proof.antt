@@ -1,10 +1,10 @@
 -- `sending::put_payload` meets its contract: the area is in the store, and its bytes are read as the ring says.
 -- Assumes nothing.
-use mathlib.Core.Path.{_≡_, ap, _∙_}
+use mathlib.Core.Path.{_≡_, _∙_}
 use native.Mathlib.Omega.{arith}
 use lib.ListN.{length}
 use Rattle.wire.specs.Instances.{instances}
-use Rattle.sending.proofs.SendingLaws.{in-store, base-fits}
+use Rattle.sending.proofs.SendingLaws.{in-store}
 use borrow.Author.Needs.{needs}
 use Rattle.sending.proofs.put_payload.Statement.{statement}
 use Rattle.sending.proofs.put_payload.Tie as tie
@@ -14,7 +14,7 @@ base-of-requires c κs =
     let s = c .before .before .before .before in
     let a = s .args in
     let long : length (a .t3) ≡ instances = s .good .1 .1 .0 .1 .0 .1 in
-    (omega (arith, s .pre .0 .instance), base-fits (a .t3) (a .store .now) (a .i) (a .n) long (s .pre .0))
+    (omega (arith, s .pre .0 .instance), omega (arith, in-store (a .t3) (a .store .now) (a .i) (a .n) long (s .pre .0)))
 
 read-requires : tie.Need-read-requires
 read-requires c κs =

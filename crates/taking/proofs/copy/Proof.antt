@@ -1,6 +1,6 @@
 -- `taking::copy` meets its contract: the area is in the store, and its bytes are read as the ring says.
 -- Assumes nothing.
-use mathlib.Core.Path.{_≡_, sym, ap, _∙_}
+use mathlib.Core.Path.{_∙_}
 use native.Mathlib.Omega.{arith}
 use Rattle.taking.proofs.TakingLaws.{area}
 use borrow.Author.Needs.{needs}
@@ -24,7 +24,11 @@ read-requires c κs =
 returns : tie.Need-returns
 returns c =
     c .before .before .read .ensures
-    ∙ rw (c .before .before .before .at2 .ensures, c .before .before .before .before .at .ensures, c .before .before .before .before .before .before .base-of .ensures)
+    ∙ rw (
+      c .before .before .before .at2 .ensures,
+      c .before .before .before .before .at .ensures,
+      c .before .before .before .before .before .before .base-of .ensures,
+    )
 
 pub copy-spec : {M : Type 1} → statement M
 copy-spec =

@@ -14,8 +14,8 @@ returns c =
       c .before .before .before .before .choose2 .ensures,
       c .before .before .before .before .before .ours .ensures,
       c .before .before .before .before .before .before .choose .ensures,
-      c .before .before .before .before .before .before .before .at2 .ensures,
-      c .before .before .before .before .before .before .before .before .before .before .at .ensures,
+      c .before .before .before .before .before .before .before .at .ensures,
+      c .before .before .before .before .before .before .before .before .before .before .state .ensures,
     )
 
 pub early-spec : {M : Type 1} → statement M

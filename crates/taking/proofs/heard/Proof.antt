@@ -23,12 +23,12 @@ returns c =
 returns-2 : tie.Need-returns-2
 returns-2 c =
     let e = sym (c .before .before .before .measure .ensures) ∙ c .before .enum-told .given .1 in
-    rw e (c .refused .ensures)
+    rw e (c .unjudged .ensures)
 
 returns-3 : tie.Need-returns-3
 returns-3 c =
     let e = sym (c .before .before .before .before .measure .ensures) ∙ c .before .before .enum-told2 .given .1 in
-    rw e (c .refused2 .ensures ∙ ap unjudged (c .before .choose .ensures))
+    rw e (c .unjudged2 .ensures ∙ ap unjudged (c .before .choose .ensures))
 
 pub heard-spec : {M : Type 1} → statement M
 heard-spec =

@@ -1,6 +1,6 @@
 -- `taking::judge` meets its contract: what is known before decides, or the bytes do.
 -- Assumes nothing.
-use mathlib.Core.Path.{sym, _∙_}
+use mathlib.Core.Path.{_∙_}
 use Rattle.taking.proofs.TakingLaws.{judge-early, judge-bytes}
 use borrow.Author.Needs.{needs}
 use Rattle.taking.proofs.judge.Statement.{statement}
@@ -10,7 +10,7 @@ returns : tie.Need-returns
 returns c =
     let a = c .before .before .before .before .args in
     let n = c .before .before .early in
-    c .refused .ensures ∙ judge-early (a .c) (a .store .now) (a .i) (n .result) (n .ensures) (c .before .if1 .taken)
+    c .unjudged .ensures ∙ judge-early (a .c) (a .store .now) (a .i) (n .result) (n .ensures) (c .before .if1 .taken)
 
 returns-2 : tie.Need-returns-2
 returns-2 c =

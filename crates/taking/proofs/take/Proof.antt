@@ -1,55 +1,57 @@
 -- `taking::take` meets its contract: each way out is one of the laws of take.
 -- Assumes nothing.
-use mathlib.Core.Path.{_≡_, sym, ap, _∙_}
+use mathlib.Core.Path.{sym, ap, _∙_}
 use borrow.Author.Tests.{not-true, not-false}
+use Rattle.connection.specs.Parts.{InReceive}
 use Rattle.judging.specs.declared.Judged.{Judged}
-use Rattle.taking.proofs.TakingLaws.{holds, judged-held, take-range, take-instance, take-refused, take-handed}
+use Rattle.taking.proofs.TakingLaws.{judged-held, take-range, take-instance, take-refused, take-handed}
 use borrow.Author.Needs.{needs}
 use Rattle.taking.proofs.take.Statement.{statement}
 use Rattle.taking.proofs.take.Tie as tie
+
+-- past both tests: where the call began, and that the instance is one of a record in range with its store
+abbrev start : tie.Else2 → tie.Start
+start c = c .before .before .before .before .before
+
+asked : (c : tie.Else2) → InReceive (start c .args .c) (start c .args .store .now) (start c .args .instance)
+asked c = (sym (c .before .before .receives .ensures) ∙ not-false _ (c .before .if1 .left), c .if2 .left)
 
 returns : tie.Need-returns
 returns c =
     let a = c .before .before .before .before .before .args in
     let r = sym (c .before .before .receives .ensures) ∙ not-true _ (c .before .if1 .taken) in
-    rw (c .left .ensures) (take-range (a .c) (a .store .now) (a .instance) (a .buf .now) r)
+    rw (c .refused .ensures) (take-range (a .c) (a .store .now) (a .instance) (a .buf .now) r)
 
 returns-2 : tie.Need-returns-2
 returns-2 c =
     let a = c .before .before .before .before .before .before .args in
     let r = sym (c .before .before .before .receives .ensures) ∙ not-false _ (c .before .before .if1 .left) in
-    rw (c .left2 .ensures) (take-instance (a .c) (a .store .now) (a .instance) (a .buf .now) r (c .before .if2 .taken))
-
-judge-requires : tie.Need-judge-requires
-judge-requires c κs =
-    let a = c .before .before .before .before .before .args in
-    let r = sym (c .before .before .receives .ensures) ∙ not-false _ (c .before .if1 .left) in
-    holds (a .c) (a .store .now) (a .instance) r (c .if2 .left)
+    rw (c .refused2 .ensures) (take-instance (a .c) (a .store .now) (a .instance) (a .buf .now) r (c .before .if2 .taken))
 
 returns-3 : tie.Need-returns-3
 returns-3 c =
-    let a = c .before .before .before .before .before .before .before .before .before .args in
-    let r = sym (c .before .before .before .before .before .before .receives .ensures) ∙ not-false _ (c .before .before .before .before .before .if1 .left) in
+    let b = c .before .before .before .before in
+    let a = start b .args in
     let j = c .before .before .before .judge in
-    rw (c .refuse .ensures)
-    (take-refused (a .c) (a .store .now) (a .instance) (a .buf .now) (j .result) r (c .before .before .before .before .if2 .left) (j .ensures) (c .before .if3 .taken))
+    rw (c .undone .ensures)
+    (take-refused (a .c) (a .store .now) (a .instance) (a .buf .now) (j .result) (asked b .0) (asked b .1) (j .ensures) (c .before .if3 .taken))
 
-hand-out-requires : tie.Need-hand-out-requires
-hand-out-requires c κs =
-    let a = c .before .before .before .before .before .before .before .before .before .args in
-    let r = sym (c .before .before .before .before .before .before .receives .ensures) ∙ not-false _ (c .before .before .before .before .before .if1 .left) in
-    let h = holds (a .c) (a .store .now) (a .instance) r (c .before .before .before .before .if2 .left) in
+hand-requires : tie.Need-hand-requires
+hand-requires c κs =
+    let b = c .before .before .before .before in
+    let a = start b .args in
     let e = c .before .before .before .judge .ensures in
     let z = ap (λ (j : Judged). j .number) (sym e) ∙ c .before .if3 .left in
-    (h, record { ranged = h .ranged; instance = h .instance; within = rw e (judged-held (a .c) (a .store .now) (a .instance) z) })
+    (asked b, rw e (judged-held (a .c) (a .store .now) (a .instance) z))
 
 returns-4 : tie.Need-returns-4
 returns-4 c =
-    let a = c .before .before .before .before .before .before .before .before .before .before .before .before .args in
-    let r = sym (c .before .before .before .before .before .before .before .before .before .receives .ensures) ∙ not-false _ (c .before .before .before .before .before .before .before .before .if1 .left) in
+    let b = c .before .before .before .before .before .before .before in
+    let a = start b .args in
     let j = c .before .before .before .before .before .before .judge in
-    c .before .before .hand-out .ensures
-    ∙ take-handed (a .c) (a .store .now) (a .instance) (a .buf .now) (j .result) r (c .before .before .before .before .before .before .before .if2 .left) (j .ensures) (c .before .before .before .before .if3 .left)
+    c .before .before .hand .ensures
+    ∙ take-handed (a .c) (a .store .now) (a .instance) (a .buf .now) (j .result) (asked b .0) (asked b .1) (j .ensures)
+    (c .before .before .before .before .if3 .left)
 
 pub take-spec : {M : Type 1} → statement M
 take-spec =
@@ -60,9 +62,9 @@ take-spec =
     returns
     (λ c κs. search needs)
     returns-2
-    judge-requires
+    (λ c κs. asked c)
     (λ c κs. search needs)
     returns-3
-    hand-out-requires
+    hand-requires
     (λ c. search needs)
     returns-4)

@@ -31,7 +31,7 @@ returns-2 c =
     let e = sym (b .before .settings-ok .ensures) ∙ not-false _ (b .if1 .left) in
     let stores = sym (c .before .before .and .ensures) ∙ c .before .if2 .taken in
     let q = rw (c .before .before .before .together2 .ensures, c .before .before .before .before .together .ensures) at stores in
-    rw (e, q, c .empty .ensures)
+    rw (e, q, c .fresh .ensures)
 
 returns-3 : tie.Need-returns-3
 unfolding openOf

@@ -1,11 +1,11 @@
--- `connection::opening::refused` meets its contract.
+-- `connection::opening::refused` meets its contract: it is `fresh` of all zeros, turn 0.
 -- Assumes nothing.
 use borrow.Author.Needs.{needs}
 use Rattle.connection.proofs.opening.refused.Statement.{statement}
 use Rattle.connection.proofs.opening.refused.Tie as tie
 
 returns : tie.Need-returns
-returns c = rw (c .empty .ensures)
+returns c = rw (c .fresh .ensures)
 
 pub refused-spec : {M : Type 1} → statement M
 refused-spec =

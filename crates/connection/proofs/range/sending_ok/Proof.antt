@@ -1,38 +1,48 @@
--- `connection::range::sending_ok` meets its contract. The loop's invariant: the test so far is that of the instances before i.
+-- `connection::range::sending_ok` meets its contract. The loop's invariant: the areas before i pass. One that fails decides.
 -- Assumes nothing.
-use mathlib.Core.Path.{_≡_, refl, ap, _∙_}
+use mathlib.Core.Path.{_≡_, refl, sym, ap, _∙_}
+use mathlib.Core.Bool.{true}
 use Prim.Native.Nat.{_+_, _-_, _≤_}
 use native.Mathlib.Omega.{arith}
+use borrow.Author.Tests.{not-true, not-false}
 use Rattle.base.specs.Below.{allBelow}
-use Rattle.base.proofs.Conds.{below-next}
 use Rattle.wire.specs.Instances.{instances}
 use Rattle.connection.specs.Inside.{sendingIn}
+use Rattle.connection.proofs.AreaLaws.{below-not, below-more}
 use borrow.Author.Needs.{needs}
 use Rattle.connection.proofs.range.sending_ok.Statement.{statement}
 use Rattle.connection.proofs.range.sending_ok.Tie as tie
 
 abbrev Inv-loop : tie.InvT-loop
-Inv-loop caps starts waiting ok₀ i₀ ok i = (i ≤ instances) × (ok ≡ allBelow (sendingIn caps starts waiting) i)
+Inv-loop caps starts waiting i₀ i = (i ≤ instances) × (allBelow (sendingIn caps starts waiting) i ≡ true)
 
 abbrev μ-loop : tie.MeasureT-loop
-μ-loop caps starts waiting ok₀ i₀ ok i = instances - i
+μ-loop caps starts waiting i₀ i = instances - i
 
 loop-holds : tie.Need-loop-holds Inv-loop μ-loop
 unfolding allBelow
 loop-holds c = (search needs, refl)
 
+returns : tie.Need-returns Inv-loop μ-loop
+returns c =
+    let a = c .before .before .before .before .args in
+    let l = c .before .before .before .loop in
+    let e = sym (c .before .area-ok .ensures) ∙ not-true _ (c .if1 .taken) in
+    sym (below-not (sendingIn (a .t1) (a .t2) (a .t3)) instances (l .i) (c .before .before .loop-test .taken) e)
+
 loop-again : tie.Need-loop-again Inv-loop μ-loop
 loop-again c =
     let a = c .before .before .before .before .args in
     let l = c .before .before .before .loop in
-    (search needs, (cc (below-next (sendingIn (a .t1) (a .t2) (a .t3)) (l .i))))
+    let e = sym (c .before .area-ok .ensures) ∙ not-false _ (c .if1 .left) in
+    (search needs, below-more (sendingIn (a .t1) (a .t2) (a .t3)) (l .i) (l .inv .1) e)
 
-returns : tie.Need-returns Inv-loop μ-loop
-returns c =
+returns-2 : tie.Need-returns-2 Inv-loop μ-loop
+returns-2 c =
     let a = c .before .before .args in
     let l = c .before .loop in
     let e : l .i ≡ instances = omega arith in
-    l .inv .1 ∙ ap (allBelow (sendingIn (a .t1) (a .t2) (a .t3))) e
+    sym (l .inv .1) ∙ ap (allBelow (sendingIn (a .t1) (a .t2) (a .t3))) e
 
 pub sending-ok-spec : {M : Type 1} → statement M
 sending-ok-spec =
@@ -47,11 +57,9 @@ sending-ok-spec =
     (λ c. search needs)
     (λ c. search needs)
     (λ c. search needs)
-    (λ c. search needs)
-    (λ c. search needs)
     (λ c κs. search needs)
-    (λ c κs. search needs)
+    returns
     (λ c. search needs)
     (λ c. search needs)
     loop-again
-    returns)
+    returns-2)

@@ -1,6 +1,8 @@
 -- `messages::elements::two_end` meets its contract: the test decides.
 -- Assumes nothing.
-use mathlib.Core.Path.{_∙_}
+use mathlib.Core.Path.{_≡_, _∙_}
+use mathlib.Core.Bool.{true}
+use lib.Dec.{eqb}
 use borrow.Author.Tests.{eq-eqb}
 use Rattle.base.proofs.Conds.{tests}
 use borrow.Author.Needs.{needs}
@@ -8,7 +10,7 @@ use Rattle.messages.proofs.elements.two_end.Statement.{statement}
 use Rattle.messages.proofs.elements.two_end.Tie as tie
 
 returns : tie.Need-returns
-returns c = c .sized-end .ensures ∙ rw (eq-eqb _ _ (c .before .if1 .taken))
+returns c = let two : eqb (c .before .before .before .args .count) 2 ≡ true = eq-eqb _ _ (c .before .if1 .taken) in c .sized-end .ensures ∙ rw two
 
 returns-2 : tie.Need-returns-2
 returns-2 c = search tests

@@ -14,4 +14,5 @@ fields-spec =
     tie.close
     (tie.spec
     (λ c κs. search needs)
+    (λ c. search needs)
     returns)

@@ -1,0 +1,182 @@
+-- A built message is taken: it reads back as its parts (T9 of build), it is one item and a message of the protocol, so a take that is awaited and has
+-- the row finds it at the front of what is held; and what the take says of it are the numbers and places of what was read.
+-- Assumes nothing.
+use mathlib.Core.Path.{_≡_, refl, sym, ap, _∙_, subst}
+use mathlib.Core.List.{List, [], _∷_, _++_, append-nil, append-assoc}
+use mathlib.Core.Option.{some}
+use Prim.Native.Nat.{ℕ, zero, suc, _+_, _*_, _≤_}
+use native.Mathlib.Omega.{arith}
+use native.Mathlib.Numerals.{add-one}
+use lib.ListN.{length, getD, set, take, drop, length-set, length-take}
+use lib.Seq.{sets, sets-eq, take-suc-set, getD-set-same, getD-set-other}
+use Rattle.ring.specs.Ring as ring
+use Rattle.ring.specs.Ring.{baseOf}
+use Rattle.ring.proofs.Stores.{stream-length, stream-take}
+use Rattle.item.specs.declared.Verdict.the-variants.{Whole}
+use Rattle.item.specs.Grammar.{Item, nesting}
+use Rattle.item.specs.Verdict.{verdict}
+use Rattle.item.proofs.Theorem.{exactly}
+use Rattle.rows.specs.declared.Protocol.{Protocol}
+use Rattle.rows.specs.declared.Next.the-variants.{To}
+use Rattle.rows.specs.Spoken.{speaks}
+use Rattle.messages.specs.declared.Message.{Message}
+use Rattle.messages.specs.declared.Answer.{Answer}
+use Rattle.messages.specs.declared.forms.Field.{Field}
+use Rattle.messages.specs.Matching.{Value, number, place, FieldsAt, no-field, a-field, Matches, begun, withNumber, withPlace, told, messageFrom}
+use Rattle.messages.specs.Reading.{messageOf, read}
+use Rattle.messages.proofs.Theorem.{reads-forms, message-is-item}
+use Rattle.build.specs.Theorem.{numbersOf, runsOf}
+use Rattle.build.specs.Building.{given}
+use Rattle.build.proofs.NumberLaws as build
+use Rattle.build.proofs.Few.{Few, form-few, runs-counted}
+use Rattle.connection.specs.declared.Connection.{Connection}
+use Rattle.connection.specs.Parts.{firstHeld}
+use Rattle.judging.specs.Judging.{leadsTo}
+use Rattle.taking.specs.Taking as taking
+use Rattle.taking.specs.Numbers.{Awaited, Spells, done}
+use Rattle.taking.specs.declared.Taken.{Taken}
+use Rattle.taking.proofs.NumberLaws as taking-laws
+use Rattle.promises.specs.Calls as calls
+use Rattle.promises.specs.Calls.{World, step}
+use Rattle.promises.specs.Arrival.{holding, buildWith, numbersIn, runsAt, runsIn, BuiltIsTaken}
+
+-- ---- what a message says
+
+-- values that are said in turn: the kind stays, and each adds its number or its place
+told-kind : (xs : List Value) (m : Message) → told m xs .kind ≡ m .kind
+unfolding told
+told-kind [] m = refl
+told-kind (number v ∷ xs) m = told-kind xs (withNumber m v)
+told-kind (place a l ∷ xs) m = told-kind xs (withPlace m a l)
+
+told-numbers : (xs : List Value) (m : Message) → m .count + length (numbersOf xs) ≤ length (m .numbers)
+    → numbersIn (told m xs) ≡ numbersIn m ++ numbersOf xs
+unfolding told
+told-numbers [] m h = sym (append-nil (numbersIn m))
+told-numbers (number v ∷ xs) m h =
+    let now : numbersIn (withNumber m v) ≡ numbersIn m ++ (v ∷ []) = rw add-one (take-suc-set (m .numbers) (m .count) v (omega arith)) in
+    told-numbers xs (withNumber m v) (omega (arith, length-set (m .numbers) (m .count) v))
+    ∙ ap (λ (ns : List ℕ). ns ++ numbersOf xs) now
+    ∙ append-assoc (numbersIn m) (v ∷ []) (numbersOf xs)
+told-numbers (place a l ∷ xs) m h = told-numbers xs (withPlace m a l) h
+
+-- a start or length set behind so many places
+runs-stay : (bs places : List ℕ) (n p v : ℕ) → n * 2 ≤ p → runsAt bs (set places p v) n ≡ runsAt bs places n
+unfolding runsAt
+runs-stay bs places zero p v h = refl
+runs-stay bs places (suc n) p v h =
+    rw (
+      runs-stay bs places n p v (omega arith),
+      getD-set-other places p (n * 2) v 0 (λ e. omega arith),
+      getD-set-other places p (n * 2 + 1) v 0 (λ e. omega arith),
+    )
+
+-- one place more
+runs-next : (bs places : List ℕ) (n a l : ℕ) → n * 2 + 2 ≤ length places
+    → runsAt bs (set (set places (n * 2) a) (n * 2 + 1) l) (n + 1) ≡ runsAt bs places n ++ (ring.run bs a l ∷ [])
+unfolding runsAt
+runs-next bs places n a l h =
+    let once : List ℕ = set places (n * 2) a in
+    let start : getD (set once (n * 2 + 1) l) (n * 2) 0 ≡ a =
+    getD-set-other once (n * 2 + 1) (n * 2) l 0 (λ e. omega arith) ∙ getD-set-same places (n * 2) a 0 (omega arith) in
+    let size : getD (set once (n * 2 + 1) l) (n * 2 + 1) 0 ≡ l = getD-set-same once (n * 2 + 1) l 0 (omega (arith, length-set places (n * 2) a)) in
+    let same : runsAt bs (set once (n * 2 + 1) l) n ≡ runsAt bs places n =
+    runs-stay bs once n (n * 2 + 1) l (omega arith) ∙ runs-stay bs places n (n * 2) a (omega arith) in
+    ap (runsAt bs (set once (n * 2 + 1) l)) (add-one n) ∙ rw (start, size, same)
+
+told-runs : (bs : List ℕ) (xs : List Value) (m : Message) → (m .parts + length (runsOf bs xs)) * 2 ≤ length (m .places)
+    → runsIn bs (told m xs) ≡ runsIn bs m ++ runsOf bs xs
+unfolding told
+told-runs bs [] m h = sym (append-nil (runsIn bs m))
+told-runs bs (number v ∷ xs) m h = told-runs bs xs (withNumber m v) h
+told-runs bs (place a l ∷ xs) m h =
+    let n : ℕ = m .parts in
+    told-runs bs xs (withPlace m a l)
+    (omega (arith, length-set (set (m .places) (n * 2) a) (n * 2 + 1) l, length-set (m .places) (n * 2) a))
+    ∙ ap (λ (rs : List (List ℕ)). rs ++ runsOf bs xs) (runs-next bs (m .places) n a l (omega arith))
+    ∙ append-assoc (runsIn bs m) (ring.run bs a l ∷ []) (runsOf bs xs)
+
+-- ---- how many
+
+-- as many values as fields, and no more numbers
+values-many : {bs : List ℕ} {fs : List Field} {p q : ℕ} {xs : List Value} → FieldsAt bs fs p xs q → length xs ≡ length fs
+values-many no-field = refl
+values-many (a-field x r) = ap suc (values-many r)
+
+numbers-few : (xs : List Value) → length (numbersOf xs) ≤ length xs
+numbers-few [] = omega arith
+numbers-few (number v ∷ xs) = omega (arith, numbers-few xs)
+numbers-few (place a l ∷ xs) = omega (arith, numbers-few xs)
+
+-- ---- the take
+
+same-answer : {n n′ len len′ : ℕ} {m m′ : Message} {b b′ : List ℕ} → n ≡ n′ → len ≡ len′ → m ≡ m′ → b ≡ b′
+    → calls.taken n len m b ≡ calls.taken n′ len′ m′ b′
+same-answer p q r t = rw (p, q, r, t)
+
+-- the first bytes held spell one message, and a take answered 0 tells it
+spells-once : (c : Connection) (store : List ℕ) (i n n′ : ℕ) (m m′ : Message) → Spells c store i n m → Spells c store i n′ m′ → (n′ ≡ n) × (m′ ≡ m)
+spells-once c store i n n′ m m′ s s′ =
+    let e : Whole n′ ≡ Whole n = sym (s′ .whole) ∙ s .whole in
+    let same : n′ ≡ n = cc in
+    let says : read m′ ≡ read m = sym (s′ .read) ∙ ap (λ (k : ℕ). messageOf (speaks i) (firstHeld c store i k)) same ∙ s .read in
+    (same, ap (λ (a : Answer). a .message) says)
+
+tells-it : (c : Connection) (store : List ℕ) (i : ℕ) (lent : List ℕ) (n : ℕ) (m : Message) → Spells c store i n m
+    → taking.takeOf c store i lent .answer .number ≡ 0
+    → (taking.takeOf c store i lent .answer .len ≡ n) × (taking.takeOf c store i lent .answer .message ≡ m)
+tells-it c store i lent n m s z =
+    let h = taking-laws.hands-out c store i lent z in
+    let o = spells-once c store i n (h .0) m (h .1) s (h .3) in
+    (ap (λ (t : Taken). t .len) (h .5) ∙ o .0, ap (λ (t : Taken). t .message) (h .5) ∙ o .1)
+
+-- bytes that are a message, first among those held, with the row: what a take that is awaited answers
+takes-it : (w : World) (i : ℕ) (bs lent : List ℕ) (m : Message) (next : ℕ) → Awaited (w .connection) (w .receive) i
+    → take (length bs) (holding w i) ≡ bs → Item nesting bs → messageOf (speaks i) bs ≡ read m → leadsTo (w .connection) i m ≡ To next
+    → length bs ≤ length lent → step w (calls.take i lent) .answer ≡ calls.taken 0 (length bs) m (bs ++ drop (length bs) lent)
+unfolding step
+takes-it w i bs lent m next awaited held it reads row room =
+    let c = w .connection in
+    let store = w .receive in
+    let caps = c .settings .receive in
+    let n : ℕ = length bs in
+    let count : ℕ = getD (c .receiving .held) i 0 in
+    let many : length (holding w i) ≡ count = stream-length _ _ _ _ count in
+    let all : n ≤ count = omega (arith, ap length held, length-take n (holding w i)) in
+    let bytes : firstHeld c store i n ≡ bs =
+    sym (stream-take store (baseOf caps i) (getD caps i 0) (getD (c .receiving .starts) i 0) n count all) ∙ held in
+    let whole : verdict (holding w i) ≡ Whole n = exactly nesting (holding w i) (Whole n) .1 (omega arith, rw held it) in
+    let spells : Spells c store i n m = record { awaited = awaited; whole = whole; read = rw bytes reads } in
+    let number : taking.takeOf c store i lent .answer .number ≡ 0 = taking-laws.exactly c store i lent 0 .1 (done spells row room) in
+    let (len, message) = tells-it c store i lent n m spells number in
+    let at : 0 + n ≡ n = omega arith in
+    same-answer number len message
+    (taking-laws.leaves c store i lent .front number
+    ∙ ap (λ (k : ℕ). sets lent 0 (firstHeld c store i k)) len ∙ ap (sets lent 0) bytes
+    ∙ sets-eq bs lent 0 (omega arith) ∙ ap (λ (k : ℕ). bs ++ drop k lent) at)
+
+pub built-is-taken : BuiltIsTaken
+unfolding runsAt
+built-is-taken i p bs b w j same k lent room =
+    let r = buildWith i p (b .lent) in
+    let back = build.reads-back i (p .kind) (p .numbers) (p .runs) (p .one) (p .two) (b .lent) (r .built) (r .buffer) (b .slices .0)
+    (b .slices .1) refl (b .done) in
+    let xs : List Value = back .0 in
+    let m : Matches (speaks j) bs (p .kind) xs =
+    subst (λ (q : Protocol). Matches q bs (p .kind) xs) (sym same)
+    (subst (λ (ys : List ℕ). Matches (speaks i) ys (p .kind) xs) (b .front) (back .1)) in
+    let runs : given (p .runs) (p .one) (p .two) ≡ some (runsOf bs xs) = back .3 ∙ ap (λ (ys : List ℕ). some (runsOf ys xs)) (b .front) in
+    let small : Few (p .kind) (m .fields) = form-few (speaks j) (p .kind) (m .form) in
+    let few : length (numbersOf xs) ≤ 3 = omega (arith, numbers-few xs, values-many (m .matched), small .fields) in
+    let two : length (runsOf bs xs) ≤ 2 = omega (arith, runs-counted bs (m .matched), small .runs) in
+    let reads : messageOf (speaks j) bs ≡ read (messageFrom (p .kind) xs) =
+    reads-forms (speaks j) bs (messageFrom (p .kind) xs) .1 (p .kind, xs, m, refl) in
+    record {
+      message = messageFrom (p .kind) xs;
+      answer =
+          takes-it w j bs lent (messageFrom (p .kind) xs) (k .next) (k .awaited) (k .held) (message-is-item (speaks j) bs (p .kind) xs m) reads
+          (ap (λ (a : Answer). leadsTo (w .connection) j (a .message)) (sym reads) ∙ k .row) room;
+      kind = told-kind xs (begun (p .kind));
+      numbers = told-numbers xs (begun (p .kind)) (omega arith) ∙ back .2;
+      runs = ap some (told-runs bs xs (begun (p .kind)) (omega arith)) ∙ sym runs;
+    }
