@@ -49,7 +49,7 @@ pub record Joined (a b : End) (way : List ℕ) : Type 0 where
   pub bytes : flatten (segments (pastOf a)) ≡ bytesIn (pastOf b) ++ way
 
 -- What was put of an instance is, in order: what the other end was handed of the instance that it talks with; what it holds of it; what is in
--- flight, which is among the bytes on the way; and what still waits.
+-- flight, no more bytes than are on the way; and what still waits.
 pub record Arrives (a b : End) (way : List ℕ) (i : ℕ) : Type 0 where
   pub flight : List ℕ
   pub put : putFor i (pastOf a)
