@@ -9,6 +9,7 @@ use connection::Connection;
 use connection::Gate;
 use connection::Receiving;
 use connection::parts::is_open;
+use connection::parts::number_of;
 use connection::parts::with_receiving;
 use connection::range::fits;
 use connection::range::receives;
@@ -26,7 +27,6 @@ ghost use Rattle.wire.specs.Instances.{instances};
 ghost use Rattle.wire.specs.Segments.{headerLength};
 ghost use Rattle.wire.specs.declared.instances.Route.the-variants.{To};
 ghost use Rattle.connection.specs.declared.Gate.the-variants.{Open};
-ghost use Rattle.connection.specs.Closings.{numberOf};
 ghost use Rattle.connection.specs.Ranges.{receives};
 ghost use Rattle.feeding.specs.Feeding.{admitted, admission, instanceFor, fed, used, left, told, refused, feedOpen, feedOf};
 ghost use Rattle.feeding.specs.Inside.{reception, Sound, Area, Under, headerAt, Settles, Heads, Lays, Steps};
@@ -315,16 +315,6 @@ fn left(g: Gate) -> u64
     match g {
         Gate::Open => 0,
         Gate::Closed(x) => number_of(x),
-    }
-}
-
-// The refusal number that a closing names.
-fn number_of(x: Closing) -> u64
-    ensures { λ r. ⌜ r ≡ numberOf x ⌝ }
-{
-    match x {
-        Closing::Bare(n) => n,
-        Closing::Of(n, _) => n,
     }
 }
 

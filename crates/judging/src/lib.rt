@@ -9,6 +9,7 @@ use connection::parts::changed;
 use item::Verdict;
 use messages::Message;
 use messages::Reading;
+use messages::number_of;
 use rows::Agency;
 use rows::Next;
 use rows::Protocol;
@@ -115,19 +116,6 @@ fn by_row(n: usize, message: Message, next: Next) -> Judged
     match next {
         Next::To(state) => led(n, message, state),
         Next::None => unjudged(16),
-    }
-}
-
-// Document 01's number for what reading came to.
-fn number_of(reading: Reading) -> u64
-    ensures { λ r. ⌜ r ≡ numberOf reading ⌝ }
-{
-    match reading {
-        Reading::Read => 0,
-        Reading::NotArray => 15,
-        Reading::UnknownKind => 15,
-        Reading::WrongCount => 15,
-        Reading::WrongField(_) => 15,
     }
 }
 

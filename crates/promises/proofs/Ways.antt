@@ -22,7 +22,7 @@ use Rattle.ready.specs.Ready.{chosen}
 use Rattle.ready.specs.declared.Choice.the-variants.{Instance}
 use Rattle.connection.specs.declared.Connection.{Connection}
 use Rattle.connection.specs.declared.Closing.the-variants.{Of}
-use Rattle.connection.specs.Closings.{isOpen, closedBy}
+use Rattle.connection.specs.Closings.{isOpen, closedBy, takeFault}
 use Rattle.connection.specs.Parts.{withSending, withGate, firstHeld}
 use Rattle.connection.specs.Ranges.{receives, sends}
 use Rattle.judging.specs.Judging.{stateOf, ours, barred}
@@ -45,7 +45,7 @@ Row p state to = (k : ℕ) × (f : ℕ) × (nextOf p state k f ≡ To to)
 module _ (c : Connection) (store : List ℕ) (i : ℕ) (buf : List ℕ) where
   -- nothing changes; or a fault closes; or a message is handed out, for which the peer had agency and a row
   pub data Takes : taking.Told → Type 0 where
-    refuses : (n : ℕ) → n ≢ 0 → n ≢ 23 → taking.faulty n ≡ false → Takes (taking.told (taking.refused c n) buf)
+    refuses : (n : ℕ) → n ≢ 0 → n ≢ 23 → takeFault n ≡ false → Takes (taking.told (taking.refused c n) buf)
     faults : (n : ℕ) → 14 ≤ n → n ≤ 17 → i < instances → Takes (taking.told (taking.refused (withGate c (closedBy (c .gate) (Of n i))) n) buf)
     hands : (n : ℕ) (m : Message) (to : ℕ) → i < instances → ours (c .settings .side) i (stateOf c i) ≡ false
         → n ≤ getD (c .receiving .held) i 0 → n ≤ length buf → messageOf (speaks i) (firstHeld c store i n) ≡ read m
@@ -61,7 +61,7 @@ module _ (c : Connection) (store : List ℕ) (i : ℕ) (buf : List ℕ) where
       of (taking-laws.unfit q e) = absurd (true≢false (sym r ∙ q))
       of (taking-laws.stays n z k inside e) =
           subst Takes e
-          (cond-cases (λ (t : Taken). Takes (taking.told t buf)) (taking.faulty n)
+          (cond-cases (λ (t : Taken). Takes (taking.told t buf)) (takeFault n)
           (λ f. let (low, high) = taking-laws.among n f in faults n low high (inside f)) (λ f. refuses n z k f))
       of (taking-laws.gone n m to s x l e) =
           subst Takes e (hands n m to (s .awaited .0 .0 .1) (s .awaited .2) (held-within c store i n (s .whole)) l (s .read) x)

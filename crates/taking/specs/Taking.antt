@@ -16,7 +16,7 @@ use Rattle.messages.specs.Matching.{begun}
 use Rattle.connection.specs.declared.Receiving.{Receiving}
 use Rattle.connection.specs.declared.Connection.{Connection}
 use Rattle.connection.specs.declared.Closing.the-variants.{Of}
-use Rattle.connection.specs.Closings.{isOpen, closedBy}
+use Rattle.connection.specs.Closings.{isOpen, closedBy, takeFault}
 use Rattle.connection.specs.Ranges.{receives}
 use Rattle.connection.specs.Parts.{withReceiving, withTalk, withGate, firstHeld, heldOf}
 use Rattle.judging.specs.declared.Judged.{Judged}
@@ -52,16 +52,13 @@ judgeOf c store i = cond (eqb (earlyOf c i) 0) (byVerdict c store i (verdict (he
 
 -- ---- refusals
 
--- 14 to 17 from take are faults: they close
-abbrev pub faulty : ℕ → Bool
-faulty n = leb 14 n && leb n 17
-
--- a refusal otherwise changes nothing
+-- a refusal changes nothing
 abbrev pub refused : Connection → ℕ → Taken
 refused c n = record { number = n; len = 0; message = begun 0; connection = c }
 
+-- but a fault closes
 abbrev pub undone : Connection → ℕ → ℕ → Taken
-undone c i n = cond (faulty n) (refused (withGate c (closedBy (c .gate) (Of n i))) n) (refused c n)
+undone c i n = cond (takeFault n) (refused (withGate c (closedBy (c .gate) (Of n i))) n) (refused c n)
 
 -- ---- handing out
 

@@ -12,12 +12,13 @@ use connection::parts::is_open;
 use connection::parts::with_gate;
 use connection::parts::with_receiving;
 use connection::parts::with_talk;
-use connection::range::done;
 use connection::range::receives;
+use connection::range::take_fault;
 use item::Verdict;
 use judging::Judged;
 use messages::Message;
 use rows::Protocol;
+use rows::spoken::done;
 use wire::instances::INSTANCES;
 ghost use mathlib.Core.Path.{_≡_};
 ghost use mathlib.Core.Bool.{true};
@@ -29,7 +30,7 @@ ghost use Rattle.wire.specs.Instances.{instances};
 ghost use Rattle.item.specs.Verdict.{verdict};
 ghost use Rattle.connection.specs.Parts.{InReceive, firstHeld, heldOf};
 ghost use Rattle.connection.specs.Ranges.{inRange};
-ghost use Rattle.taking.specs.Taking.{told, earlyOf, byVerdict, judgeOf, faulty, refused, undone, freedOf, handed, hand, takeOf};
+ghost use Rattle.taking.specs.Taking.{told, earlyOf, byVerdict, judgeOf, refused, undone, freedOf, handed, hand, takeOf};
 ghost use Rattle.taking.specs.Inside.{heardAs};
 
 // The number; where it is 0, the message's length and what it says; and the record.
@@ -107,13 +108,6 @@ pub fn judge(c: Connection, store: &[u8], i: usize) -> Judged
     judge_held(c, store, i)
 }
 
-// 14 to 17 are faults: they close.
-fn faulty(number: u64) -> bool
-    ensures { λ r. ⌜ r ≡ faulty number ⌝ }
-{
-    base::and(14 <= number, number <= 17)
-}
-
 // A refusal or a notice that changes nothing.
 fn refused(c: Connection, number: u64) -> Taken
     ensures { λ r. ⌜ r ≡ refused c number ⌝ }
@@ -130,7 +124,7 @@ fn refused(c: Connection, number: u64) -> Taken
 fn undone(c: Connection, instance: u64, number: u64) -> Taken
     ensures { λ r. ⌜ r ≡ undone c instance number ⌝ }
 {
-    if faulty(number) {
+    if take_fault(number) {
         let gate = c.gate;
         let closed = with_gate(c, close(gate, Closing::Of(number, instance)));
         return refused(closed, number);
