@@ -5,10 +5,10 @@ use crate::LENT;
 use crate::STORE;
 use crate::answering;
 use crate::first;
-use crate::least;
 use crate::lending;
 use crate::lent;
 use crate::with;
+use base::smaller;
 use build::Built;
 use connection::Settings;
 use connection::opening;
@@ -175,7 +175,7 @@ fn plus(sum: usize, cap: u64) -> usize {
     if STORE as u64 <= cap {
         return STORE;
     }
-    least(STORE, least(STORE, sum) + cap as usize)
+    smaller(STORE, smaller(STORE, sum) + cap as usize)
 }
 
 // open SIDE S R0 .. R8 W0 .. W8

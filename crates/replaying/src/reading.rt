@@ -6,8 +6,8 @@ use crate::LINE;
 use crate::STORE;
 use crate::calls;
 use crate::counted;
-use crate::least;
 use crate::lent;
+use base::smaller;
 use libc::STDIN_FILENO;
 ghost use mathlib.Core.Path.{_≡_};
 ghost use Prim.Native.Nat.{_+_, min};
@@ -186,13 +186,13 @@ fn whole(
 // Puts bytes behind those of the line, as far as it may have them, and answers how many there are now, with one more
 // for a line that is too long.
 fn gather(line: &mut [u8], filled: usize, bytes: &[u8]) -> usize {
-    let at = least(filled, line.len());
-    let k = least(bytes.len(), line.len() - at);
+    let at = smaller(filled, line.len());
+    let k = smaller(bytes.len(), line.len() - at);
     ring::copy(line, at, bytes, 0, k);
     if k < bytes.len() {
         return LINE + 1;
     }
-    least(filled, LINE + 1) + k
+    smaller(filled, LINE + 1) + k
 }
 
 // Runs a line of n characters.
