@@ -19,6 +19,7 @@ use rows::spoken::done;
 use sending::Made;
 use sending::next_segment;
 use taking::take;
+use wire::instances::HANDSHAKE;
 use wire::instances::INSTANCES;
 use wire::instances::Side;
 
@@ -49,7 +50,7 @@ fn talking(side: Side, limit: u64, receive: &[u8], send: &[u8]) -> Connection {
     };
     let opened = open(settings, receive, send);
     let mut states = [0; INSTANCES];
-    states[0] = done(0);
+    states[HANDSHAKE] = done(HANDSHAKE);
     states[FETCHES] = STREAMING;
     states[SERVES] = STREAMING;
     let talk = Talk {

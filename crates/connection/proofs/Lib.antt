@@ -1,3 +1,4 @@
 pub mod RangeLaws
 pub mod AreaLaws
 pub mod NumberLaws
+pub mod StoreLaws

@@ -3,7 +3,7 @@ use Prim.Native.Nat.{ℕ}
 use mathlib.Core.Bool.{Bool, true, false, _&&_, _||_}
 use mathlib.Core.Option.{Option, none, some}
 use lib.Dec.{eqb, leb, ltb}
-use Rattle.wire.specs.Instances.{instances}
+use Rattle.wire.specs.Instances.{instances, handshake}
 use Rattle.connection.specs.declared.Closing.{Closing}
 use Rattle.connection.specs.declared.Closing.the-variants.{Bare, Of}
 use Rattle.connection.specs.declared.Gate.{Gate}
@@ -39,7 +39,7 @@ takeFault n = leb 14 n && leb n 17
 -- a closing that a fault leaves: no instance for 11; 0 for 12; any for 13 and for those of take
 abbrev pub faultLeaves : Closing → Bool
 faultLeaves (Bare n) = eqb n 11
-faultLeaves (Of n i) = (eqb n 12 && eqb i 0) || ((eqb n 13 || takeFault n) && ltb i instances)
+faultLeaves (Of n i) = (eqb n 12 && eqb i handshake) || ((eqb n 13 || takeFault n) && ltb i instances)
 
 abbrev pub gateOk : Gate → Bool
 gateOk Open = true

@@ -10,6 +10,7 @@ use crate::Sending;
 use crate::Settings;
 use crate::Talk;
 use rows::spoken::done;
+use wire::instances::HANDSHAKE;
 use wire::instances::INSTANCES;
 ghost use mathlib.Core.Path.{_≡_};
 ghost use mathlib.Core.Bool.{_&&_};
@@ -157,7 +158,7 @@ fn header_ok(r: Receiving) -> bool
 fn accept_ok(accepted: bool, states: [u64; INSTANCES]) -> bool
     ensures { λ r. ⌜ r ≡ acceptIn accepted states ⌝ }
 {
-    base::or(base::not(accepted), states[0] == done(0))
+    base::or(base::not(accepted), states[HANDSHAKE] == done(HANDSHAKE))
 }
 
 // A closing that a fault leaves.
@@ -182,7 +183,7 @@ fn named(n: u64, i: u64) -> bool
     ensures { λ r. ⌜ r ≡ faultLeaves (Of n i) ⌝ }
 {
     let late = base::and(base::or(n == 13, take_fault(n)), i < INSTANCES as u64);
-    base::or(base::and(n == 12, i == 0), late)
+    base::or(base::and(n == 12, i == HANDSHAKE as u64), late)
 }
 
 // Open, or closed by a closing that a fault leaves.

@@ -13,6 +13,7 @@ use messages::number_of;
 use rows::Agency;
 use rows::Next;
 use rows::Protocol;
+use wire::instances::HANDSHAKE;
 use wire::instances::Side;
 ghost use mathlib.Core.Path.{_≡_};
 ghost use Prim.Native.Nat.{_≤_, _<_};
@@ -69,7 +70,7 @@ pub fn ours(side: Side, i: usize, state: u64) -> bool
 pub fn barred(t: Talk, i: usize) -> bool
     ensures { λ r. ⌜ r ≡ barred t i ⌝ }
 {
-    base::and(base::not(i == 0), base::not(t.accepted))
+    base::and(base::not(i == HANDSHAKE), base::not(t.accepted))
 }
 
 // The states, and the mark of Accept, once a message of this kind has moved instance i to the next state.
@@ -78,7 +79,7 @@ pub fn moved_by(t: Talk, i: usize, kind: u64, next: u64) -> Talk
     ensures { λ r. ⌜ r ≡ movedBy t i kind next ⌝ }
 {
     let states = t.states;
-    let accept = base::and(i == 0, kind == ACCEPT);
+    let accept = base::and(i == HANDSHAKE, kind == ACCEPT);
     Talk {
         states: changed(states, i, next),
         accepted: base::or(t.accepted, accept),

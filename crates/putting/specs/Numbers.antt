@@ -5,7 +5,7 @@ use mathlib.Core.Bool.{true, false}
 use mathlib.Core.List.{List}
 use mathlib.Core.Logic.{_↔_}
 use lib.ListN.{length, getD}
-use Rattle.wire.specs.Instances.{instances}
+use Rattle.wire.specs.Instances.{instances, handshake}
 use Rattle.rows.specs.declared.Next.the-variants.{To, None}
 use Rattle.rows.specs.Spoken.{speaks}
 use Rattle.messages.specs.declared.Message.{Message}
@@ -41,7 +41,7 @@ Moves c store i xs = OurTurn c store i × ((m : Message) × Says (speaks i) xs m
 
 -- and it is not a Handshake message above S
 abbrev pub InOneSegment : Connection → List ℕ → ℕ → List ℕ → Type 0
-InOneSegment c store i xs = Moves c store i xs × (i ≡ 0 → length xs ≤ c .settings .limit)
+InOneSegment c store i xs = Moves c store i xs × (i ≡ handshake → length xs ≤ c .settings .limit)
 
 -- ---- the numbers
 
@@ -56,7 +56,7 @@ pub record Numbers (c : Connection) (store : List ℕ) (i : ℕ) (xs : List ℕ)
   pub n15 : (putOf c store i xs .answer .number ≡ 15) ↔ (OurTurn c store i × ((m : Message) → Says (speaks i) xs m → ⊥))
   pub n16 : (putOf c store i xs .answer .number ≡ 16)
       ↔ (OurTurn c store i × ((m : Message) × Says (speaks i) xs m × (leadsTo c i m ≡ None)))
-  pub n24 : (putOf c store i xs .answer .number ≡ 24) ↔ (Moves c store i xs × (i ≡ 0) × (c .settings .limit < length xs))
+  pub n24 : (putOf c store i xs .answer .number ≡ 24) ↔ (Moves c store i xs × (i ≡ handshake) × (c .settings .limit < length xs))
   pub n22 : (putOf c store i xs .answer .number ≡ 22)
       ↔ (InOneSegment c store i xs × (getD (c .settings .send) i 0 < getD (c .sending .waiting) i 0 + length xs))
   pub n0 : (putOf c store i xs .answer .number ≡ 0)

@@ -5,13 +5,12 @@ use mathlib.Core.Path.{_≡_, refl, sym, ap, _∙_}
 use mathlib.Core.Bool.{true, false, cond}
 use mathlib.Core.List.{List, _++_}
 use mathlib.Core.Logic.{_↔_, _≢_}
-use Prim.Native.Nat.{ℕ, _+_, _-_, _%_, _<_, _≤_}
+use Prim.Native.Nat.{ℕ, _+_, _<_, _≤_}
 use native.Mathlib.Omega.{arith}
-use native.Mathlib.Nat.{mod-lt}
 use lib.Dec.{eqb, ltb}
 use lib.ListN.{length, getD, length-set}
-use lib.Seq.{sets, getD-set-same, getD-set-other}
-use borrow.Author.Tests.{ltb-true, ltb-false, eqb-true, eqb-false}
+use lib.Seq.{sets}
+use borrow.Author.Tests.{ltb-true, ltb-false}
 use Rattle.base.proofs.Conds.{by-test, cond-cases, exactly-when}
 use Rattle.wire.specs.Segments.{headerLength, encoded}
 use Rattle.wire.specs.Instances.{instances}
@@ -25,6 +24,7 @@ use Rattle.connection.specs.Shapes.{Shaped}
 use Rattle.connection.specs.Closings.{isOpen}
 use Rattle.connection.specs.Ranges.{inRange, sends}
 use Rattle.connection.specs.Parts.{withSending}
+use Rattle.connection.proofs.StoreLaws.{leaves-front}
 use Rattle.connection.proofs.RangeLaws.{ranged, in-range, sends-both}
 use Rattle.sending.specs.declared.Made.{Made}
 use Rattle.sending.specs.NextSegment.{Told, told, refused, much, headed, payloadOf, sentOf, nextOf}
@@ -159,30 +159,16 @@ module _ (c : Connection) (s : Shaped c) (r : inRange c ≡ true) (i : ℕ) (ins
   abbrev w : Sending
   w = sentOf (c .sending) (c .settings .send) i n
 
-  sent-here : (getD (w .starts) i 0 < getD (c .settings .send) i 0) × (getD (w .waiting) i 0 ≤ getD (c .settings .send) i 0)
-  sent-here =
-      let cap = getD (c .settings .send) i 0 in
-      let k = ranged c r in
-      let l = k .set .send i inside in
-      let q = k .sending i inside in
-      rw (
-        getD-set-same (c .sending .starts) i ((getD (c .sending .starts) i 0 + n) % cap) 0 (omega (arith, s .send-starts)),
-        getD-set-same (c .sending .waiting) i (getD (c .sending .waiting) i 0 - n) 0 (omega (arith, s .waiting)),
-      )
-      (mod-lt (getD (c .sending .starts) i 0 + n) (omega arith), omega arith)
-
-  sent-there : (j : ℕ) → j < instances → j ≢ i
-      → (getD (w .starts) j 0 < getD (c .settings .send) j 0) × (getD (w .waiting) j 0 ≤ getD (c .settings .send) j 0)
-  sent-there j h ne =
-      rw (
-        getD-set-other (c .sending .starts) i j ((getD (c .sending .starts) i 0 + n) % getD (c .settings .send) i 0) 0 ne,
-        getD-set-other (c .sending .waiting) i j (getD (c .sending .waiting) i 0 - n) 0 ne,
-      )
-      (ranged c r .sending j h)
-
   sent-area : (j : ℕ) → j < instances
       → (getD (w .starts) j 0 < getD (c .settings .send) j 0) × (getD (w .waiting) j 0 ≤ getD (c .settings .send) j 0)
-  sent-area j h = by-test (eqb j i) (λ t. rw (eqb-true j i t) sent-here) (λ t. sent-there j h (eqb-false j i t))
+  sent-area j h =
+      let k = ranged c r in
+      let cap = k .set .send i inside in
+      let q = k .sending j h in
+      let (low, less) =
+      leaves-front (c .settings .send) (c .sending .starts) (c .sending .waiting) i n (omega arith) (omega (arith, s .send-starts))
+      (omega (arith, s .waiting)) j (q .0) in
+      (low, omega (arith, less, q .1))
 
   sent-turn : (1 ≤ w .turn) × (w .turn < instances)
   sent-turn =

@@ -2,15 +2,14 @@
 -- holds; each "when" makes the call go one of three ways; and the ways say what is answered and left.
 -- Assumes nothing.
 use mathlib.Core.Path.{_≡_, refl, sym, ap, subst, _∙_}
-use mathlib.Core.Bool.{true, false, true≢false, _&&_}
+use mathlib.Core.Bool.{true, false, true≢false}
 use mathlib.Core.List.{List}
 use mathlib.Core.Logic.{_≢_}
-use Prim.Native.Nat.{ℕ, _+_, _-_, _%_, _≤_, _<_}
+use Prim.Native.Nat.{ℕ, _+_, _≤_, _<_}
 use native.Mathlib.Omega.{arith}
-use native.Mathlib.Nat.{mod-lt}
 use lib.Dec.{eqb, leb, ltb}
 use lib.ListN.{length, getD, length-set}
-use lib.Seq.{sets, getD-set-same, getD-set-other}
+use lib.Seq.{sets}
 use borrow.Author.Tests.{eq-eqb, ne-eqb, eqb-true, eqb-false, lt-ltb, ltb-true, ltb-false, le-leb, leb-true}
 use Rattle.base.proofs.Conds.{by-test, both-true, exactly-when}
 use Rattle.wire.specs.Instances.{instances}
@@ -31,6 +30,7 @@ use Rattle.connection.specs.Shapes.{Shaped}
 use Rattle.connection.specs.Closings.{isOpen, closedBy, takeFault, gateOk}
 use Rattle.connection.specs.Ranges.{inRange, restFor, receives}
 use Rattle.connection.specs.Parts.{withReceiving, withGate, InReceive, firstHeld, heldOf}
+use Rattle.connection.proofs.StoreLaws.{leaves-front}
 use Rattle.connection.proofs.RangeLaws.{Ranged, ranged, in-range, receives-both}
 use Rattle.judging.specs.declared.Judged.{Judged}
 use Rattle.judging.specs.Judging.{stateOf, ours, barred, leadsTo, unjudged, byRow}
@@ -287,23 +287,12 @@ module _ (c : Connection) (s : Shaped c) (r : Ranged c) (i : ℕ) (inside : i < 
       → (getD (after .receiving .starts) j 0 < getD caps j 0)
       × (getD (after .receiving .held) j 0 + restFor (c .receiving .instance) (c .receiving .rest) j ≤ getD caps j 0)
   areas j h =
-      by-test (eqb j i)
-      (λ t.
-      let q = r .receiving i inside in
       let cap = r .set .receive i inside in
-      rw (
-        eqb-true j i t,
-        getD-set-same (c .receiving .starts) i ((getD (c .receiving .starts) i 0 + n) % getD caps i 0) 0 (omega (arith, s .receive-starts)),
-        getD-set-same (c .receiving .held) i (getD (c .receiving .held) i 0 - n) 0 (omega (arith, s .held)),
-      )
-      (mod-lt (getD (c .receiving .starts) i 0 + n) (omega arith), omega (arith, q .1)))
-      (λ t.
-      let ne = eqb-false j i t in
-      rw (
-        getD-set-other (c .receiving .starts) i j ((getD (c .receiving .starts) i 0 + n) % getD caps i 0) 0 ne,
-        getD-set-other (c .receiving .held) i j (getD (c .receiving .held) i 0 - n) 0 ne,
-      )
-      (r .receiving j h))
+      let q = r .receiving j h in
+      let (low, less) =
+      leaves-front caps (c .receiving .starts) (c .receiving .held) i n (omega arith) (omega (arith, s .receive-starts)) (omega (arith, s .held)) j
+      (q .0) in
+      (low, omega (arith, less, q .1))
 
   freed-ranged : Ranged after
   freed-ranged =

@@ -5,8 +5,10 @@
 use connection::Closing;
 use connection::Connection;
 use connection::Receiving;
+use connection::areas::fewer;
+use connection::areas::past;
+use connection::areas::read;
 use connection::parts::at;
-use connection::parts::changed;
 use connection::parts::close;
 use connection::parts::is_open;
 use connection::parts::with_gate;
@@ -132,7 +134,7 @@ fn undone(c: Connection, instance: u64, number: u64) -> Taken
     refused(c, number)
 }
 
-// n bytes of instance i are freed: their room is used again. Place and bytes are small, so that their sum fits.
+// n bytes of instance i are freed.
 fn freed(r: Receiving, caps: [u64; INSTANCES], i: usize, n: u64) -> Receiving
     requires { ⌜ (i < instances) × (0 < getD caps i 0) × (getD (r .starts) i 0 + n < 2 ^ 32) × (n ≤ getD (r .held) i 0) ⌝ }
     ensures { λ q. ⌜ q ≡ freedOf r caps i n ⌝ }
@@ -140,11 +142,9 @@ fn freed(r: Receiving, caps: [u64; INSTANCES], i: usize, n: u64) -> Receiving
     let starts = r.starts;
     let held = r.held;
     let header = r.header;
-    let start = (at(starts, i) + n) % at(caps, i);
-    let rest = at(held, i) - n;
     Receiving {
-        starts: changed(starts, i, start),
-        held: changed(held, i, rest),
+        starts: past(caps, starts, i, n),
+        held: fewer(held, i, n),
         header,
         instance: r.instance,
         rest: r.rest,
@@ -175,16 +175,7 @@ fn copy(c: Connection, store: &[u8], i: usize, buf: &mut [u8], n: usize)
     let caps = settings.receive;
     let receiving = c.receiving;
     let starts = receiving.starts;
-    let base = ring::base_of(&caps, i);
-    ring::read(
-        buf,
-        0,
-        store,
-        base,
-        at(caps, i) as usize,
-        at(starts, i) as usize,
-        n,
-    );
+    read(buf, 0, store, &caps, i, at(starts, i), n);
 }
 
 // The message that was judged is handed out, if there is room for it.
