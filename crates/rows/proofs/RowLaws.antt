@@ -1,14 +1,12 @@
--- Laws of the rows: where a protocol's rows lie in the table, and a search along them.
+-- Laws of the rows: what a row's columns say, the searches along them, and T8.
 -- Assumes nothing.
-use mathlib.Core.Path.{_≡_, refl, sym, ap, subst, _∙_}
-use mathlib.Core.Bool.{Bool, true, false, cond, not, _&&_, _||_}
-use mathlib.Core.List.{List, [], _∷_, _++_, map}
-use Prim.Native.Nat.{ℕ, zero, suc, _+_, _-_, _<_, _≤_}
+use mathlib.Core.Path.{_≡_, refl, ap, subst}
+use mathlib.Core.Bool.{Bool, true, cond, not, _&&_, _||_}
+use mathlib.Core.List.{List, [], _∷_, map}
+use Prim.Native.Nat.{ℕ, suc, _+_, _<_, _≤_}
 use native.Mathlib.Omega.{arith}
-use native.Mathlib.Numerals.{add-one}
 use lib.Dec.{T, eqb, leb, ltb, eqb→eq, leb→le, ltb→lt, eqb·suc-suc, eqb·zero-suc}
-use lib.ListN.{length, getD, take, drop, length-map}
-use lib.Seq.{drop-cons}
+use lib.ListN.{length, getD}
 use borrow.Author.Tests.{ne-eqb}
 use Rattle.base.proofs.Conds.{by-test, and-left, and-right}
 use Rattle.base.proofs.ListLaws.{getD-map}
@@ -20,32 +18,8 @@ use Rattle.rows.specs.declared.Agency.the-variants.{Initiator, Responder
 use Rattle.rows.specs.declared.Next.{Next}
 use Rattle.rows.specs.declared.Next.the-variants.{To, None}
 use Rattle.rows.specs.Rows.{State, Done, Row, states, doneOf, rowsOf, rowIn, Thirty, fits, nextIn, nextOf, agencyIn, agencyOf, placeIn}
-use Rattle.rows.specs.Inside.{placeOf, protocols, rowsUpTo, allRows, firstOf, countOf, rowCount, rowAt, holder, mark, columns}
-
--- a table by protocol
-pub by-protocol : (f : Protocol → ℕ) (p : Protocol) → getD (map f protocols) (placeOf p) 0 ≡ f p
-by-protocol f Handshake = refl
-by-protocol f ChainSync = refl
-by-protocol f BlockFetch = refl
-by-protocol f TxSubmission = refl
-by-protocol f KeepAlive = refl
-
--- a protocol's rows in the table
-rows-at : (p : Protocol) → take (countOf p) (drop (firstOf p) allRows) ≡ rowsOf p
-unfolding rowsUpTo placeIn
-rows-at Handshake = refl
-rows-at ChainSync = refl
-rows-at BlockFetch = refl
-rows-at TxSubmission = refl
-rows-at KeepAlive = refl
-
-pub rows-end : (p : Protocol) → firstOf p + countOf p ≤ rowCount
-unfolding rowsUpTo placeIn
-rows-end Handshake = omega arith
-rows-end ChainSync = omega arith
-rows-end BlockFetch = omega arith
-rows-end TxSubmission = omega arith
-rows-end KeepAlive = omega arith
+use Rattle.rows.proofs.ByProtocol.{Search}
+use Rattle.rows.specs.Inside.{entries, allRows, rowCount, rowAt, holder, mark, columns}
 
 -- what stands past the table's end
 abbrev nothing : Row
@@ -55,50 +29,29 @@ nothing = record { state = 0; agency = Nobody; kind = 0; flag = 0; next = 0 }
 pub row-at : (i : ℕ) → i < rowCount → getD (map columns allRows) i [] ≡ columns (rowAt i)
 row-at i h = getD-map columns allRows i nothing [] h
 
--- ---- a search along the rows from i up to the end e
-
-abbrev pub between : ℕ → ℕ → List Row
-between i e = take (e - i) (drop i allRows)
-
-between-more : (i e : ℕ) → i < e → e ≤ rowCount → between i e ≡ rowAt i ∷ between (i + 1) e
-between-more i e h l =
-    let n : e - i ≡ suc (e - (i + 1)) = omega arith in
-    rw (n, add-one i, drop-cons allRows i nothing (omega arith))
-
--- from a protocol's first row, as many as it has
-pub between-all : (p : Protocol) (a n : ℕ) → a ≡ firstOf p → n ≡ countOf p → between a (a + n) ≡ rowsOf p
-between-all p a n e f =
-    let k : a + n - a ≡ n = omega arith in
-    rw (k, e, f) (rows-at p)
-
-pub between-none : (i : ℕ) → between i i ≡ []
-between-none i = let z : i - i ≡ 0 = omega arith in rw z
-
-module _ (i e : ℕ) (h : i < e) (l : e ≤ rowCount) where
-  -- a search for where a message leads
-  pub leads : (s k f : ℕ) → fits s k f (rowAt i) ≡ true → nextIn s k f (between i e) ≡ To (rowAt i .next)
+-- the two searches along the rows: for where a message leads, and for who may send
+module _ (s k f : ℕ) where
+  pub each-next : (r : Row) (rs : List Row) → nextIn s k f (r ∷ rs) ≡ cond (fits s k f r) (To (r .next)) (nextIn s k f rs)
   unfolding nextIn
-  leads s k f t = rw (between-more i e h l, t)
+  each-next r rs = refl
 
-  pub leads-on : (s k f : ℕ) → fits s k f (rowAt i) ≡ false → nextIn s k f (between i e) ≡ nextIn s k f (between (i + 1) e)
-  unfolding nextIn
-  leads-on s k f t = rw (between-more i e h l, t)
+  abbrev pub leading : Search Row Next
+  leading = record { past = nothing; test = fits s k f; said = λ r. To (r .next); along = nextIn s k f; each = each-next }
 
-  -- a search for who may send
-  pub holds : (s : ℕ) → eqb (rowAt i .state) s ≡ true → agencyIn s (between i e) ≡ rowAt i .agency
+module _ (s : ℕ) where
+  pub each-agent : (r : Row) (rs : List Row) → agencyIn s (r ∷ rs) ≡ cond (eqb (r .state) s) (r .agency) (agencyIn s rs)
   unfolding agencyIn
-  holds s t = rw (between-more i e h l, t)
+  each-agent r rs = refl
 
-  pub holds-on : (s : ℕ) → eqb (rowAt i .state) s ≡ false → agencyIn s (between i e) ≡ agencyIn s (between (i + 1) e)
-  unfolding agencyIn
-  holds-on s t = rw (between-more i e h l, t)
+  abbrev pub holding : Search Row Agency
+  holding = record { past = nothing; test = λ r. eqb (r .state) s; said = λ r. r .agency; along = agencyIn s; each = each-agent }
 
 -- no row has nobody's agency
 held : (a : Agency) → Bool
 held a = leb (mark a) 1
 
 all-held : T (every nothing (λ i r. held (r .agency)) 0 allRows)
-unfolding held rowsUpTo placeIn
+unfolding held entries placeIn
 all-held = tt
 
 holder-mark : (a : Agency) → T (held a) → holder (mark a) ≡ a
