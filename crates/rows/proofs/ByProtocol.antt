@@ -1,15 +1,17 @@
 -- Laws of tables by protocol: each protocol's entries lie together, as many as it has from its first on, and a search along them is one of that
 -- protocol's entries. What a new protocol or entry changes is the tables; of the laws only `placed` names the protocols.
 -- Assumes nothing.
-use mathlib.Core.Path.{_≡_, refl, sym, ap, _∙_}
+use mathlib.Core.Path.{_≡_, refl, sym, ap, subst, _∙_}
 use mathlib.Core.Bool.{Bool, true, false, cond}
 use mathlib.Core.List.{List, [], _∷_, _++_, map, append-assoc}
 use Prim.Native.Nat.{ℕ, suc, _+_, _-_, _<_, _≤_}
 use native.Mathlib.Omega.{arith}
 use native.Mathlib.Numerals.{add-one}
+use lib.Dec.{T}
 use lib.ListN.{length, getD, take, drop, length-append}
 use lib.Seq.{drop-cons, split-at, take-append-seam, drop-append-seam}
 use Rattle.base.proofs.ListLaws.{getD-map}
+use Rattle.base.proofs.Table.{every, at}
 use Rattle.rows.specs.declared.Protocol.{Protocol}
 use Rattle.rows.specs.declared.Protocol.the-variants.{Handshake, ChainSync, BlockFetch, TxSubmission, KeepAlive}
 use Rattle.rows.specs.Inside.{placeOf, protocols, entries, table, firstIn, countIn}
@@ -21,6 +23,10 @@ placed ChainSync = (omega arith, refl)
 placed BlockFetch = (omega arith, refl)
 placed TxSubmission = (omega arith, refl)
 placed KeepAlive = (omega arith, refl)
+
+-- what a test says of all protocols it says of each
+pub each-protocol : (test : Protocol → Bool) → T (every Handshake (λ i. test) 0 protocols) → (p : Protocol) → T (test p)
+each-protocol test t p = subst (λ (q : Protocol). T (test q)) (placed p .1) (at Handshake (λ i. test) protocols t (placeOf p) (placed p .0))
 
 -- a number for each protocol
 pub number-of : (f : Protocol → ℕ) (p : Protocol) → getD (map f protocols) (placeOf p) 0 ≡ f p

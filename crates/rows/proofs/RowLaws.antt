@@ -12,13 +12,12 @@ use Rattle.base.proofs.Conds.{by-test, and-left, and-right}
 use Rattle.base.proofs.ListLaws.{getD-map}
 use Rattle.base.proofs.Table.{every, at}
 use Rattle.rows.specs.declared.Protocol.{Protocol}
-use Rattle.rows.specs.declared.Protocol.the-variants.{Handshake, ChainSync, BlockFetch, TxSubmission, KeepAlive}
 use Rattle.rows.specs.declared.Agency.{Agency}
 use Rattle.rows.specs.declared.Agency.the-variants.{Initiator, Responder, Nobody}
 use Rattle.rows.specs.declared.Next.{Next}
 use Rattle.rows.specs.declared.Next.the-variants.{To, None}
 use Rattle.rows.specs.Rows.{State, Done, Row, states, doneOf, rowsOf, rowIn, Thirty, fits, nextIn, nextOf, agencyIn, agencyOf, placeIn}
-use Rattle.rows.proofs.ByProtocol.{Search}
+use Rattle.rows.proofs.ByProtocol.{each-protocol, Search}
 use Rattle.rows.specs.Inside.{entries, allRows, rowCount, rowAt, holder, mark, columns}
 
 -- what stands past the table's end
@@ -107,36 +106,20 @@ module _ (p : Protocol) where
 
 all-alone : (p : Protocol) → T (every nothing (alone p) 0 (rowsOf p))
 unfolding alone placeIn
-all-alone Handshake = tt
-all-alone ChainSync = tt
-all-alone BlockFetch = tt
-all-alone TxSubmission = tt
-all-alone KeepAlive = tt
+all-alone = each-protocol (λ p. every nothing (alone p) 0 (rowsOf p)) tt
 
 all-sound : (p : Protocol) → T (every nothing (sound p) 0 (rowsOf p))
 unfolding sound placeIn agencyIn nextIn reached sameAgency
-all-sound Handshake = tt
-all-sound ChainSync = tt
-all-sound BlockFetch = tt
-all-sound TxSubmission = tt
-all-sound KeepAlive = tt
+all-sound = each-protocol (λ p. every nothing (sound p) 0 (rowsOf p)) tt
 
 all-agents : (p : Protocol) → T (every Done (agents p) 0 (states p))
 unfolding agents placeIn agencyIn sameAgency
-all-agents Handshake = tt
-all-agents ChainSync = tt
-all-agents BlockFetch = tt
-all-agents TxSubmission = tt
-all-agents KeepAlive = tt
+all-agents = each-protocol (λ p. every Done (agents p) 0 (states p)) tt
 
 -- the states are those up to Done
 all-states : (p : Protocol) → length (states p) ≡ doneOf p + 1
 unfolding placeIn
-all-states Handshake = refl
-all-states ChainSync = refl
-all-states BlockFetch = refl
-all-states TxSubmission = refl
-all-states KeepAlive = refl
+all-states p = eqb→eq (length (states p)) (doneOf p + 1) (each-protocol (λ q. eqb (length (states q)) (doneOf q + 1)) tt p)
 
 module _ (p : Protocol) (i : ℕ) (h : i < length (rowsOf p)) where
   abbrev r : Row
@@ -189,12 +172,8 @@ only (r ∷ rs) s k f n e =
     (λ t. later r rs s k f n (only rs s k f n (rw t at e)))
 
 ended : (p : Protocol) → agencyOf p (doneOf p) ≡ Nobody
-unfolding placeIn agencyIn
-ended Handshake = refl
-ended ChainSync = refl
-ended BlockFetch = refl
-ended TxSubmission = refl
-ended KeepAlive = refl
+unfolding placeIn agencyIn sameAgency
+ended p = same-agency (agencyOf p (doneOf p)) Nobody (each-protocol (λ q. sameAgency (agencyOf q (doneOf q)) Nobody) tt p)
 
 going : (p : Protocol) (s : ℕ) → s < doneOf p → agencyOf p s ≡ Nobody → ⊥
 unfolding agents sameAgency
