@@ -2,3 +2,4 @@ pub mod RangeLaws
 pub mod AreaLaws
 pub mod NumberLaws
 pub mod StoreLaws
+pub mod ClosingLaws
