@@ -63,7 +63,7 @@ module _ (i kind : ℕ) (ns : List ℕ) (runs : ℕ) (first second buf : List �
   message = bytesOf i kind ns runs first second
 
   abbrev number : ℕ
-  number = out .built .number
+  number = out .answer .number
 
   -- the four ways that build can go
   data Way : Type 0 where
@@ -86,10 +86,10 @@ module _ (i kind : ℕ) (ns : List ℕ) (runs : ℕ) (first second buf : List �
       (λ t. above (ltb-false i instances t) (rw t))
 
   numbered : (n : ℕ) → out ≡ refused buf n → number ≡ n
-  numbered n e = ap (λ (x : Told). x .built .number) e
+  numbered n e = ap (λ (x : Told). x .answer .number) e
 
   zeroed : (bs : List ℕ) → out ≡ told (record { number = 0; len = length bs }) (sets buf 0 bs) → number ≡ 0
-  zeroed bs e = ap (λ (x : Told). x .built .number) e
+  zeroed bs e = ap (λ (x : Told). x .answer .number) e
 
   apart : (bs : List ℕ) → message ≡ some bs → message ≡ none → ⊥
   apart bs e q = let z : _≡_ {A = ℕ} 0 1 = cc in omega arith
@@ -162,16 +162,16 @@ module _ (i kind : ℕ) (ns : List ℕ) (runs : ℕ) (first second buf : List �
 
   module _ (b : Built) (after : List ℕ) (is : told b after ≡ out) where
     as-was : (n : ℕ) → out ≡ refused buf n → (b .len ≡ 0) × (after ≡ buf)
-    as-was n e = (ap (λ (x : Told). x .built .len) (is ∙ e), ap (λ (x : Told). x .buffer) (is ∙ e))
+    as-was n e = (ap (λ (x : Told). x .answer .len) (is ∙ e), ap (λ (x : Told). x .buffer) (is ∙ e))
 
     number-is : (n : ℕ) → out ≡ refused buf n → b .number ≡ n
-    number-is n e = ap (λ (x : Told). x .built .number) (is ∙ e)
+    number-is n e = ap (λ (x : Told). x .answer .number) (is ∙ e)
 
     untouched-by : Way → (b .number ≡ 0 → ⊥) → (b .len ≡ 0) × (after ≡ buf)
     untouched-by (above h e) z = as-was 10 e
     untouched-by (unmade h m e) z = as-was 15 e
     untouched-by (short h bs m l e) z = as-was 18 e
-    untouched-by (made h bs m l e) z = absurd (z (ap (λ (x : Told). x .built .number) (is ∙ e)))
+    untouched-by (made h bs m l e) z = absurd (z (ap (λ (x : Told). x .answer .number) (is ∙ e)))
 
     stands-by : Way → b .number ≡ 0 → (bs : List ℕ) × (message ≡ some bs) × (b .len ≡ length bs) × (after ≡ bs ++ drop (length bs) buf)
     stands-by (above h e) z = absurd (omega (arith, number-is 10 e))
@@ -181,7 +181,7 @@ module _ (i kind : ℕ) (ns : List ℕ) (runs : ℕ) (first second buf : List �
         let at : 0 + length bs ≡ length bs = omega arith in (
           bs,
           m,
-          ap (λ (x : Told). x .built .len) (is ∙ e),
+          ap (λ (x : Told). x .answer .len) (is ∙ e),
           ap (λ (x : Told). x .buffer) (is ∙ e) ∙ sets-eq bs buf 0 (omega arith) ∙ ap (λ (n : ℕ). bs ++ drop n buf) at,
         )
 
@@ -201,8 +201,8 @@ module _ (i kind : ℕ) (ns : List ℕ) (runs : ℕ) (first second buf : List �
     made-again cs low e room =
         let q : told b after ≡ told (record { number = 0; len = length cs }) (sets buf 0 cs) =
         is ∙ rw (lt-ltb i instances low, e, le-ltb (length buf) (length cs) room) in
-        let n : b .len ≡ length cs = ap (λ (x : Told). x .built .len) q in (
-          ap (λ (x : Told). x .built .number) q,
+        let n : b .len ≡ length cs = ap (λ (x : Told). x .answer .len) q in (
+          ap (λ (x : Told). x .answer .number) q,
           n,
           ap (take (b .len)) (ap (λ (x : Told). x .buffer) q ∙ sets-eq cs buf 0 (omega arith))
               ∙ take-at cs (drop (0 + length cs) buf) (b .len) (sym n),
@@ -223,7 +223,7 @@ untouched i kind ns runs first second buf b after q z = untouched-by i kind ns r
 
 pub once : Once
 once i kind ns runs first second buf b b′ after after′ e e′ =
-    let q = e ∙ sym e′ in (ap (λ (x : Told). x .built) q, ap (λ (x : Told). x .buffer) q)
+    let q = e ∙ sym e′ in (ap (λ (x : Told). x .answer) q, ap (λ (x : Told). x .buffer) q)
 
 pub stands : Stands
 stands i kind ns runs first second buf b after q z = stands-by i kind ns runs first second buf b after q (way i kind ns runs first second buf) z

@@ -16,11 +16,11 @@ use Rattle.build.specs.Theorem.{numbersOf, runsOf, OwnLeast}
 
 -- T2: 10 if the instance is above the last; 15 if kind or parts make no message; 18 if the buffer is shorter than the message; else 0
 pub record Numbers (i kind : ℕ) (ns : List ℕ) (runs : ℕ) (first second buf : List ℕ) : Type 0 where
-  pub n10 : (buildOf i kind ns runs first second buf .built .number ≡ 10) ↔ (instances ≤ i)
-  pub n15 : (buildOf i kind ns runs first second buf .built .number ≡ 15) ↔ ((i < instances) × (bytesOf i kind ns runs first second ≡ none))
-  pub n18 : (buildOf i kind ns runs first second buf .built .number ≡ 18)
+  pub n10 : (buildOf i kind ns runs first second buf .answer .number ≡ 10) ↔ (instances ≤ i)
+  pub n15 : (buildOf i kind ns runs first second buf .answer .number ≡ 15) ↔ ((i < instances) × (bytesOf i kind ns runs first second ≡ none))
+  pub n18 : (buildOf i kind ns runs first second buf .answer .number ≡ 18)
       ↔ ((i < instances) × ((bs : List ℕ) × (bytesOf i kind ns runs first second ≡ some bs) × (length buf < length bs)))
-  pub n0 : (buildOf i kind ns runs first second buf .built .number ≡ 0)
+  pub n0 : (buildOf i kind ns runs first second buf .answer .number ≡ 0)
       ↔ ((i < instances) × ((bs : List ℕ) × (bytesOf i kind ns runs first second ≡ some bs) × (length bs ≤ length buf)))
 
 abbrev pub Exactly : Type 0
@@ -77,7 +77,7 @@ abbrev pub NoMessage : Type 0
 NoMessage =
     (i kind : ℕ) (ns : List ℕ) (runs : ℕ) (first second buf : List ℕ)
     → Bytes first → Bytes second → length first < 2 ^ 64 → length second < 2 ^ 64
-    → (buildOf i kind ns runs first second buf .built .number ≡ 15)
+    → (buildOf i kind ns runs first second buf .answer .number ≡ 15)
     ↔ ((i < instances)
     × ((bs : List ℕ) (xs : List Value) → Bytes bs → Matches (speaks i) bs kind xs → numbersOf xs ≡ ns
     → given runs first second ≡ some (runsOf bs xs) → ⊥))
