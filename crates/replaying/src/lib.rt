@@ -9,7 +9,6 @@ use wire::instances::INSTANCES;
 use wire::instances::Side;
 ghost use Rattle.io.specs.Counts.{Counts};
 
-pub mod answering;
 pub mod calls;
 pub mod reading;
 
