@@ -1,4 +1,4 @@
--- Which number build answers, and what it leaves: `exactly`, `no-message`, `untouched`, `once`, `stands`; what it makes reads back and is made
+-- Which number build answers, and what it leaves: `exactly`, `no-message`, `untouched`, `stands`; what it makes reads back and is made
 -- again of its own parts: `reads-back`, `givable`, `rebuilds`.
 -- Assumes nothing.
 use Prim.Native.Nat.{ℕ, zero, suc, _+_, _-_, _^_, _<_, _≤_}
@@ -21,7 +21,7 @@ use Rattle.build.specs.declared.Built.{Built}
 use Rattle.build.specs.Made.{onSome, encoded}
 use Rattle.build.specs.Building.{Told, told, refused, allGiven, given, bytesOf, handed, buildOf}
 use Rattle.build.specs.Theorem.{numbersOf, runsOf, Slices, OwnLeast}
-use Rattle.build.specs.Numbers.{Exactly, NoMessage, Untouched, Once, Stands, ReadsBack, Givable, Rebuilds}
+use Rattle.build.specs.Numbers.{Exactly, NoMessage, Untouched, Stands, ReadsBack, Givable, Rebuilds}
 use Rattle.build.proofs.Counting.{Found}
 use Rattle.build.proofs.Few.{form-few, runs-counted}
 use Rattle.build.proofs.MadeBytes.{AllBytes, encoded-bytes}
@@ -220,10 +220,6 @@ exactly i kind ns runs first second buf =
 
 pub untouched : Untouched
 untouched i kind ns runs first second buf b after q z = untouched-by i kind ns runs first second buf b after q (way i kind ns runs first second buf) z
-
-pub once : Once
-once i kind ns runs first second buf b b′ after after′ e e′ =
-    let q = e ∙ sym e′ in (ap (λ (x : Told). x .answer) q, ap (λ (x : Told). x .buffer) q)
 
 pub stands : Stands
 stands i kind ns runs first second buf b after q z = stands-by i kind ns runs first second buf b after q (way i kind ns runs first second buf) z

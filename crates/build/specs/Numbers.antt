@@ -32,13 +32,6 @@ Untouched =
     (i kind : ℕ) (ns : List ℕ) (runs : ℕ) (first second buf : List ℕ) (b : Built) (after : List ℕ)
     → told b after ≡ buildOf i kind ns runs first second buf → (b .number ≡ 0 → ⊥) → (b .len ≡ 0) × (after ≡ buf)
 
--- T1: the contract leaves one answer and one buffer
-abbrev pub Once : Type 0
-Once =
-    (i kind : ℕ) (ns : List ℕ) (runs : ℕ) (first second buf : List ℕ) (b b′ : Built) (after after′ : List ℕ)
-    → told b after ≡ buildOf i kind ns runs first second buf → told b′ after′ ≡ buildOf i kind ns runs first second buf
-    → (b ≡ b′) × (after ≡ after′)
-
 -- with 0, the message stands at the buffer's front, and the rest of the buffer is as it was
 abbrev pub Stands : Type 0
 Stands =

@@ -3,3 +3,4 @@ pub mod AreaLaws
 pub mod NumberLaws
 pub mod StoreLaws
 pub mod ClosingLaws
+pub mod Once

@@ -1,4 +1,4 @@
--- The theorems of feed: T1 `once`, T2 and T3 `answers`, T4' `whole-or-cut`, and that the range is kept, `keeps`.
+-- The theorems of feed: T2 and T3 `answers`, T4' `whole-or-cut`, and that the range is kept, `keeps`.
 -- Assumes nothing.
 use mathlib.Core.Path.{_≡_, refl, sym, ap, _∙_, subst}
 use mathlib.Core.Bool.{true, false, true≢false, cond}
@@ -25,15 +25,11 @@ use Rattle.connection.specs.Ranges.{inRange, receiveStoreOk, receives}
 use Rattle.connection.proofs.RangeLaws.{ranged}
 use Rattle.feeding.specs.declared.Admission.the-variants.{Fault}
 use Rattle.feeding.specs.Feeding.{Reception, admitted, fed, used, left, Told, told, refused, given, answered, feedOpen, feedOf}
-use Rattle.feeding.specs.Numbers.{Once, Listens, Comes, When, Leaves, Answers, Keeps, Joins, WholeOrCut}
+use Rattle.feeding.specs.Numbers.{Listens, Comes, When, Leaves, Answers, Keeps, Joins, WholeOrCut}
 use Rattle.feeding.proofs.Bytes.{fed-closed, used-closed, fed-append, used-append, feed-range, feed-closed, feed-open}
 use Rattle.feeding.proofs.Keeping.{kept-given, kept-fed, range-with, proper-fed}
 use Rattle.feeding.proofs.Faults.{Cause, unknown, wrong, overflow, cause, cause-number, eighth-with, eighth-so, Refuses}
 use Rattle.feeding.proofs.Faults.{fault-found, fault-why, fault-leaves, used-all, open-before}
-
--- T1
-pub once : Once
-once c st xs r q e f = e ∙ sym f
 
 -- ---- what a call leaves
 

@@ -22,10 +22,6 @@ use Rattle.connection.specs.Ranges.{receives}
 use Rattle.feeding.specs.declared.Admission.the-variants.{Fault}
 use Rattle.feeding.specs.Feeding.{Reception, admitted, withHeader, fed, Told, told, refused, given, feedOf}
 
--- T1: the contract leaves one outcome
-abbrev pub Once : Type 0
-Once = (c : Connection) (st xs : List ℕ) (r q : Told) → r ≡ feedOf c st xs → q ≡ feedOf c st xs → r ≡ q
-
 -- A byte of the run, reached while the connection is open and no payload under way, makes a header whole; of the held counts there, and of
 -- the header's length and route, P holds.
 pub record Eighth (side : Side) (caps : List ℕ) (s : Reception) (xs : List ℕ) (P : List ℕ → ℕ → Route → Type 0) : Type 0 where

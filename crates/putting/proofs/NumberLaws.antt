@@ -1,4 +1,4 @@
--- Which number put answers, and what a call leaves: `exactly`, `untouched`, `once` and `keeps`. Where the "when" of a number holds, the call is
+-- Which number put answers, and what a call leaves: `exactly`, `untouched` and `keeps`. Where the "when" of a number holds, the call is
 -- refused with it; one walk through the tests finds a "when" that holds.
 -- Assumes nothing.
 use mathlib.Core.Path.{_≡_, refl, sym, ap, subst, _∙_}
@@ -37,7 +37,7 @@ use Rattle.judging.proofs.JudgingLaws.{judged-wrong, judged-read, led, Judges, 
 use Rattle.judging.proofs.Moving.{moved-ranged, moved-shaped}
 use Rattle.putting.specs.declared.Queued.{Queued}
 use Rattle.putting.specs.Putting.{Told, told, refused, earlyOf, judgeOf, longerOf, queued, stored, queue, putOf}
-use Rattle.putting.specs.Numbers.{Unclosed, Allowed, OurTurn, Moves, InOneSegment, Numbers, Exactly, Untouched, Once, Kept, Keeps}
+use Rattle.putting.specs.Numbers.{Unclosed, Allowed, OurTurn, Moves, InOneSegment, Numbers, Exactly, Untouched, Kept, Keeps}
 use Rattle.putting.proofs.PuttingLaws.{judge-early, judge-bytes, no-room, has-room}
 use Rattle.putting.proofs.PuttingLaws.{put-unranged, put-above, put-refused, put-judged}
 
@@ -236,9 +236,6 @@ exactly = all
 
 pub untouched : Untouched
 untouched c store i xs = untouched-by c store i xs (way c store i xs)
-
-pub once : Once
-once c store i xs r r′ after after′ e e′ = let q = e ∙ sym e′ in (ap (λ (t : Told). t .answer) q, ap (λ (t : Told). t .store) q)
 
 -- ---- the range
 

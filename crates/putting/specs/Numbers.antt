@@ -71,12 +71,6 @@ Untouched =
     (c : Connection) (store : List ℕ) (i : ℕ) (xs : List ℕ) (r : Queued) (after : List ℕ) → told r after ≡ putOf c store i xs
     → (r .number ≡ 0 → ⊥) → (r .connection ≡ c) × (after ≡ store)
 
--- T1: the contract leaves one answer, one record and one store
-abbrev pub Once : Type 0
-Once =
-    (c : Connection) (store : List ℕ) (i : ℕ) (xs : List ℕ) (r r′ : Queued) (after after′ : List ℕ)
-    → told r after ≡ putOf c store i xs → told r′ after′ ≡ putOf c store i xs → (r ≡ r′) × (after ≡ after′)
-
 -- in range with its store again, with the same settings
 pub record Kept (c : Connection) (store : List ℕ) (t : Told) : Type 0 where
   pub ranged : sends (t .answer .connection) (length (t .store)) ≡ true

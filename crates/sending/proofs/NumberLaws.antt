@@ -1,4 +1,4 @@
--- Which number next segment answers, and what a call leaves: `exactly`, `untouched`, `once` and `keeps`. Where the "when" of a number holds, it is
+-- Which number next segment answers, and what a call leaves: `exactly`, `untouched` and `keeps`. Where the "when" of a number holds, it is
 -- answered; one walk through the tests finds a "when" that holds.
 -- Assumes nothing.
 use mathlib.Core.Path.{_≡_, refl, sym, ap, _∙_}
@@ -28,7 +28,7 @@ use Rattle.connection.proofs.StoreLaws.{leaves-front}
 use Rattle.connection.proofs.RangeLaws.{ranged, in-range, sends-both}
 use Rattle.sending.specs.declared.Made.{Made}
 use Rattle.sending.specs.NextSegment.{Told, told, refused, much, headed, payloadOf, sentOf, nextOf}
-use Rattle.sending.specs.Numbers.{Unclosed, Numbers, Exactly, Untouched, Once, Keeps}
+use Rattle.sending.specs.Numbers.{Unclosed, Numbers, Exactly, Untouched, Keeps}
 use Rattle.sending.proofs.SendingLaws.{serve-short, serve-all, next-unranged, next-closed, next-served}
 
 -- whoever is chosen is an instance with bytes waiting
@@ -148,9 +148,6 @@ exactly = all
 
 pub untouched : Untouched
 untouched c store time buf = untouched-by c store time buf (way c store time buf)
-
-pub once : Once
-once c store time buf m m′ after after′ e e′ = let q = e ∙ sym e′ in (ap (λ (x : Told). x .answer) q, ap (λ (x : Told). x .buffer) q)
 
 -- ---- the range
 

@@ -39,12 +39,6 @@ Untouched =
     (c : Connection) (store : List ℕ) (time : ℕ) (buf : List ℕ) (m : Made) (after : List ℕ) → told m after ≡ nextOf c store time buf
     → (m .number ≡ 0 → ⊥) → (m .connection ≡ c) × (m .len ≡ 0) × (after ≡ buf)
 
--- T1: the contract leaves one answer, one record and one buffer
-abbrev pub Once : Type 0
-Once =
-    (c : Connection) (store : List ℕ) (time : ℕ) (buf : List ℕ) (m m′ : Made) (after after′ : List ℕ)
-    → told m after ≡ nextOf c store time buf → told m′ after′ ≡ nextOf c store time buf → (m ≡ m′) × (after ≡ after′)
-
 -- a record in range stays in range (for T10)
 abbrev pub Keeps : Type 0
 Keeps =

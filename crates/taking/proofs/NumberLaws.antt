@@ -1,4 +1,4 @@
--- Which number take answers and what it leaves: `exactly`, `leaves`, `hands-out`, `once`, `keeps`. One walk through the tests finds a "when" that
+-- Which number take answers and what it leaves: `exactly`, `leaves`, `hands-out`, `keeps`. One walk through the tests finds a "when" that
 -- holds; each "when" makes the call go one of three ways; and the ways say what is answered and left.
 -- Assumes nothing.
 use mathlib.Core.Path.{_≡_, refl, sym, ap, subst, _∙_}
@@ -37,7 +37,7 @@ use Rattle.judging.specs.Judging.{stateOf, ours, barred, leadsTo, unjudged, byR
 use Rattle.judging.proofs.JudgingLaws.{judged-wrong, judged-read, led, Judges, not-read, not-led, message, judges}
 use Rattle.judging.proofs.Moving.{moved-ranged, moved-shaped}
 use Rattle.taking.specs.Taking.{Told, told, earlyOf, byVerdict, judgeOf, refused, undone, freedOf, handed, hand, takeOf}
-use Rattle.taking.specs.Numbers.{Admitted, Awaited, Spells, When, out-of-range, no-instance, no-accept, finished, after-done, our-turn, waiting, closed, bytes-bad, no-message, no-row, no-room, done, Exactly, Leaves, LeavesAll, HandsOut, Once, Keeps}
+use Rattle.taking.specs.Numbers.{Admitted, Awaited, Spells, When, out-of-range, no-instance, no-accept, finished, after-done, our-turn, waiting, closed, bytes-bad, no-message, no-row, no-room, done, Exactly, Leaves, LeavesAll, HandsOut, Keeps}
 use Rattle.taking.proofs.TakingLaws.{first-long, judge-early, judge-bytes, hand-short, hand-made, take-range, take-instance, take-refused, take-handed}
 
 -- a refusal has its number, fault or not
@@ -229,9 +229,6 @@ exactly c store i buf n =
     let (k, w) = when c store i buf in
     let is : (n : ℕ) → When c store i buf n → takeOf c store i buf .answer .number ≡ n = λ n v. answered c store i buf (goes c store i buf v) in
     exactly-when (When c store i buf) (is k w) w (is n)
-
-pub once : Once
-once c store i buf t t′ after after′ e e′ = let q = e ∙ sym e′ in (ap (λ (x : Told). x .answer) q, ap (λ (x : Told). x .buffer) q)
 
 pub leaves : LeavesAll
 leaves c store i buf = let (n, w) = way c store i buf in leaves-by c store i buf w
