@@ -80,13 +80,15 @@ module _ (c : Connection) (store : List ℕ) (i : ℕ) (xs : List ℕ) where
         (putting.told (record { number = 0; connection = putting.queued c i (length xs) (led (length xs) m to) }) (putting.stored c store i xs))
 
   pub put-way : sends c (length store) ≡ true → Puts (putting.putOf c store i xs)
-  put-way r = of (putting-laws.way c store i xs)
+  put-way r = of (putting-laws.way c store i xs .1)
     where
-      of : putting-laws.Way c store i xs → Puts (putting.putOf c store i xs)
-      of (putting-laws.stays n z w e) =
-          subst Puts e (refuses n z (λ q. true≢false (sym r ∙ subst (putting-laws.When c store i xs) q w)))
-      of (putting-laws.gone m to t s x l f e) =
-          subst Puts e (queues m to (t .0 .0 .0 .1) (t .0 .0 .1) (t .0 .1) (t .1) (reads-forms (speaks i) xs m .1 s) x l f)
+      of : {n : ℕ} → putting-laws.Way c store i xs n → Puts (putting.putOf c store i xs)
+      of (putting-laws.unfit q e) = absurd (true≢false (sym r ∙ q))
+      of (putting-laws.stays n z k e) = subst Puts e (refuses n z k)
+      of (putting-laws.gone m to v f e) =
+          let t = v .moves .turn in
+          let reads = reads-forms (speaks i) xs m .1 (v .moves .says) in
+          subst Puts e (queues m to (t .0 .0 .0 .1) (t .0 .0 .1) (t .0 .1) (t .1) reads (v .moves .row) (v .short) f)
 
 -- ---- next segment
 
