@@ -12,7 +12,7 @@ use lib.ListN.{length, take, drop}
 use lib.Seq.{sets, sets-eq, take-at, take-all}
 use borrow.Author.Tests.{lt-ltb, le-ltb, ltb-true, ltb-false}
 use Rattle.base.specs.Numbers.{Bytes}
-use Rattle.base.proofs.Conds.{by-test, cond-cases}
+use Rattle.base.proofs.Conds.{by-test, cond-cases, exactly-when}
 use Rattle.ring.specs.Ring.{run}
 use Rattle.wire.specs.Instances.{instances}
 use Rattle.rows.specs.Spoken.{speaks}
@@ -21,7 +21,7 @@ use Rattle.build.specs.declared.Built.{Built}
 use Rattle.build.specs.Made.{onSome, encoded}
 use Rattle.build.specs.Building.{Told, told, refused, allGiven, given, bytesOf, handed, buildOf}
 use Rattle.build.specs.Theorem.{numbersOf, runsOf, Slices, OwnLeast}
-use Rattle.build.specs.Numbers.{Exactly, NoMessage, Untouched, Stands, ReadsBack, Givable, Rebuilds}
+use Rattle.build.specs.Numbers.{When, no-instance, makes-none, no-room, done, Exactly, NoMessage, Untouched, Stands, ReadsBack, Givable, Rebuilds}
 use Rattle.build.proofs.Counting.{Found}
 use Rattle.build.proofs.Few.{form-few, runs-counted}
 use Rattle.build.proofs.MadeBytes.{AllBytes, encoded-bytes}
@@ -94,32 +94,19 @@ module _ (i kind : ℕ) (ns : List ℕ) (runs : ℕ) (first second buf : List �
   apart : (bs : List ℕ) → message ≡ some bs → message ≡ none → ⊥
   apart bs e q = let z : _≡_ {A = ℕ} 0 1 = cc in omega arith
 
-  same : (bs cs : List ℕ) → message ≡ some bs → message ≡ some cs → length bs ≡ length cs
-  same bs cs e q = let z : bs ≡ cs = cc in ap length z
+  -- where the "when" of a number holds, it is answered; and one holds
+  answered : {n : ℕ} → When i kind ns runs first second buf n → number ≡ n
+  unfolding buildOf
+  answered (no-instance h) = numbered 10 (rw (le-ltb i instances h))
+  answered (makes-none h e) = numbered 15 (rw (lt-ltb i instances h, e))
+  answered (no-room {bs = bs} h e l) = numbered 18 (rw (lt-ltb i instances h, e, lt-ltb (length buf) (length bs) l))
+  answered (done {bs = bs} h e l) = zeroed bs (rw (lt-ltb i instances h, e, le-ltb (length buf) (length bs) l))
 
-  n10 : Way → (number ≡ 10) ↔ (instances ≤ i)
-  n10 (above h e) = (λ q. h, λ q. numbered 10 e)
-  n10 (unmade h m e) = (λ q. absurd (omega (arith, numbered 15 e)), λ q. absurd (omega arith))
-  n10 (short h bs m l e) = (λ q. absurd (omega (arith, numbered 18 e)), λ q. absurd (omega arith))
-  n10 (made h bs m l e) = (λ q. absurd (omega (arith, zeroed bs e)), λ q. absurd (omega arith))
-
-  n15 : Way → (number ≡ 15) ↔ ((i < instances) × (message ≡ none))
-  n15 (above h e) = (λ q. absurd (omega (arith, numbered 10 e)), λ q. absurd (omega (arith, q .0)))
-  n15 (unmade h m e) = (λ q. (h, m), λ q. numbered 15 e)
-  n15 (short h bs m l e) = (λ q. absurd (omega (arith, numbered 18 e)), λ q. absurd (apart bs m (q .1)))
-  n15 (made h bs m l e) = (λ q. absurd (omega (arith, zeroed bs e)), λ q. absurd (apart bs m (q .1)))
-
-  n18 : Way → (number ≡ 18) ↔ ((i < instances) × ((bs : List ℕ) × (message ≡ some bs) × (length buf < length bs)))
-  n18 (above h e) = (λ q. absurd (omega (arith, numbered 10 e)), λ q. absurd (omega (arith, q .0)))
-  n18 (unmade h m e) = (λ q. absurd (omega (arith, numbered 15 e)), λ (_, (bs, w, _)). absurd (apart bs w m))
-  n18 (short h bs m l e) = (λ q. (h, (bs, m, l)), λ q. numbered 18 e)
-  n18 (made h bs m l e) = (λ q. absurd (omega (arith, zeroed bs e)), λ (_, (cs, w, k)). absurd (omega (arith, same bs cs m w)))
-
-  n0 : Way → (number ≡ 0) ↔ ((i < instances) × ((bs : List ℕ) × (message ≡ some bs) × (length bs ≤ length buf)))
-  n0 (above h e) = (λ q. absurd (omega (arith, numbered 10 e)), λ q. absurd (omega (arith, q .0)))
-  n0 (unmade h m e) = (λ q. absurd (omega (arith, numbered 15 e)), λ (_, (bs, w, _)). absurd (apart bs w m))
-  n0 (short h bs m l e) = (λ q. absurd (omega (arith, numbered 18 e)), λ (_, (cs, w, k)). absurd (omega (arith, same bs cs m w)))
-  n0 (made h bs m l e) = (λ q. (h, (bs, m, l)), λ q. zeroed bs e)
+  when : Way → (n : ℕ) × When i kind ns runs first second buf n
+  when (above h e) = (10, no-instance h)
+  when (unmade h m e) = (15, makes-none h m)
+  when (short h bs m l e) = (18, no-room h m l)
+  when (made h bs m l e) = (0, done h m l)
 
   -- the bytes are a message that says these parts, with own heads as short as can be
   abbrev Back : List ℕ → Option (List (List ℕ)) → Type 0
@@ -209,14 +196,11 @@ module _ (i kind : ℕ) (ns : List ℕ) (runs : ℕ) (first second buf : List �
         )
 
 pub exactly : Exactly
-exactly i kind ns runs first second buf =
-    let w = way i kind ns runs first second buf in
-    record {
-      n10 = n10 i kind ns runs first second buf w;
-      n15 = n15 i kind ns runs first second buf w;
-      n18 = n18 i kind ns runs first second buf w;
-      n0 = n0 i kind ns runs first second buf w;
-    }
+exactly i kind ns runs first second buf n =
+    let (k, w) = when i kind ns runs first second buf (way i kind ns runs first second buf) in
+    let is : (n : ℕ) → When i kind ns runs first second buf n → buildOf i kind ns runs first second buf .answer .number ≡ n =
+    λ n v. answered i kind ns runs first second buf v in
+    exactly-when (When i kind ns runs first second buf) (is k w) w (is n)
 
 pub untouched : Untouched
 untouched i kind ns runs first second buf b after q z = untouched-by i kind ns runs first second buf b after q (way i kind ns runs first second buf) z

@@ -14,17 +14,19 @@ use Rattle.build.specs.declared.Built.{Built}
 use Rattle.build.specs.Building.{told, given, bytesOf, buildOf}
 use Rattle.build.specs.Theorem.{numbersOf, runsOf, OwnLeast}
 
--- T2: 10 if the instance is above the last; 15 if kind or parts make no message; 18 if the buffer is shorter than the message; else 0
-pub record Numbers (i kind : ℕ) (ns : List ℕ) (runs : ℕ) (first second buf : List ℕ) : Type 0 where
-  pub n10 : (buildOf i kind ns runs first second buf .answer .number ≡ 10) ↔ (instances ≤ i)
-  pub n15 : (buildOf i kind ns runs first second buf .answer .number ≡ 15) ↔ ((i < instances) × (bytesOf i kind ns runs first second ≡ none))
-  pub n18 : (buildOf i kind ns runs first second buf .answer .number ≡ 18)
-      ↔ ((i < instances) × ((bs : List ℕ) × (bytesOf i kind ns runs first second ≡ some bs) × (length buf < length bs)))
-  pub n0 : (buildOf i kind ns runs first second buf .answer .number ≡ 0)
-      ↔ ((i < instances) × ((bs : List ℕ) × (bytesOf i kind ns runs first second ≡ some bs) × (length bs ≤ length buf)))
+-- T2: when each number is answered, in document 01's order
+pub data When (i kind : ℕ) (ns : List ℕ) (runs : ℕ) (first second buf : List ℕ) : ℕ → Type 0 where
+  no-instance : instances ≤ i → When i kind ns runs first second buf 10
+  -- kind or parts make no message
+  makes-none : i < instances → bytesOf i kind ns runs first second ≡ none → When i kind ns runs first second buf 15
+  no-room : {bs : List ℕ} → i < instances → bytesOf i kind ns runs first second ≡ some bs → length buf < length bs
+      → When i kind ns runs first second buf 18
+  done : {bs : List ℕ} → i < instances → bytesOf i kind ns runs first second ≡ some bs → length bs ≤ length buf
+      → When i kind ns runs first second buf 0
 
 abbrev pub Exactly : Type 0
-Exactly = (i kind : ℕ) (ns : List ℕ) (runs : ℕ) (first second buf : List ℕ) → Numbers i kind ns runs first second buf
+Exactly = (i kind : ℕ) (ns : List ℕ) (runs : ℕ) (first second buf : List ℕ) (n : ℕ)
+    → (buildOf i kind ns runs first second buf .answer .number ≡ n) ↔ When i kind ns runs first second buf n
 
 -- T3: with any number but 0, the buffer is as it was
 abbrev pub Untouched : Type 0

@@ -110,6 +110,5 @@ module _ (c : Connection) (store : List ℕ) (time : ℕ) (buf : List ℕ) where
   next-way r = of (sending-laws.way c store time buf)
     where
       of : sending-laws.Way c store time buf → Nexts (sending.nextOf c store time buf)
-      of (sending-laws.stays n z w e) =
-          subst Nexts e (refuses n z (λ q. true≢false (sym r ∙ subst (sending-laws.When c store time buf) q w)))
+      of (sending-laws.stays n z k w e) = subst Nexts e (refuses n z (λ q. true≢false (sym r ∙ k q)))
       of (sending-laws.gone i u who l e) = subst Nexts e (serves i who l)
