@@ -1,6 +1,7 @@
 // What bench/front.c calls: the hot paths of a connection, each run many times, since a record does not cross to C.
 //
 // Nothing is promised of what comes back; bench/front.c holds it, and the lent memory, to what plain C comes to.
+use base::smaller;
 use connection::Connection;
 use connection::Receiving;
 use connection::Sending;
@@ -12,15 +13,15 @@ use connection::parts::changed;
 use connection::parts::with_receiving;
 use connection::parts::with_sending;
 use connection::parts::with_talk;
-use connection::range::done;
 use feeding::feed;
 use putting::put;
+use rows::spoken::done;
 use sending::Made;
 use sending::next_segment;
 use taking::take;
+use wire::instances::HANDSHAKE;
 use wire::instances::INSTANCES;
 use wire::instances::Side;
-ghost use Prim.Native.Nat.{_≤_};
 
 // Every capacity, and the largest payload limit.
 const CAPACITY: u64 = 131072;
@@ -49,7 +50,7 @@ fn talking(side: Side, limit: u64, receive: &[u8], send: &[u8]) -> Connection {
     };
     let opened = open(settings, receive, send);
     let mut states = [0; INSTANCES];
-    states[0] = done(0);
+    states[HANDSHAKE] = done(HANDSHAKE);
     states[FETCHES] = STREAMING;
     states[SERVES] = STREAMING;
     let talk = Talk {
@@ -58,13 +59,6 @@ fn talking(side: Side, limit: u64, receive: &[u8], send: &[u8]) -> Connection {
     };
     let c = opened.connection;
     with_talk(c, talk)
-}
-
-// The smaller of two numbers.
-fn smaller(a: usize, b: usize) -> usize
-    ensures { λ r. ⌜ (r ≤ a) × (r ≤ b) ⌝ }
-{
-    if a < b { a } else { b }
 }
 
 // The input fed in runs of `cut` bytes.

@@ -20,7 +20,7 @@ use Rattle.messages.specs.declared.forms.Listed.{Listed}
 use Rattle.messages.specs.declared.forms.Listed.the-variants.{Row, Unknown}
 use Rattle.messages.specs.Inside.{formAt, Finds}
 use Rattle.messages.specs.Matching.{array}
-use Rattle.messages.proofs.FormLaws.{at-most-three}
+use Rattle.messages.proofs.FormLaws.{at-most}
 use Rattle.build.specs.declared.parts.Plan.{Plan}
 use Rattle.build.specs.Made.{onSome, made, encoded}
 use Rattle.build.specs.Building.{Told, told, allGiven, given, bytesOf, handed, buildOf}
@@ -128,4 +128,4 @@ module _ (instance kind : ℕ) (ns : List ℕ) (runs : ℕ) (first second buf : 
           ∙ sym
           (rw (lt-ltb instance instances low, g, ← speaks-p, row-found .1)
           (ap (handed buf) (plan-whole ns runs first second kind (formAt row .fields) (at-most-two runs first second g)
-          (at-most-three row (row-found .0)))))
+          (at-most row (row-found .0)))))

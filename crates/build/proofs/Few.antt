@@ -11,7 +11,7 @@ use lib.ListN.{length}
 use borrow.Author.Tests.{eqb-true}
 use Rattle.base.proofs.Conds.{cond-cases, and-left, and-right}
 use Rattle.rows.specs.declared.Protocol.{Protocol}
-use Rattle.rows.specs.declared.Protocol.the-variants.{Handshake, ChainSync, BlockFetch, TxSubmission, KeepAlive}
+use Rattle.rows.proofs.ByProtocol.{each-protocol}
 use Rattle.item.proofs.Derivative.{nothing}
 use Rattle.messages.specs.declared.forms.Field.{Field}
 use Rattle.messages.specs.Forms.{Form, forms, formIn, formOf}
@@ -62,11 +62,7 @@ few-in k (f ∷ l) {fs} t =
 
 each-few : (p : Protocol) → T (all-few (forms p))
 unfolding all-few few runsIn
-each-few Handshake = tt
-each-few ChainSync = tt
-each-few BlockFetch = tt
-each-few TxSubmission = tt
-each-few KeepAlive = tt
+each-few = each-protocol (λ p. all-few (forms p)) tt
 
 pub form-few : (p : Protocol) (kind : ℕ) {fs : List Field} → formOf p kind ≡ some fs → Few kind fs
 form-few p kind e = few-in kind (forms p) (each-few p) e

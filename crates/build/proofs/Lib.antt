@@ -12,3 +12,4 @@ pub mod LayoutLaws
 pub mod PlanLaws
 pub mod BuildLaws
 pub mod NumberLaws
+pub mod Once

@@ -1,4 +1,4 @@
--- Which number build answers, and what it leaves: `exactly`, `no-message`, `untouched`, `once`, `stands`; what it makes reads back and is made
+-- Which number build answers, and what it leaves: `exactly`, `no-message`, `untouched`, `stands`; what it makes reads back and is made
 -- again of its own parts: `reads-back`, `givable`, `rebuilds`.
 -- Assumes nothing.
 use Prim.Native.Nat.{ℕ, zero, suc, _+_, _-_, _^_, _<_, _≤_}
@@ -12,7 +12,7 @@ use lib.ListN.{length, take, drop}
 use lib.Seq.{sets, sets-eq, take-at, take-all}
 use borrow.Author.Tests.{lt-ltb, le-ltb, ltb-true, ltb-false}
 use Rattle.base.specs.Numbers.{Bytes}
-use Rattle.base.proofs.Conds.{by-test, cond-cases}
+use Rattle.base.proofs.Conds.{by-test, cond-cases, exactly-when}
 use Rattle.ring.specs.Ring.{run}
 use Rattle.wire.specs.Instances.{instances}
 use Rattle.rows.specs.Spoken.{speaks}
@@ -21,7 +21,7 @@ use Rattle.build.specs.declared.Built.{Built}
 use Rattle.build.specs.Made.{onSome, encoded}
 use Rattle.build.specs.Building.{Told, told, refused, allGiven, given, bytesOf, handed, buildOf}
 use Rattle.build.specs.Theorem.{numbersOf, runsOf, Slices, OwnLeast}
-use Rattle.build.specs.Numbers.{Exactly, NoMessage, Untouched, Once, Stands, ReadsBack, Givable, Rebuilds}
+use Rattle.build.specs.Numbers.{When, no-instance, makes-none, no-room, done, Exactly, NoMessage, Untouched, Stands, ReadsBack, Givable, Rebuilds}
 use Rattle.build.proofs.Counting.{Found}
 use Rattle.build.proofs.Few.{form-few, runs-counted}
 use Rattle.build.proofs.MadeBytes.{AllBytes, encoded-bytes}
@@ -63,7 +63,7 @@ module _ (i kind : ℕ) (ns : List ℕ) (runs : ℕ) (first second buf : List �
   message = bytesOf i kind ns runs first second
 
   abbrev number : ℕ
-  number = out .built .number
+  number = out .answer .number
 
   -- the four ways that build can go
   data Way : Type 0 where
@@ -86,40 +86,27 @@ module _ (i kind : ℕ) (ns : List ℕ) (runs : ℕ) (first second buf : List �
       (λ t. above (ltb-false i instances t) (rw t))
 
   numbered : (n : ℕ) → out ≡ refused buf n → number ≡ n
-  numbered n e = ap (λ (x : Told). x .built .number) e
+  numbered n e = ap (λ (x : Told). x .answer .number) e
 
   zeroed : (bs : List ℕ) → out ≡ told (record { number = 0; len = length bs }) (sets buf 0 bs) → number ≡ 0
-  zeroed bs e = ap (λ (x : Told). x .built .number) e
+  zeroed bs e = ap (λ (x : Told). x .answer .number) e
 
   apart : (bs : List ℕ) → message ≡ some bs → message ≡ none → ⊥
   apart bs e q = let z : _≡_ {A = ℕ} 0 1 = cc in omega arith
 
-  same : (bs cs : List ℕ) → message ≡ some bs → message ≡ some cs → length bs ≡ length cs
-  same bs cs e q = let z : bs ≡ cs = cc in ap length z
+  -- where the "when" of a number holds, it is answered; and one holds
+  answered : {n : ℕ} → When i kind ns runs first second buf n → number ≡ n
+  unfolding buildOf
+  answered (no-instance h) = numbered 10 (rw (le-ltb i instances h))
+  answered (makes-none h e) = numbered 15 (rw (lt-ltb i instances h, e))
+  answered (no-room {bs = bs} h e l) = numbered 18 (rw (lt-ltb i instances h, e, lt-ltb (length buf) (length bs) l))
+  answered (done {bs = bs} h e l) = zeroed bs (rw (lt-ltb i instances h, e, le-ltb (length buf) (length bs) l))
 
-  n10 : Way → (number ≡ 10) ↔ (instances ≤ i)
-  n10 (above h e) = (λ q. h, λ q. numbered 10 e)
-  n10 (unmade h m e) = (λ q. absurd (omega (arith, numbered 15 e)), λ q. absurd (omega arith))
-  n10 (short h bs m l e) = (λ q. absurd (omega (arith, numbered 18 e)), λ q. absurd (omega arith))
-  n10 (made h bs m l e) = (λ q. absurd (omega (arith, zeroed bs e)), λ q. absurd (omega arith))
-
-  n15 : Way → (number ≡ 15) ↔ ((i < instances) × (message ≡ none))
-  n15 (above h e) = (λ q. absurd (omega (arith, numbered 10 e)), λ q. absurd (omega (arith, q .0)))
-  n15 (unmade h m e) = (λ q. (h, m), λ q. numbered 15 e)
-  n15 (short h bs m l e) = (λ q. absurd (omega (arith, numbered 18 e)), λ q. absurd (apart bs m (q .1)))
-  n15 (made h bs m l e) = (λ q. absurd (omega (arith, zeroed bs e)), λ q. absurd (apart bs m (q .1)))
-
-  n18 : Way → (number ≡ 18) ↔ ((i < instances) × ((bs : List ℕ) × (message ≡ some bs) × (length buf < length bs)))
-  n18 (above h e) = (λ q. absurd (omega (arith, numbered 10 e)), λ q. absurd (omega (arith, q .0)))
-  n18 (unmade h m e) = (λ q. absurd (omega (arith, numbered 15 e)), λ (_, (bs, w, _)). absurd (apart bs w m))
-  n18 (short h bs m l e) = (λ q. (h, (bs, m, l)), λ q. numbered 18 e)
-  n18 (made h bs m l e) = (λ q. absurd (omega (arith, zeroed bs e)), λ (_, (cs, w, k)). absurd (omega (arith, same bs cs m w)))
-
-  n0 : Way → (number ≡ 0) ↔ ((i < instances) × ((bs : List ℕ) × (message ≡ some bs) × (length bs ≤ length buf)))
-  n0 (above h e) = (λ q. absurd (omega (arith, numbered 10 e)), λ q. absurd (omega (arith, q .0)))
-  n0 (unmade h m e) = (λ q. absurd (omega (arith, numbered 15 e)), λ (_, (bs, w, _)). absurd (apart bs w m))
-  n0 (short h bs m l e) = (λ q. absurd (omega (arith, numbered 18 e)), λ (_, (cs, w, k)). absurd (omega (arith, same bs cs m w)))
-  n0 (made h bs m l e) = (λ q. (h, (bs, m, l)), λ q. zeroed bs e)
+  when : Way → (n : ℕ) × When i kind ns runs first second buf n
+  when (above h e) = (10, no-instance h)
+  when (unmade h m e) = (15, makes-none h m)
+  when (short h bs m l e) = (18, no-room h m l)
+  when (made h bs m l e) = (0, done h m l)
 
   -- the bytes are a message that says these parts, with own heads as short as can be
   abbrev Back : List ℕ → Option (List (List ℕ)) → Type 0
@@ -162,16 +149,16 @@ module _ (i kind : ℕ) (ns : List ℕ) (runs : ℕ) (first second buf : List �
 
   module _ (b : Built) (after : List ℕ) (is : told b after ≡ out) where
     as-was : (n : ℕ) → out ≡ refused buf n → (b .len ≡ 0) × (after ≡ buf)
-    as-was n e = (ap (λ (x : Told). x .built .len) (is ∙ e), ap (λ (x : Told). x .buffer) (is ∙ e))
+    as-was n e = (ap (λ (x : Told). x .answer .len) (is ∙ e), ap (λ (x : Told). x .buffer) (is ∙ e))
 
     number-is : (n : ℕ) → out ≡ refused buf n → b .number ≡ n
-    number-is n e = ap (λ (x : Told). x .built .number) (is ∙ e)
+    number-is n e = ap (λ (x : Told). x .answer .number) (is ∙ e)
 
     untouched-by : Way → (b .number ≡ 0 → ⊥) → (b .len ≡ 0) × (after ≡ buf)
     untouched-by (above h e) z = as-was 10 e
     untouched-by (unmade h m e) z = as-was 15 e
     untouched-by (short h bs m l e) z = as-was 18 e
-    untouched-by (made h bs m l e) z = absurd (z (ap (λ (x : Told). x .built .number) (is ∙ e)))
+    untouched-by (made h bs m l e) z = absurd (z (ap (λ (x : Told). x .answer .number) (is ∙ e)))
 
     stands-by : Way → b .number ≡ 0 → (bs : List ℕ) × (message ≡ some bs) × (b .len ≡ length bs) × (after ≡ bs ++ drop (length bs) buf)
     stands-by (above h e) z = absurd (omega (arith, number-is 10 e))
@@ -181,7 +168,7 @@ module _ (i kind : ℕ) (ns : List ℕ) (runs : ℕ) (first second buf : List �
         let at : 0 + length bs ≡ length bs = omega arith in (
           bs,
           m,
-          ap (λ (x : Told). x .built .len) (is ∙ e),
+          ap (λ (x : Told). x .answer .len) (is ∙ e),
           ap (λ (x : Told). x .buffer) (is ∙ e) ∙ sets-eq bs buf 0 (omega arith) ∙ ap (λ (n : ℕ). bs ++ drop n buf) at,
         )
 
@@ -201,29 +188,22 @@ module _ (i kind : ℕ) (ns : List ℕ) (runs : ℕ) (first second buf : List �
     made-again cs low e room =
         let q : told b after ≡ told (record { number = 0; len = length cs }) (sets buf 0 cs) =
         is ∙ rw (lt-ltb i instances low, e, le-ltb (length buf) (length cs) room) in
-        let n : b .len ≡ length cs = ap (λ (x : Told). x .built .len) q in (
-          ap (λ (x : Told). x .built .number) q,
+        let n : b .len ≡ length cs = ap (λ (x : Told). x .answer .len) q in (
+          ap (λ (x : Told). x .answer .number) q,
           n,
           ap (take (b .len)) (ap (λ (x : Told). x .buffer) q ∙ sets-eq cs buf 0 (omega arith))
               ∙ take-at cs (drop (0 + length cs) buf) (b .len) (sym n),
         )
 
 pub exactly : Exactly
-exactly i kind ns runs first second buf =
-    let w = way i kind ns runs first second buf in
-    record {
-      n10 = n10 i kind ns runs first second buf w;
-      n15 = n15 i kind ns runs first second buf w;
-      n18 = n18 i kind ns runs first second buf w;
-      n0 = n0 i kind ns runs first second buf w;
-    }
+exactly i kind ns runs first second buf n =
+    let (k, w) = when i kind ns runs first second buf (way i kind ns runs first second buf) in
+    let is : (n : ℕ) → When i kind ns runs first second buf n → buildOf i kind ns runs first second buf .answer .number ≡ n =
+    λ n v. answered i kind ns runs first second buf v in
+    exactly-when (When i kind ns runs first second buf) (is k w) w (is n)
 
 pub untouched : Untouched
 untouched i kind ns runs first second buf b after q z = untouched-by i kind ns runs first second buf b after q (way i kind ns runs first second buf) z
-
-pub once : Once
-once i kind ns runs first second buf b b′ after after′ e e′ =
-    let q = e ∙ sym e′ in (ap (λ (x : Told). x .built) q, ap (λ (x : Told). x .buffer) q)
 
 pub stands : Stands
 stands i kind ns runs first second buf b after q z = stands-by i kind ns runs first second buf b after q (way i kind ns runs first second buf) z

@@ -8,23 +8,21 @@ use mathlib.Core.Option.{Option, none, some}
 use native.Mathlib.Omega.{arith}
 use native.Mathlib.Numerals.{add-one}
 use lib.Dec.{eqb, ltb}
-use lib.ListN.{length, getD, set, drop, length-append, length-drop}
+use lib.ListN.{length, getD, set, drop}
 use lib.Seq.{drop-cons, drop-length}
 use borrow.Author.Tests.{eq-eqb, ne-eqb}
 use Rattle.ring.specs.Ring.{around}
 use Rattle.ring.proofs.Around.{around-all}
 use Rattle.head.proofs.ReadLaws.{definite-within}
-use Rattle.item.specs.Grammar.{One, Reads, one}
-use Rattle.item.proofs.Local.{Cuts, cuts}
 use Rattle.messages.specs.declared.forms.Field.{Field}
 use Rattle.messages.specs.declared.forms.Field.the-variants as field
 use Rattle.messages.specs.declared.elements.Number.{Number}
 use Rattle.messages.specs.declared.elements.Number.the-variants as number
 use Rattle.messages.specs.declared.elements.End.{End}
 use Rattle.messages.specs.declared.elements.End.the-variants.{At, Nowhere}
-use Rattle.messages.specs.Matching.{ItemAt, versions, inMessage, inList}
+use Rattle.messages.specs.Matching.{versions, inMessage, inList}
 use Rattle.messages.specs.Reading.{onEnd, onNumber, itemEnd, pairEnd, versionAt}
-use Rattle.messages.proofs.ElementLaws.{Numbers, end-cases, number-cases, item-sound, pair-sound, version-sound, number-item}
+use Rattle.messages.proofs.ElementLaws.{Numbers, end-cases, number-cases, item-sound, pair-sound, version-sound, number-item, ahead}
 use Rattle.messages.proofs.Steps.{number-then, number-not, end-then, end-not, key-small}
 use Rattle.build.specs.declared.parts.Argument.{Argument}
 use Rattle.build.specs.declared.parts.Argument.the-variants.{Is, Wrong}
@@ -70,20 +68,10 @@ module _ (run : List ℕ) {e : End} (here : e ≡ itemEnd (around run 0 (length 
 
 -- ---- an element has one byte at least
 
-some-byte : {d : ℕ} {bs cs : List ℕ} → Reads d One bs cs → 0 < length bs
-some-byte (one p g) = omega arith
-
-item-longer : (bs : List ℕ) {d p q : ℕ} → ItemAt bs d p q → p < q
-item-longer bs {d} {p} {q} s = of (cuts (s .reads))
-  where
-    of : Cuts d One (drop p bs) (drop q bs) → p < q
-    of (a, e, r) =
-        omega (arith, some-byte r, ap length e ∙ length-append a (drop q bs), length-drop p bs, length-drop q bs, s .inside, s .forward)
-
 next-on : (e : Element) (run : List ℕ) (left p : ℕ) → p ≤ length run → Numbers (λ l q. (p < q) × (q ≤ length run)) (nextOf e run left p)
 next-on element.Item run left p h =
     end-cases (Numbers (λ l q. (p < q) × (q ≤ length run))) (λ q. number.Is 0 q) (itemEnd run inList p) (item-sound run inList p h) tt
-    (λ q i. (item-longer run i, i .inside))
+    (λ q i. (ahead run i, i .inside))
 next-on element.Pair run left p h =
     end-cases (Numbers (λ l q. (p < q) × (q ≤ length run))) (λ q. number.Is 0 q) (pairEnd run p) (pair-sound run p) tt
     (λ q (a, o, (b, i, (v, u, l))).

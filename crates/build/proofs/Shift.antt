@@ -7,8 +7,8 @@ use native.Mathlib.Omega.{arith}
 use lib.ListN.{length, drop, length-append}
 use lib.Seq.{drop-append-add, drop-append-le, drop-append-seam}
 use Rattle.head.specs.Read.{headAt}
-use Rattle.head.specs.declared.read.Head.the-variants.{Definite, Short}
-use Rattle.head.proofs.ReadLaws.{moved, head-longer, head-moved}
+use Rattle.head.specs.declared.read.Head.the-variants.{Definite}
+use Rattle.head.proofs.ReadLaws.{moved, cut-short, head-longer, head-moved}
 use Rattle.item.specs.Grammar.{Frame, Reads}
 use Rattle.item.proofs.Local.{longer}
 use Rattle.messages.specs.Matching.{Stands, PairsAt, no-pair, pair, VersionsAt, no-version, version}
@@ -22,10 +22,7 @@ module _ (xs bs ys : List ℕ) where
   head-shift p {m} {v} {q} e =
       head-moved whole (length xs) (omega (arith, length-append xs (bs ++ ys))) p
       ∙ ap (λ (l : List ℕ). moved (length xs) (headAt l p)) (drop-append-seam xs (bs ++ ys))
-      ∙ ap (moved (length xs)) (head-longer bs ys p (λ s. clash (sym s ∙ e)) ∙ e)
-    where
-      clash : {m v q : ℕ} → Short ≡ Definite m v q → ⊥
-      clash z = let w : _≡_ {A = ℕ} 0 1 = cc in omega arith
+      ∙ ap (moved (length xs)) (head-longer bs ys p (λ s. cut-short (sym s ∙ e)) ∙ e)
 
   drop-shift : (p : ℕ) → p ≤ length bs → drop (length xs + p) whole ≡ drop p bs ++ ys
   drop-shift p h = drop-append-add xs (bs ++ ys) p ∙ drop-append-le p bs ys h

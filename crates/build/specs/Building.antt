@@ -13,11 +13,11 @@ use Rattle.build.specs.Made.{onSome, encoded}
 
 -- an answer, and what the lent buffer then holds
 pub record Told : Type 0 where
-  pub built : Built
+  pub answer : Built
   pub buffer : List ℕ
 
 abbrev pub told : Built → List ℕ → Told
-told b buf = record { built = b; buffer = buf }
+told b buf = record { answer = b; buffer = buf }
 
 -- a refusal writes nothing
 abbrev pub refused : List ℕ → ℕ → Told

@@ -14,30 +14,25 @@ use Rattle.build.specs.declared.Built.{Built}
 use Rattle.build.specs.Building.{told, given, bytesOf, buildOf}
 use Rattle.build.specs.Theorem.{numbersOf, runsOf, OwnLeast}
 
--- T2: 10 if the instance is above the last; 15 if kind or parts make no message; 18 if the buffer is shorter than the message; else 0
-pub record Numbers (i kind : ℕ) (ns : List ℕ) (runs : ℕ) (first second buf : List ℕ) : Type 0 where
-  pub n10 : (buildOf i kind ns runs first second buf .built .number ≡ 10) ↔ (instances ≤ i)
-  pub n15 : (buildOf i kind ns runs first second buf .built .number ≡ 15) ↔ ((i < instances) × (bytesOf i kind ns runs first second ≡ none))
-  pub n18 : (buildOf i kind ns runs first second buf .built .number ≡ 18)
-      ↔ ((i < instances) × ((bs : List ℕ) × (bytesOf i kind ns runs first second ≡ some bs) × (length buf < length bs)))
-  pub n0 : (buildOf i kind ns runs first second buf .built .number ≡ 0)
-      ↔ ((i < instances) × ((bs : List ℕ) × (bytesOf i kind ns runs first second ≡ some bs) × (length bs ≤ length buf)))
+-- T2: when each number is answered, in document 01's order
+pub data When (i kind : ℕ) (ns : List ℕ) (runs : ℕ) (first second buf : List ℕ) : ℕ → Type 0 where
+  no-instance : instances ≤ i → When i kind ns runs first second buf 10
+  -- kind or parts make no message
+  makes-none : i < instances → bytesOf i kind ns runs first second ≡ none → When i kind ns runs first second buf 15
+  no-room : {bs : List ℕ} → i < instances → bytesOf i kind ns runs first second ≡ some bs → length buf < length bs
+      → When i kind ns runs first second buf 18
+  done : {bs : List ℕ} → i < instances → bytesOf i kind ns runs first second ≡ some bs → length bs ≤ length buf
+      → When i kind ns runs first second buf 0
 
 abbrev pub Exactly : Type 0
-Exactly = (i kind : ℕ) (ns : List ℕ) (runs : ℕ) (first second buf : List ℕ) → Numbers i kind ns runs first second buf
+Exactly = (i kind : ℕ) (ns : List ℕ) (runs : ℕ) (first second buf : List ℕ) (n : ℕ)
+    → (buildOf i kind ns runs first second buf .answer .number ≡ n) ↔ When i kind ns runs first second buf n
 
 -- T3: with any number but 0, the buffer is as it was
 abbrev pub Untouched : Type 0
 Untouched =
     (i kind : ℕ) (ns : List ℕ) (runs : ℕ) (first second buf : List ℕ) (b : Built) (after : List ℕ)
     → told b after ≡ buildOf i kind ns runs first second buf → (b .number ≡ 0 → ⊥) → (b .len ≡ 0) × (after ≡ buf)
-
--- T1: the contract leaves one answer and one buffer
-abbrev pub Once : Type 0
-Once =
-    (i kind : ℕ) (ns : List ℕ) (runs : ℕ) (first second buf : List ℕ) (b b′ : Built) (after after′ : List ℕ)
-    → told b after ≡ buildOf i kind ns runs first second buf → told b′ after′ ≡ buildOf i kind ns runs first second buf
-    → (b ≡ b′) × (after ≡ after′)
 
 -- with 0, the message stands at the buffer's front, and the rest of the buffer is as it was
 abbrev pub Stands : Type 0
@@ -77,7 +72,7 @@ abbrev pub NoMessage : Type 0
 NoMessage =
     (i kind : ℕ) (ns : List ℕ) (runs : ℕ) (first second buf : List ℕ)
     → Bytes first → Bytes second → length first < 2 ^ 64 → length second < 2 ^ 64
-    → (buildOf i kind ns runs first second buf .built .number ≡ 15)
+    → (buildOf i kind ns runs first second buf .answer .number ≡ 15)
     ↔ ((i < instances)
     × ((bs : List ℕ) (xs : List Value) → Bytes bs → Matches (speaks i) bs kind xs → numbersOf xs ≡ ns
     → given runs first second ≡ some (runsOf bs xs) → ⊥))

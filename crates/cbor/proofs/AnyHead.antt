@@ -1,19 +1,18 @@
 -- What any head does to a walk: one law for each way out of the code.
 -- Assumes nothing.
-use Prim.Native.Nat.{ℕ, _+_, _*_, _-_, _^_, _≤_, _<_, _/_, _%_}
+use Prim.Native.Nat.{ℕ, _+_, _*_, _-_, _^_, _≤_, _<_}
 use mathlib.Core.List.{List, _++_}
-use mathlib.Core.Bool.{Bool, true, false, cond}
+use mathlib.Core.Bool.{Bool, true, false, false≢true, cond}
 use mathlib.Core.Option.{none, some}
 use mathlib.Core.Path.{_≡_, refl, sym, ap, ap₂, subst, _∙_}
-use lib.Dec.{ltb, leb, eqb}
+use lib.Dec.{ltb}
 use lib.ListN.{length, take, drop, getD, length-append, length-drop, List·getD-append}
 use lib.Seq.{drop-append-le}
 use native.Mathlib.Omega.{arith}
 use borrow.Author.Tests.{ltb-true}
 use Rattle.base.specs.Numbers.{number}
-use Rattle.base.proofs.Conds.{cond-cases}
 use Rattle.ring.specs.Ring.{run}
-use Rattle.head.specs.Initial.{initial, openOf}
+use Rattle.head.specs.Initial.{initial}
 use Rattle.head.specs.declared.Major.{Major}
 use Rattle.head.specs.declared.Major.the-variants.{Number, Bytes, Text, Array, Map, Tag}
 use Rattle.head.specs.declared.Initial.{Initial}
@@ -21,7 +20,6 @@ use Rattle.head.specs.declared.Initial.the-variants.{Short, Long, Indefinite, S
 use Rattle.item.specs.declared.Verdict.the-variants.{Bad, Incomplete}
 use Rattle.item.specs.Grammar.{Frame, One, Items, Elements, Pairs, Chunks, Content, Second, Argument, content, indefinite, nesting}
 use Rattle.item.specs.Verdict.{Stack, push, alone}
-use Rattle.item.proofs.Exact.{clash}
 use Rattle.cbor.specs.declared.Level.{Level}
 use Rattle.cbor.specs.Walk.{frameOf, tell, Good}
 use Rattle.cbor.specs.Inside.Frames.{kept, spent, Holds, begins, breakable, roomFor, mayBegin}
@@ -269,33 +267,6 @@ module _ (xs : List ℕ) (at k c d : ℕ) (l : at < length xs) (s : 0 < k + c) w
         opens Map Pairs (record { kind = 3; count = 2 ^ 63 }) i hk r refl refl
         (record { tall = omega arith; low = λ a b. omega arith; none = λ a. absurd (omega arith) })
 
--- An argument has at most eight bytes.
-abbrev AtMostEight : Initial → Type 0
-AtMostEight (Short m v) = Unit {0}
-AtMostEight (Long m k) = k ≤ 7
-AtMostEight (Indefinite m) = Unit {0}
-AtMostEight Simple = Unit {0}
-AtMostEight Break = Unit {0}
-AtMostEight Reserved = Unit {0}
-
-at-most-eight : (b : ℕ) → AtMostEight (initial b)
-unfolding initial
-at-most-eight b =
-    cond-cases AtMostEight (ltb (b % 32) 24) (λ e. tt)
-    (λ e. cond-cases AtMostEight (eqb (b % 32) 24) (λ e. cond-cases AtMostEight (eqb (b / 32) 7) (λ e. tt) (λ e. omega arith))
-    (λ e. cond-cases AtMostEight (eqb (b % 32) 25) (λ e. omega arith)
-    (λ e. cond-cases AtMostEight (eqb (b % 32) 26) (λ e. omega arith)
-    (λ e. cond-cases AtMostEight (eqb (b % 32) 27) (λ e. omega arith)
-    (λ e. cond-cases AtMostEight (eqb (b % 32) 31) (λ e. open-ended (b / 32)) (λ e. tt))))))
-  where
-    open-ended : (m : ℕ) → AtMostEight (openOf m)
-    open-ended m =
-        cond-cases AtMostEight (eqb m 7) (λ e. tt)
-        (λ e. cond-cases AtMostEight (leb 2 m) (λ e. cond-cases AtMostEight (leb m 5) (λ e. tt) (λ e. tt)) (λ e. tt))
-
-pub long-most : (b : ℕ) (m : Major) (k : ℕ) → initial b ≡ Long m k → k ≤ 7
-long-most b m k e = subst AtMostEight e (at-most-eight b)
-
 -- The bytes end where a head is wanted.
 pub lacks : (xs : List ℕ) (at k c d : ℕ) → length xs ≤ at → 0 < k + c → Stops xs at k c d Incomplete
 lacks xs at k c d l s fs h = tell-out xs at h (nesting - d) (frameOf k c) fs l (level-holds k c) (level-unspent k c s)
@@ -306,7 +277,7 @@ deep-room k d p = of (ltb k 4) refl p
   where
     of : (t : Bool) → ltb k 4 ≡ t → cond t (ltb d nesting) false ≡ true → (k < 4) × (d < nesting)
     of true e q = (ltb-true k 4 e, ltb-true d nesting q)
-    of false e q = absurd (clash q)
+    of false e q = absurd (false≢true q)
 
 deep-good : (k c d : ℕ) → k < 4 → d < nesting → Good k c (d + 1)
 deep-good k c d h l = record { tall = omega arith; low = λ a b. omega arith; none = λ a. absurd (omega arith) }

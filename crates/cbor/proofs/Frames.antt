@@ -2,7 +2,7 @@
 -- Assumes nothing.
 use Prim.Native.Nat.{ℕ, zero, suc, _+_, _*_, _-_, _^_, _≤_, _<_, _%_}
 use mathlib.Core.List.{List}
-use mathlib.Core.Bool.{Bool, true, false, cond, not}
+use mathlib.Core.Bool.{Bool, true, false, false≢true, cond, not}
 use mathlib.Core.Option.{Option, none, some}
 use mathlib.Core.Path.{_≡_, refl, sym, ap, subst⁻¹, _∙_}
 use lib.Dec.{ltb, leb, eqb, eqb·suc-zero}
@@ -19,7 +19,7 @@ use Rattle.item.specs.Grammar.{Frame, One, Items, Elements, Pairs, Value, Chunk
 use Rattle.item.specs.Grammar.{enter, enterChunk, nesting}
 use Rattle.item.specs.Verdict.{Stack, push, into, orBreak, alone, step, met, tally}
 use Rattle.item.proofs.Derivative.{no-break, no-break-chunk}
-use Rattle.item.proofs.Exact.{clash}
+use Rattle.item.proofs.Heads.{into-some}
 use Rattle.cbor.specs.Walk.{frameOf, tell}
 use Rattle.cbor.specs.Inside.Frames.{kept, spent, Holds, begins, breakable, Wants, roomFor, chunkOf, mayBegin}
 use Rattle.cbor.specs.Inside.Moves.{Leaves, Doubles}
@@ -29,7 +29,7 @@ use Rattle.cbor.proofs.Tell.{tell-step, tell-bad, tell-end}
 unmet : (f : Frame) (d : ℕ) (fs : Stack) → Holds f → spent f ≡ false → met (push d f fs) ≡ false
 unfolding met
 unmet One d fs h p = refl
-unmet (Items zero) d fs h p = absurd (clash (sym p))
+unmet (Items zero) d fs h p = absurd (false≢true (sym p))
 unmet (Items (suc n)) d fs h p = refl
 unmet Elements d fs h p = refl
 unmet Pairs d fs h p = refl
@@ -42,7 +42,7 @@ unmet (Argument m v k) d fs h p = absurd h
 tally-head : (f : Frame) (d : ℕ) (fs : Stack) (b : ℕ) → Holds f → spent f ≡ false → tally (push d f fs) b ≡ alone (initial b)
 unfolding tally
 tally-head One d fs b h p = refl
-tally-head (Items zero) d fs b h p = absurd (clash (sym p))
+tally-head (Items zero) d fs b h p = absurd (false≢true (sym p))
 tally-head (Items (suc n)) d fs b h p = refl
 tally-head Elements d fs b h p = refl
 tally-head Pairs d fs b h p = refl
@@ -52,24 +52,20 @@ tally-head (Content n) d fs b h p = absurd h
 tally-head Second d fs b h p = absurd h
 tally-head (Argument m v k) d fs b h p = absurd h
 
--- into what the first byte asks for
-asks : (d : ℕ) (g : Frame) (o : Option Frame) (fs : Stack) → o ≡ some g → into d o fs ≡ some (push (d - 1) g fs)
-asks d g o fs e = ap (λ (o : Option Frame). into d o fs) e
-
 step-into : (f : Frame) (d : ℕ) (fs : Stack) (b : ℕ) (g : Frame) → Holds f → spent f ≡ false → begins f d (initial b) ≡ some g
     → step (push d f fs) b ≡ some (push (d - 1) g (push d (kept f) fs))
 unfolding step
-step-into One d fs b g h p e = asks d g (enter d (initial b)) (push d (Items zero) fs) e
-step-into (Items zero) d fs b g h p e = absurd (clash (sym p))
-step-into (Items (suc n)) d fs b g h p e = asks d g (enter d (initial b)) (push d (Items n) fs) e
+step-into One d fs b g h p e = into-some d (enter d (initial b)) g (push d (Items zero) fs) e
+step-into (Items zero) d fs b g h p e = absurd (false≢true (sym p))
+step-into (Items (suc n)) d fs b g h p e = into-some d (enter d (initial b)) g (push d (Items n) fs) e
 step-into Elements d fs b g h p e =
-    no-break (initial b) d fs (into d (enter d (initial b)) (push d Elements fs)) e ∙ asks d g (enter d (initial b)) (push d Elements fs) e
+    no-break (initial b) d fs (into d (enter d (initial b)) (push d Elements fs)) e ∙ into-some d (enter d (initial b)) g (push d Elements fs) e
 step-into Pairs d fs b g h p e =
-    no-break (initial b) d fs (into d (enter d (initial b)) (push d Value fs)) e ∙ asks d g (enter d (initial b)) (push d Value fs) e
-step-into Value d fs b g h p e = asks d g (enter d (initial b)) (push d Pairs fs) e
+    no-break (initial b) d fs (into d (enter d (initial b)) (push d Value fs)) e ∙ into-some d (enter d (initial b)) g (push d Value fs) e
+step-into Value d fs b g h p e = into-some d (enter d (initial b)) g (push d Pairs fs) e
 step-into (Chunks t) d fs b g h p e =
     no-break-chunk (initial b) t fs (into d (enterChunk t (initial b)) (push d (Chunks t) fs)) e
-    ∙ asks d g (enterChunk t (initial b)) (push d (Chunks t) fs) e
+    ∙ into-some d (enterChunk t (initial b)) g (push d (Chunks t) fs) e
 step-into (Content n) d fs b g h p e = absurd h
 step-into Second d fs b g h p e = absurd h
 step-into (Argument m v k) d fs b g h p e = absurd h
@@ -92,14 +88,14 @@ or-no-way (Short m v) f fs n e q t = e
 or-no-way (Long m k) f fs n e q t = e
 or-no-way (Indefinite m) f fs n e q t = e
 or-no-way Simple f fs n e q t = e
-or-no-way Break f fs n e q t = absurd (clash (sym q ∙ t))
+or-no-way Break f fs n e q t = absurd (false≢true (sym q ∙ t))
 or-no-way Reserved f fs n e q t = e
 
 step-none : (f : Frame) (d : ℕ) (fs : Stack) (b : ℕ) → Holds f → spent f ≡ false → begins f d (initial b) ≡ none → NoBreak (initial b) f
     → step (push d f fs) b ≡ none
 unfolding step
 step-none One d fs b h p e q = no-way d (enter d (initial b)) (push d (Items zero) fs) e
-step-none (Items zero) d fs b h p e q = absurd (clash (sym p))
+step-none (Items zero) d fs b h p e q = absurd (false≢true (sym p))
 step-none (Items (suc n)) d fs b h p e q = no-way d (enter d (initial b)) (push d (Items n) fs) e
 step-none Elements d fs b h p e q =
     or-no-way (initial b) Elements fs (into d (enter d (initial b)) (push d Elements fs))
@@ -116,15 +112,15 @@ step-none (Argument m v k) d fs b h p e q = absurd h
 
 step-break : (f : Frame) (d : ℕ) (fs : Stack) (b : ℕ) → breakable f ≡ true → initial b ≡ Break → step (push d f fs) b ≡ some fs
 unfolding step
-step-break One d fs b t e = absurd (clash t)
-step-break (Items n) d fs b t e = absurd (clash t)
+step-break One d fs b t e = absurd (false≢true t)
+step-break (Items n) d fs b t e = absurd (false≢true t)
 step-break Elements d fs b t e = ap (λ (i : Initial). orBreak i fs (into d (enter d (initial b)) (push d Elements fs))) e
 step-break Pairs d fs b t e = ap (λ (i : Initial). orBreak i fs (into d (enter d (initial b)) (push d Value fs))) e
-step-break Value d fs b t e = absurd (clash t)
+step-break Value d fs b t e = absurd (false≢true t)
 step-break (Chunks x) d fs b t e = ap (λ (i : Initial). orBreak i fs (into d (enterChunk x (initial b)) (push d (Chunks x) fs))) e
-step-break (Content n) d fs b t e = absurd (clash t)
-step-break Second d fs b t e = absurd (clash t)
-step-break (Argument m v k) d fs b t e = absurd (clash t)
+step-break (Content n) d fs b t e = absurd (false≢true t)
+step-break Second d fs b t e = absurd (false≢true t)
+step-break (Argument m v k) d fs b t e = absurd (false≢true t)
 
 -- The first byte of a head at a place.
 module _ (zs : List ℕ) (at h d : ℕ) (f : Frame) (fs : Stack) (l : at < length zs) (holds : Holds f) (unspent : spent f ≡ false) where
@@ -308,9 +304,9 @@ room-some Tag d g p = within-some d g p
 
 room-none : (m : Major) (d : ℕ) (g : Frame) → roomFor m d ≡ false → nest m (nesting - d) g ≡ none
 unfolding nest
-room-none Number d g p = absurd (clash (sym p))
-room-none Bytes d g p = absurd (clash (sym p))
-room-none Text d g p = absurd (clash (sym p))
+room-none Number d g p = absurd (false≢true (sym p))
+room-none Bytes d g p = absurd (false≢true (sym p))
+room-none Text d g p = absurd (false≢true (sym p))
 room-none Array d g p = within-none d g p
 room-none Map d g p = within-none d g p
 room-none Tag d g p = within-none d g p
@@ -318,22 +314,22 @@ room-none Tag d g p = within-none d g p
 -- A chunk is of the string's type, or not.
 chunk-some : (m : Major) (t : Bool) (g : Frame) (k : ℕ) → eqb k 4 ≡ t → chunkOf m k ≡ true → alike (cond t false true) m g ≡ some g
 unfolding alike
-chunk-some Number t g k e p = absurd (clash p)
+chunk-some Number t g k e p = absurd (false≢true p)
 chunk-some Bytes true g k e p = refl
-chunk-some Bytes false g k e p = absurd (clash (sym e ∙ p))
-chunk-some Text true g k e p = absurd (clash (ap not (sym e) ∙ p))
+chunk-some Bytes false g k e p = absurd (false≢true (sym e ∙ p))
+chunk-some Text true g k e p = absurd (false≢true (ap not (sym e) ∙ p))
 chunk-some Text false g k e p = refl
-chunk-some Array t g k e p = absurd (clash p)
-chunk-some Map t g k e p = absurd (clash p)
-chunk-some Tag t g k e p = absurd (clash p)
+chunk-some Array t g k e p = absurd (false≢true p)
+chunk-some Map t g k e p = absurd (false≢true p)
+chunk-some Tag t g k e p = absurd (false≢true p)
 
 chunk-none : (m : Major) (t : Bool) (g : Frame) (k : ℕ) → eqb k 4 ≡ t → chunkOf m k ≡ false → alike (cond t false true) m g ≡ none
 unfolding alike
 chunk-none Number t g k e p = refl
-chunk-none Bytes true g k e p = absurd (clash (sym p ∙ e))
+chunk-none Bytes true g k e p = absurd (false≢true (sym p ∙ e))
 chunk-none Bytes false g k e p = refl
 chunk-none Text true g k e p = refl
-chunk-none Text false g k e p = absurd (clash (sym p ∙ ap not e))
+chunk-none Text false g k e p = absurd (false≢true (sym p ∙ ap not e))
 chunk-none Array t g k e p = refl
 chunk-none Map t g k e p = refl
 chunk-none Tag t g k e p = refl
@@ -429,8 +425,8 @@ indefinite-some Tag d p g e = e
 pub indefinite-none : (m : Major) (d : ℕ) → roomFor m d ≡ false → indefinite m (nesting - d) ≡ none
 unfolding indefinite
 indefinite-none Number d p = refl
-indefinite-none Bytes d p = absurd (clash (sym p))
-indefinite-none Text d p = absurd (clash (sym p))
+indefinite-none Bytes d p = absurd (false≢true (sym p))
+indefinite-none Text d p = absurd (false≢true (sym p))
 indefinite-none Array d p = within-none d Elements p
 indefinite-none Map d p = within-none d Pairs p
 indefinite-none Tag d p = refl

@@ -7,8 +7,11 @@
 use base::less;
 use base::number::wide;
 use base::smaller;
+use head::INFOS;
 use head::Initial;
 use head::Major;
+use head::ONE_BYTE;
+use head::RESERVED;
 use head::initial_of;
 use head::read::number_at;
 use item::NESTING;
@@ -52,7 +55,18 @@ const HALF: u64 = 9223372036854775808;
 // How many bytes follow an initial byte at most.
 const LONGEST: usize = 8;
 
-// Initial bytes: an array and a map up to a break, and a break.
+// Initial bytes: the first of strings, of arrays, of maps, of tags, and of simple values with floats; of the others, an
+// array and a map up to a break, and a break.
+const STRINGS: u8 = 64;
+
+const ARRAYS: u8 = 128;
+
+const MAPS: u8 = 160;
+
+const TAGS: u8 = 192;
+
+const SIMPLES: u8 = 224;
+
 const OPEN_ARRAY: u8 = 159;
 
 const OPEN_MAP: u8 = 191;
@@ -390,7 +404,7 @@ fn following(i: u8) -> u8
 fn small(i: u8, x: u8) -> u64
     ensures { λ r. ⌜ r ≡ smallOf i x ⌝ }
 {
-    if i < 24 {
+    if i < ONE_BYTE {
         return i as u64;
     }
     x as u64
@@ -400,7 +414,7 @@ fn extra(i: u8) -> usize
     requires { ⌜ i ≤ 24 ⌝ }
     ensures { λ r. ⌜ r ≡ following i ⌝ }
 {
-    if i < 24 {
+    if i < ONE_BYTE {
         return 0;
     }
     1
@@ -411,7 +425,7 @@ fn short_string(n: usize, at: usize, i: u8, x: u8) -> Quick
     requires { ⌜ at + 8 < n ⌝ }
     ensures { λ r. ⌜ UsualString n at i x r ⌝ }
 {
-    if 24 < i {
+    if ONE_BYTE < i {
         return Quick::Unusual;
     }
     let v = small(i, x);
@@ -427,12 +441,12 @@ fn nested(b: u8, at: usize, depth: usize) -> Quick
     requires { ⌜ (at + 8 < 2 ^ 64 - 1) × (128 ≤ b) × (b < 192) ⌝ }
     ensures { λ r. ⌜ Usually at depth b r ⌝ }
 {
-    let i = b % 32;
+    let i = b % INFOS;
     if NESTING <= depth {
         return Quick::Unusual;
     }
-    if i < 24 {
-        if b < 160 {
+    if i < ONE_BYTE {
+        if b < MAPS {
             return Quick::Asks(at + 1, wide(i));
         }
         return Quick::Asks(at + 1, wide(i) * 2);
@@ -451,11 +465,11 @@ fn tag(b: u8, at: usize, depth: usize) -> Quick
     requires { ⌜ (at + 8 < 2 ^ 64 - 1) × (192 ≤ b) × (b < 224) ⌝ }
     ensures { λ r. ⌜ Usually at depth b r ⌝ }
 {
-    let i = b % 32;
+    let i = b % INFOS;
     if NESTING <= depth {
         return Quick::Unusual;
     }
-    if 28 <= i {
+    if RESERVED <= i {
         return Quick::Unusual;
     }
     Quick::Asks(at + 1 + size(following(i)), 1)
@@ -468,29 +482,29 @@ fn usual(s: &[u8], from: usize, n: usize, at: usize, p: usize, depth: usize) -> 
     ensures { λ r. ⌜ Quickly (around (now (s .entry)) from n) at depth r ⌝ }
 {
     let b = s[p];
-    let i = b % 32;
+    let i = b % INFOS;
     if b == BREAK {
         return Quick::Ends(at + 1);
     }
-    if b < 64 {
-        if 28 <= i {
+    if b < STRINGS {
+        if RESERVED <= i {
             return Quick::Unusual;
         }
         return Quick::Past(at + 1 + size(following(i)));
     }
-    if b < 128 {
+    if b < ARRAYS {
         return short_string(n, at, i, s[p + 1]);
     }
-    if b < 192 {
+    if b < TAGS {
         return nested(b, at, depth);
     }
-    if b < 224 {
+    if b < SIMPLES {
         return tag(b, at, depth);
     }
-    if i == 24 {
+    if i == ONE_BYTE {
         return Quick::Unusual;
     }
-    if 28 <= i {
+    if RESERVED <= i {
         return Quick::Unusual;
     }
     Quick::Past(at + 1 + size(following(i)))

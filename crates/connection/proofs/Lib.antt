@@ -1,3 +1,6 @@
 pub mod RangeLaws
 pub mod AreaLaws
 pub mod NumberLaws
+pub mod StoreLaws
+pub mod ClosingLaws
+pub mod Once

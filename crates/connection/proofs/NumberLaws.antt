@@ -1,28 +1,24 @@
 -- Which number open and status answer, and what open leaves.
 -- Assumes nothing.
-use mathlib.Core.Path.{_≡_, refl, sym, ap, _∙_}
-use mathlib.Core.Bool.{Bool, true, false, true≢false, cond, not, _&&_, _||_}
-use mathlib.Core.List.{List}
+use mathlib.Core.Path.{_≡_, refl, sym, _∙_}
+use mathlib.Core.Bool.{Bool, true, false, true≢false, _&&_}
 use mathlib.Core.Logic.{_↔_}
-use Prim.Native.Nat.{ℕ, _+_, _<_, _≤_}
+use Prim.Native.Nat.{ℕ, _+_, _<_}
 use native.Mathlib.Omega.{arith}
-use native.Mathlib.Nat.{zero-add, add-zero}
-use lib.Dec.{T, eqb, leb, ltb, eqb→eq}
-use lib.ListN.{length, getD, replicate, getD-replicate}
-use borrow.Author.Tests.{eq-eqb, ne-eqb, lt-ltb, le-leb}
-use Rattle.base.specs.Below.{allBelow}
-use Rattle.base.proofs.Conds.{by-test, cond-cases, so, is, and-left, and-right, below-all}
+use lib.Dec.{eqb, eqb→eq}
+use lib.ListN.{getD, getD-replicate}
+use borrow.Author.Tests.{eq-eqb, lt-ltb, le-leb}
+use Rattle.base.proofs.Conds.{cond-cases, so, is, and-left, and-right, below-all}
 use Rattle.ring.specs.Ring.{together}
-use Rattle.rows.specs.Rows.{doneOf, placeIn}
+use Rattle.rows.specs.Rows.{doneOf}
 use Rattle.wire.specs.Instances.{instances}
 use Rattle.connection.specs.declared.Settings.{Settings}
 use Rattle.connection.specs.declared.Connection.{Connection}
-use Rattle.connection.specs.declared.opening.Opened.{Opened}
 use Rattle.rows.specs.Spoken.{speaks}
-use Rattle.connection.specs.Ranges.{settingsOk, restFor, receiveStoreOk, sendStoreOk, receivingOk, sendingOk, stateOk, turnOk, headerOk, acceptOk, inRange}
-use Rattle.connection.specs.Openings.{zeros, fresh, refusedOpen, openOf}
+use Rattle.connection.specs.Ranges.{settingsOk, restFor, receiveStoreOk, sendStoreOk, receivingOk, sendingOk, stateOk, inRange}
+use Rattle.connection.specs.Openings.{zeros, fresh, openOf}
 use Rattle.connection.specs.Statuses.{statusOf}
-use Rattle.connection.specs.Numbers.{Opens, OpenNumbers, OpenExactly, Opening, StatusExactly, OpenOnce, StatusOnce}
+use Rattle.connection.specs.Numbers.{Opens, OpenNumbers, OpenExactly, Opening, StatusExactly}
 use Rattle.connection.proofs.RangeLaws.{settings-set}
 
 -- ---- open
@@ -55,9 +51,6 @@ by-tested s n m false e =
 pub open-exactly : OpenExactly
 open-exactly s n m = by-tested s n m (tested s n m) refl
 
-pub open-once : OpenOnce
-open-once s n m r q e f = e ∙ sym f
-
 -- ---- status
 
 by-range : (c : Connection) (t : Bool) → inRange c ≡ t → ((statusOf c .number ≡ 0) ↔ (inRange c ≡ true)) × ((statusOf c .number ≡ 23) ↔ (inRange c ≡ false))
@@ -67,9 +60,6 @@ by-range c false e = ((λ q. absurd (omega (arith, rw e at q)), λ q. absurd (tr
 
 pub status-exactly : StatusExactly
 status-exactly c = by-range c (inRange c) refl
-
-pub status-once : StatusOnce
-status-once c r q e f = e ∙ sym f
 
 -- ---- what open leaves
 

@@ -3,7 +3,7 @@ use Prim.Native.Nat.{ℕ}
 use mathlib.Core.Bool.{Bool, true, false, _&&_, _||_}
 use mathlib.Core.Option.{Option, none, some}
 use lib.Dec.{eqb, leb, ltb}
-use Rattle.wire.specs.Instances.{instances}
+use Rattle.wire.specs.Instances.{instances, handshake}
 use Rattle.connection.specs.declared.Closing.{Closing}
 use Rattle.connection.specs.declared.Closing.the-variants.{Bare, Of}
 use Rattle.connection.specs.declared.Gate.{Gate}
@@ -32,10 +32,14 @@ abbrev pub isOpen : Gate → Bool
 isOpen Open = true
 isOpen (Closed x) = false
 
--- a closing that a fault leaves: no instance for 11; 0 for 12; any for 13 to 17
+-- 14 to 17 from take are faults
+abbrev pub takeFault : ℕ → Bool
+takeFault n = leb 14 n && leb n 17
+
+-- a closing that a fault leaves: no instance for 11; 0 for 12; any for 13 and for those of take
 abbrev pub faultLeaves : Closing → Bool
 faultLeaves (Bare n) = eqb n 11
-faultLeaves (Of n i) = (eqb n 12 && eqb i 0) || ((leb 13 n && leb n 17) && ltb i instances)
+faultLeaves (Of n i) = (eqb n 12 && eqb i handshake) || ((eqb n 13 || takeFault n) && ltb i instances)
 
 abbrev pub gateOk : Gate → Bool
 gateOk Open = true

@@ -1,10 +1,12 @@
--- What only this crate's own functions cite: the range of an instance's numbers, by the arrays that they lie in.
+-- What only functions below the operations cite: the range of an instance's numbers, by the arrays that they lie in, and its area.
 use Prim.Native.Nat.{ℕ, _+_, _<_, _≤_}
+use mathlib.Core.Path.{_≡_}
 use mathlib.Core.Bool.{Bool, not, _&&_, _||_}
 use mathlib.Core.List.{List}
 use lib.Dec.{eqb, leb, ltb}
-use lib.ListN.{getD}
-use Rattle.wire.specs.Instances.{instances}
+use lib.ListN.{length, getD}
+use Rattle.ring.specs.Ring.{together}
+use Rattle.wire.specs.Instances.{instances, handshake}
 use Rattle.rows.specs.Rows.{doneOf}
 use Rattle.rows.specs.Spoken.{speaks}
 use Rattle.connection.specs.Ranges.{capacityOk, restFor}
@@ -26,8 +28,14 @@ abbrev pub statesIn : List ℕ → ℕ → Bool
 statesIn states i = leb (getD states i 0) (doneOf (speaks i))
 
 abbrev pub acceptIn : Bool → List ℕ → Bool
-acceptIn accepted states = not accepted || eqb (getD states 0 0) (doneOf (speaks 0))
+acceptIn accepted states = not accepted || eqb (getD states handshake 0) (doneOf (speaks handshake))
 
 -- capacities that can be summed
 abbrev pub Small : List ℕ → Type 0
 Small caps = (i : ℕ) → i < instances → getD caps i 0 ≤ 131072
+
+-- the area of instance i in a store of n bytes
+pub record Area (caps : List ℕ) (n i : ℕ) : Type 0 where
+  pub listed : i < length caps
+  pub some : 0 < getD caps i 0
+  pub stored : n ≡ together caps

@@ -1,5 +1,6 @@
 pub mod Shapes
 pub mod Closings
+pub mod Areas
 pub mod Parts
 pub mod Ranges
 pub mod Openings

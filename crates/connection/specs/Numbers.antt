@@ -6,8 +6,6 @@ use mathlib.Core.Logic.{_↔_}
 use Rattle.ring.specs.Ring.{together}
 use Rattle.connection.specs.declared.Settings.{Settings}
 use Rattle.connection.specs.declared.Connection.{Connection}
-use Rattle.connection.specs.declared.opening.Opened.{Opened}
-use Rattle.connection.specs.declared.telling.Report.{Report}
 use Rattle.connection.specs.Ranges.{settingsOk, inRange}
 use Rattle.connection.specs.Openings.{refusedOpen, openOf}
 use Rattle.connection.specs.Statuses.{statusOf}
@@ -33,10 +31,3 @@ pub record Opening : Type 0 where
 -- T2 for status
 abbrev pub StatusExactly : Type 0
 StatusExactly = (c : Connection) → ((statusOf c .number ≡ 0) ↔ (inRange c ≡ true)) × ((statusOf c .number ≡ 23) ↔ (inRange c ≡ false))
-
--- T1 for both: the contract leaves one answer
-abbrev pub OpenOnce : Type 0
-OpenOnce = (s : Settings) (n m : ℕ) (r q : Opened) → r ≡ openOf s n m → q ≡ openOf s n m → r ≡ q
-
-abbrev pub StatusOnce : Type 0
-StatusOnce = (c : Connection) (r q : Report) → r ≡ statusOf c → q ≡ statusOf c → r ≡ q

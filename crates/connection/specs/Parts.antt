@@ -4,13 +4,13 @@ use mathlib.Core.Path.{_≡_}
 use mathlib.Core.Bool.{true}
 use mathlib.Core.List.{List}
 use lib.ListN.{length, getD}
-use Rattle.ring.specs.Ring.{baseOf, stream}
 use Rattle.wire.specs.Instances.{instances}
 use Rattle.connection.specs.declared.Receiving.{Receiving}
 use Rattle.connection.specs.declared.Sending.{Sending}
 use Rattle.connection.specs.declared.Talk.{Talk}
 use Rattle.connection.specs.declared.Gate.{Gate}
 use Rattle.connection.specs.declared.Connection.{Connection}
+use Rattle.connection.specs.Areas.{bytesOf}
 use Rattle.connection.specs.Ranges.{receives, sends}
 
 abbrev pub withReceiving : Connection → Receiving → Gate → Connection
@@ -36,16 +36,14 @@ InSend c store i = (sends c (length store) ≡ true) × (i < instances)
 
 -- the first n bytes held of instance i, and all of them
 abbrev pub firstHeld : Connection → List ℕ → ℕ → ℕ → List ℕ
-firstHeld c store i n =
-    stream store (baseOf (c .settings .receive) i) (getD (c .settings .receive) i 0) (getD (c .receiving .starts) i 0) n
+firstHeld c store i n = bytesOf (c .settings .receive) store i (getD (c .receiving .starts) i 0) n
 
 abbrev pub heldOf : Connection → List ℕ → ℕ → List ℕ
 heldOf c store i = firstHeld c store i (getD (c .receiving .held) i 0)
 
 -- the first n bytes waiting of instance i, and all of them
 abbrev pub firstWaiting : Connection → List ℕ → ℕ → ℕ → List ℕ
-firstWaiting c store i n =
-    stream store (baseOf (c .settings .send) i) (getD (c .settings .send) i 0) (getD (c .sending .starts) i 0) n
+firstWaiting c store i n = bytesOf (c .settings .send) store i (getD (c .sending .starts) i 0) n
 
 abbrev pub waitingOf : Connection → List ℕ → ℕ → List ℕ
 waitingOf c store i = firstWaiting c store i (getD (c .sending .waiting) i 0)

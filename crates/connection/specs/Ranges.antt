@@ -6,7 +6,7 @@ use lib.ListN.{getD}
 use Rattle.base.specs.Below.{allBelow}
 use Rattle.ring.specs.Ring.{together}
 use Rattle.wire.specs.Segments.{headerLength}
-use Rattle.wire.specs.Instances.{instances}
+use Rattle.wire.specs.Instances.{instances, handshake}
 use Rattle.rows.specs.Rows.{doneOf}
 use Rattle.rows.specs.Spoken.{speaks}
 use Rattle.connection.specs.declared.Settings.{Settings}
@@ -56,7 +56,7 @@ headerOk r = ltb (r .header .count) headerLength && (eqb (r .rest) 0 || (eqb (r 
 
 -- Accept is marked only with Handshake at Done
 abbrev pub acceptOk : Talk → Bool
-acceptOk t = not (t .accepted) || eqb (getD (t .states) 0 0) (doneOf (speaks 0))
+acceptOk t = not (t .accepted) || eqb (getD (t .states) handshake 0) (doneOf (speaks handshake))
 
 unfoldable pub inRange : Connection → Bool
 inRange c =

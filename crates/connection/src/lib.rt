@@ -6,6 +6,7 @@ use wire::instances::INSTANCES;
 use wire::instances::Side;
 use wire::segment::Header;
 
+pub mod areas;
 pub mod opening;
 pub mod parts;
 pub mod range;

@@ -1,4 +1,4 @@
-// A record with one of its parts replaced, its gate, and its arrays by instance.
+// A record with one of its parts replaced, its gate, a closing's number, and its arrays by instance.
 use crate::Closing;
 use crate::Connection;
 use crate::Gate;
@@ -10,7 +10,7 @@ ghost use Prim.Native.Nat.{_<_};
 ghost use lib.ListN.{getD, set};
 ghost use Rattle.wire.specs.Instances.{instances};
 ghost use mathlib.Core.Path.{_≡_};
-ghost use Rattle.connection.specs.Closings.{closedBy, isOpen};
+ghost use Rattle.connection.specs.Closings.{closedBy, isOpen, numberOf};
 ghost use Rattle.connection.specs.Parts.{withReceiving, withSending, withTalk, withGate};
 
 // What was received is replaced, and the gate with it, which feed closes at a fault.
@@ -95,6 +95,16 @@ pub fn is_open(gate: Gate) -> bool
     match gate {
         Gate::Open => true,
         Gate::Closed(_) => false,
+    }
+}
+
+// The refusal number that a closing names.
+pub fn number_of(x: Closing) -> u64
+    ensures { λ r. ⌜ r ≡ numberOf x ⌝ }
+{
+    match x {
+        Closing::Bare(n) => n,
+        Closing::Of(n, _) => n,
     }
 }
 

@@ -9,17 +9,17 @@ use crate::Receiving;
 use crate::Sending;
 use crate::Settings;
 use crate::Talk;
+use rows::spoken::done;
+use wire::instances::HANDSHAKE;
 use wire::instances::INSTANCES;
 ghost use mathlib.Core.Path.{_≡_};
 ghost use mathlib.Core.Bool.{_&&_};
 ghost use Prim.Native.Nat.{_+_, _<_};
 ghost use lib.Dec.{leb};
 ghost use Rattle.base.specs.Below.{allBelow};
-ghost use Rattle.rows.specs.Rows.{doneOf};
-ghost use Rattle.rows.specs.Spoken.{speaks};
 ghost use Rattle.ring.specs.Ring.{together};
 ghost use Rattle.wire.specs.Instances.{instances};
-ghost use Rattle.connection.specs.Closings.{faultLeaves, gateOk};
+ghost use Rattle.connection.specs.Closings.{takeFault, faultLeaves, gateOk};
 ghost use Rattle.connection.specs.Ranges.{limitOk, capacityOk, settingsOk, turnOk, headerOk, acceptOk, inRange, receives, sends};
 ghost use Rattle.connection.specs.Inside.{capacitiesIn, areaIn, receivingIn, sendingIn, statesIn, acceptIn, Small};
 ghost use Rattle.connection.specs.declared.Closing.the-variants.{Of};
@@ -74,14 +74,6 @@ pub fn together(caps: [u64; INSTANCES]) -> usize
     ensures { λ r. ⌜ r ≡ together caps ⌝ }
 {
     ring::base_of(&caps, INSTANCES)
-}
-
-// The last state of an instance's protocol.
-pub fn done(i: usize) -> u64
-    requires { ⌜ i < instances ⌝ }
-    ensures { λ r. ⌜ r ≡ doneOf (speaks i) ⌝ }
-{
-    rows::done(rows::spoken::protocol(i))
 }
 
 // Whether a count and more of it are within a capacity, whatever the numbers.
@@ -166,7 +158,7 @@ fn header_ok(r: Receiving) -> bool
 fn accept_ok(accepted: bool, states: [u64; INSTANCES]) -> bool
     ensures { λ r. ⌜ r ≡ acceptIn accepted states ⌝ }
 {
-    base::or(base::not(accepted), states[0] == done(0))
+    base::or(base::not(accepted), states[HANDSHAKE] == done(HANDSHAKE))
 }
 
 // A closing that a fault leaves.
@@ -179,12 +171,19 @@ fn fault_leaves(x: Closing) -> bool
     }
 }
 
-// A closing with its instance: 12 is Handshake's, 13 to 17 may be anyone's.
+// 14 to 17 from take are faults.
+pub fn take_fault(n: u64) -> bool
+    ensures { λ r. ⌜ r ≡ takeFault n ⌝ }
+{
+    base::and(14 <= n, n <= 17)
+}
+
+// A closing with its instance: 12 is Handshake's, 13 and those of take may be anyone's.
 fn named(n: u64, i: u64) -> bool
     ensures { λ r. ⌜ r ≡ faultLeaves (Of n i) ⌝ }
 {
-    let late = base::and(base::and(13 <= n, n <= 17), i < INSTANCES as u64);
-    base::or(base::and(n == 12, i == 0), late)
+    let late = base::and(base::or(n == 13, take_fault(n)), i < INSTANCES as u64);
+    base::or(base::and(n == 12, i == HANDSHAKE as u64), late)
 }
 
 // Open, or closed by a closing that a fault leaves.

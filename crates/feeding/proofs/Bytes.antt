@@ -4,7 +4,7 @@
 use mathlib.Core.Path.{_≡_, refl, sym, ap, _∙_, subst}
 use mathlib.Core.Bool.{Bool, true, false}
 use mathlib.Core.List.{List, [], _∷_, _++_}
-use Prim.Native.Nat.{ℕ, suc, _+_, _-_, _^_, _≤_, _<_}
+use Prim.Native.Nat.{ℕ, suc, _+_, _-_, _≤_, _<_}
 use native.Mathlib.Omega.{arith}
 use native.Mathlib.Nat.{add-zero, zero-add}
 use borrow.Author.Tests.{eq-eqb, ne-eqb, leb-true}
@@ -14,7 +14,6 @@ use lib.Seq.{getD-set-same, set-set, drop-cons, drop-drop}
 use Rattle.base.proofs.Conds.{by-test, cond-cases, and-equal}
 use Rattle.ring.specs.Ring.{run, baseOf, laid}
 use Rattle.ring.proofs.Runs.{run-length}
-use Rattle.ring.proofs.Areas.{area-within, base-small}
 use Rattle.ring.proofs.Stores.{laid-length}
 use Rattle.wire.specs.declared.segment.Header.{Header}
 use Rattle.wire.specs.declared.segment.Segment.{Segment}
@@ -28,16 +27,18 @@ use Rattle.connection.specs.declared.Closing.the-variants.{Of}
 use Rattle.connection.specs.declared.Gate.{Gate}
 use Rattle.connection.specs.declared.Gate.the-variants.{Open, Closed}
 use Rattle.connection.specs.declared.Connection.{Connection}
+use Rattle.connection.specs.Areas.{laidIn}
 use Rattle.connection.specs.Closings.{isOpen}
 use Rattle.connection.specs.Ranges.{inRange, receives}
 use Rattle.connection.proofs.RangeLaws.{Ranged, ranged}
+use Rattle.connection.proofs.StoreLaws.{area-of}
 use Rattle.feeding.specs.declared.Admission.{Admission}
 use Rattle.feeding.specs.declared.Admission.the-variants.{Fault, Payload}
 use Rattle.feeding.specs.declared.Way.{Way}
 use Rattle.feeding.specs.declared.Step.{Step}
 use Rattle.feeding.specs.Feeding.{Reception, admitted, admission, instanceFor, settled, headed, kept, step, fed, used}
 use Rattle.feeding.specs.Feeding.{told, refused, given, answered, feedOpen, feedOf}
-use Rattle.feeding.specs.Inside.{reception, Sound, Area, Under, Settles, Heads, Lays, Steps}
+use Rattle.feeding.specs.Inside.{reception, Sound, Under, Settles, Heads, Lays, Steps}
 
 pub open-is : (g : Gate) → isOpen g ≡ true → g ≡ Open
 open-is Open e = refl
@@ -171,8 +172,7 @@ heads-part side caps held w b h e q = record { one = refl; leaves = λ starts st
 -- ---- a run of payload bytes, as the code goes
 
 pub lays : (caps starts held : List ℕ) (w : Way) (store store′ xs : List ℕ) (at n i : ℕ) → 0 < n → at + n ≤ length xs → n ≤ w .rest
-    → store′ ≡ laid store (baseOf caps (w .instance)) (getD caps (w .instance) 0) (getD starts (w .instance) 0 + getD held (w .instance) 0)
-    (run xs at n)
+    → store′ ≡ laidIn caps store (w .instance) (getD starts (w .instance) 0 + getD held (w .instance) 0) (run xs at n)
     → i ≡ instanceFor (w .rest - n) (w .instance)
     → Lays caps starts held (set held (w .instance) (getD held (w .instance) 0 + n)) w store store′ xs at
     (record { way = record { header = w .header; instance = i; rest = w .rest - n }; gate = Open; used = n })
@@ -181,34 +181,24 @@ lays caps starts held w store store′ xs at n i more ends within e f =
     let long : length (run xs at n) ≡ n = run-length xs at n ends in
     record { some = more; ends = ends; within = within; leaves = rw (long, e, f) }
 
--- ---- the area of an instance
-
-pub area-in : (caps : List ℕ) (i n : ℕ) → Area caps i n → (baseOf caps i < 2 ^ 64) × (baseOf caps i + getD caps i 0 ≤ n)
-area-in caps i n a =
-    let small = base-small caps 131072 (λ j l. a .small j (omega (arith, a .wide))) i (omega (arith, a .inside, a .wide)) in (
-      omega (arith, small, a .inside),
-      omega (arith, area-within caps i (length caps) (omega (arith, a .inside, a .wide)), a .areas),
-    )
-
 -- ---- what feeding rests on stays
 
 sound-settled : (caps : List ℕ) (s : Reception) (n : ℕ) (r : Route) → Within r → Sound caps s
     → Sound caps (settled s (admitted caps (s .receiving .held) n r))
 sound-settled caps s n Unknown w r =
-    record { areas = r .areas; wide = r .wide; many = r .many; each = r .each; under = r .under }
+    record { areas = r .areas; many = r .many; each = r .each; under = r .under }
 sound-settled caps s n (Wrong i) w r =
-    record { areas = r .areas; wide = r .wide; many = r .many; each = r .each; under = r .under }
+    record { areas = r .areas; many = r .many; each = r .each; under = r .under }
 sound-settled caps s n (To i) w r =
     cond-cases (λ (a : Admission). Sound caps (settled s a)) (leb (getD (s .receiving .held) i 0 + n) (getD caps i 0))
     (λ e.
     record {
       areas = r .areas;
-      wide = r .wide;
       many = r .many;
       each = r .each;
       under = λ more. rw (ne-eqb n 0 (λ z. omega arith)) (w, leb-true (getD (s .receiving .held) i 0 + n) (getD caps i 0) e);
     })
-    (λ e. record { areas = r .areas; wide = r .wide; many = r .many; each = r .each; under = r .under })
+    (λ e. record { areas = r .areas; many = r .many; each = r .each; under = r .under })
 
 pub sound-admission : (side : Side) (caps : List ℕ) (s : Reception) (h : Header) → Sound caps s
     → Sound caps (settled s (admission side caps (s .receiving .held) h))
@@ -223,7 +213,7 @@ sound-headed side caps s b r =
     let h = added (s .receiving .header) b in
     cond-cases (Sound caps) (leb headerLength (h .count))
     (λ e. sound-admission side caps s h r)
-    (λ e. record { areas = r .areas; wide = r .wide; many = r .many; each = r .each; under = r .under })
+    (λ e. record { areas = r .areas; many = r .many; each = r .each; under = r .under })
 
 pub sound-kept : (caps : List ℕ) (s : Reception) (xs : List ℕ) → Sound caps s → 0 < s .receiving .rest → length xs ≤ s .receiving .rest
     → Sound caps (kept caps s xs)
@@ -236,7 +226,6 @@ sound-kept caps s xs r more l =
     getD-set-same held i (getD held i 0 + length xs) 0 (omega (arith, u .0, r .many)) in
     record {
       areas = laid-length (s .store) (baseOf caps i) (getD caps i 0) (getD (s .receiving .starts) i 0 + getD held i 0) xs ∙ r .areas;
-      wide = r .wide;
       many = length-set held i (getD held i 0 + length xs) ∙ r .many;
       each = r .each;
       under = λ still. rw (ne-eqb (s .receiving .rest - length xs) 0 (λ z. omega arith)) (u .0, omega (arith, u .1, now));
@@ -249,7 +238,8 @@ sound-under {w = w} r more =
     let u = r .under more in
     let e = r .each (w .instance) (u .0) in
     record {
-      area = record { areas = r .areas; wide = r .wide; inside = u .0; some = omega (arith, e .0); small = λ j l. r .each j l .1 };
+      inside = u .0;
+      area = area-of _ _ (w .instance) (omega (arith, e .0)) (r .areas);
       start = omega (arith, e .0, e .1);
       more = more;
       room = u .1;
@@ -363,15 +353,14 @@ module _ {side : Side} {caps : List ℕ} {s₀ : Reception} {xs starts held : Li
 -- ---- a call, as the code goes
 
 -- a record in range and its store are ready
-pub sound-given : (c : Connection) (st : List ℕ) → receives c (length st) ≡ true → length (c .settings .receive) ≡ instances
-    → length (c .receiving .held) ≡ instances → Sound (c .settings .receive) (given c st)
-sound-given c st e wide many =
+pub sound-given : (c : Connection) (st : List ℕ) → receives c (length st) ≡ true → length (c .receiving .held) ≡ instances
+    → Sound (c .settings .receive) (given c st)
+sound-given c st e many =
     let r = c .receiving in
     let p = and-equal {a = inRange c} e in
     let k : Ranged c = ranged c (p .0) in
     record {
       areas = p .1;
-      wide = wide;
       many = many;
       each = λ i h. (k .receiving i h .0, k .set .receive i h .1);
       under = λ more.

@@ -1,16 +1,16 @@
--- The theorems of feed: T1 `once`, T2 and T3 `answers`, T4' `whole-or-cut`, and that the range is kept, `keeps`.
+-- The theorems of feed: T2 `exactly`, T3 `leaves`, T4' `whole-or-cut`, and that the range is kept, `keeps`. Where the "when" of a number holds, it
+-- is answered; one walk through the tests finds a "when" that holds.
 -- Assumes nothing.
 use mathlib.Core.Path.{_≡_, refl, sym, ap, _∙_, subst}
 use mathlib.Core.Bool.{true, false, true≢false, cond}
 use mathlib.Core.List.{List, _++_}
-use mathlib.Core.Logic.{_↔_}
 use Prim.Native.Nat.{ℕ, suc, _+_, _≤_, _<_}
 use native.Mathlib.Omega.{arith}
 use native.Mathlib.Nat.{add-zero}
 use borrow.Author.Tests.{ne-eqb, lt-leb}
 use lib.Dec.{eqb}
 use lib.ListN.{length, getD}
-use Rattle.base.proofs.Conds.{by-test, both-true}
+use Rattle.base.proofs.Conds.{by-test, both-true, exactly-when}
 use Rattle.wire.specs.declared.instances.Side.{Side}
 use Rattle.wire.specs.declared.instances.Route.{Route}
 use Rattle.wire.specs.declared.instances.Route.the-variants.{Unknown, Wrong, To}
@@ -23,17 +23,12 @@ use Rattle.connection.specs.Closings.{numberOf, isOpen, gateOk}
 use Rattle.connection.specs.Parts.{withReceiving}
 use Rattle.connection.specs.Ranges.{inRange, receiveStoreOk, receives}
 use Rattle.connection.proofs.RangeLaws.{ranged}
-use Rattle.feeding.specs.declared.Admission.the-variants.{Fault}
 use Rattle.feeding.specs.Feeding.{Reception, admitted, fed, used, left, Told, told, refused, given, answered, feedOpen, feedOf}
-use Rattle.feeding.specs.Numbers.{Once, Listens, Comes, When, Leaves, Answers, Keeps, Joins, WholeOrCut}
+use Rattle.feeding.specs.Numbers.{Listens, Comes, When, out-of-range, closed, unknown-protocol, wrong-mode, overflows, done, Exactly, LeavesAll, Keeps, Joins, WholeOrCut}
 use Rattle.feeding.proofs.Bytes.{fed-closed, used-closed, fed-append, used-append, feed-range, feed-closed, feed-open}
 use Rattle.feeding.proofs.Keeping.{kept-given, kept-fed, range-with, proper-fed}
-use Rattle.feeding.proofs.Faults.{Cause, unknown, wrong, overflow, cause, cause-number, eighth-with, eighth-so, Refuses}
+use Rattle.feeding.proofs.Faults.{Cause, unknown, wrong, overflow, cause-number, Holds, eighth-with, eighth-so, Refuses}
 use Rattle.feeding.proofs.Faults.{fault-found, fault-why, fault-leaves, used-all, open-before}
-
--- T1
-pub once : Once
-once c st xs r q e f = e ∙ sym f
 
 -- ---- what a call leaves
 
@@ -78,6 +73,12 @@ module _ (c : Connection) (st xs : List ℕ) {P : Type 0} where
 
 -- ---- T2
 
+by-cause : {P : Type 0} {caps held : List ℕ} {n : ℕ} {to : Route} {x : Closing} → Cause caps held n to x → (to ≡ Unknown → P)
+    → ((i : ℕ) × (to ≡ Wrong i) → P) → ((i : ℕ) × (to ≡ To i) × (getD caps i 0 < getD held i 0 + n) → P) → P
+by-cause unknown f g h = f refl
+by-cause (wrong i) f g h = g (i, refl)
+by-cause (overflow i l) f g h = h (i, refl, l)
+
 module _ (c : Connection) (st xs : List ℕ) where
   abbrev number : ℕ
   number = feedOf c st xs .answer .number
@@ -88,17 +89,9 @@ module _ (c : Connection) (st xs : List ℕ) where
   at-20 : feedOf c st xs ≡ told (refused c 20) st → number ≡ 20
   at-20 e = ap (λ (t : Told). t .answer .number) e
 
-  out-of-range : (number ≡ 23) ↔ (receives c (length st) ≡ false)
-  out-of-range = (
-    λ n. ways c st xs (λ out e. out) (λ ok o e. absurd (omega (arith, at-20 e))) (λ ok o. absurd (omega (arith, number-low c st xs ok o))),
-    λ out. at-23 (feed-range c st xs out),
-  )
-
-  closed : (number ≡ 20) ↔ ((receives c (length st) ≡ true) × (isOpen (c .gate) ≡ false))
-  closed = (
-    λ n. ways c st xs (λ out e. absurd (omega (arith, at-23 e))) (λ ok o e. (ok, o)) (λ ok o. absurd (omega (arith, number-low c st xs ok o))),
-    λ p. at-20 (feed-closed c st xs (p .0) (p .1)),
-  )
+  -- what a header that closes with x says
+  abbrev Faults : Closing → List ℕ → ℕ → Route → Type 0
+  Faults x = Refuses (c .settings .side) (c .settings .receive) x
 
   -- 0 is answered where the connection stays open
   stays : number ≡ 0 → Listens c st × (isOpen (ends c st xs .gate) ≡ true)
@@ -109,122 +102,49 @@ module _ (c : Connection) (st xs : List ℕ) where
       (λ x t g. absurd (omega (arith, answer-number c st xs ok o, ap left g, closing-number c st xs ok o x g .0))))
 
   -- a header that is a fault closes, and gives its number
-  fault-closes : (x : Closing) → Comes c st xs (Refuses (c .settings .side) (c .settings .receive) x) → ends c st xs .gate ≡ Closed x
+  fault-closes : (x : Closing) → Comes c st xs (Faults x) → ends c st xs .gate ≡ Closed x
   fault-closes x k = ap (λ (s : Reception). s .gate) (fault-leaves (c .settings .side) (c .settings .receive) (given c st) xs x k .0)
 
-  fault-number : Listens c st → (x : Closing) → Comes c st xs (Refuses (c .settings .side) (c .settings .receive) x) → number ≡ numberOf x
-  fault-number p x k = answer-number c st xs (p .0) (p .1) ∙ ap left (fault-closes x k)
+  fault-number : {P : List ℕ → ℕ → Route → Type 0} → Listens c st → (x : Closing) (k : Comes c st xs P) → Holds k (Faults x)
+      → number ≡ numberOf x
+  fault-number p x k e =
+      answer-number c st xs (p .0) (p .1) ∙ ap left (fault-closes x (eighth-with {Q = Faults x} k e))
 
-  abbrev Faulty : List ℕ → ℕ → Route → Type 0
-  Faulty held n to = (x : Closing) × (admitted (c .settings .receive) held n to ≡ Fault x)
+  answered-by : {n : ℕ} → When c st xs n → number ≡ n
+  answered-by (out-of-range out) = at-23 (feed-range c st xs out)
+  answered-by (closed ok o) = at-20 (feed-closed c st xs ok o)
+  answered-by (unknown-protocol p k) = fault-number p (Bare 11) k (ap (admitted (c .settings .receive) _ _) (k .says))
+  answered-by (wrong-mode p k) = let (i, e) = k .says in fault-number p (Of 12 i) k (ap (admitted (c .settings .receive) _ _) e)
+  answered-by (overflows p k) =
+      let (i, e, l) = k .says in fault-number p (Of 13 i) k (ap (admitted (c .settings .receive) _ _) e ∙ rw (lt-leb _ (getD (c .settings .receive) i 0) l))
+  answered-by (done (ok, o) none) =
+      gate-is (ends c st xs .gate) (λ t g. answer-number c st xs ok o ∙ ap left g)
+      (λ x t g. absurd (none (eighth-so {P = Faults x} (λ held n to e. (x, e)) (fault-found (c .settings .side) (c .settings .receive) (given c st) xs x o g))))
 
-  done : (number ≡ 0) ↔ (Listens c st × (Comes c st xs Faulty → ⊥))
-  done = (
-    λ n. (
-      stays n .0,
-      λ k.
-          let p = stays n .0 in
-          let x = k .says .0 in
-          let e = eighth-with {Q = Refuses (c .settings .side) (c .settings .receive) x} k (k .says .1) in
-          omega (arith, fault-number p x e, closing-number c st xs (p .0) (p .1) x (fault-closes x e) .0),
-    ),
-    λ p.
-        gate-is (ends c st xs .gate) (λ t g. answer-number c st xs (p .0 .0) (p .0 .1) ∙ ap left g)
-        (λ x t g.
-        absurd
-        (p .1
-        (eighth-so {P = Refuses (c .settings .side) (c .settings .receive) x} {Q = Faulty} (λ held n to e. (x, e))
-        (fault-found (c .settings .side) (c .settings .receive) (given c st) xs x (p .0 .1) g)))),
-  )
+  -- what closes has a cause
+  by-fault : Listens c st → (x : Closing) → ends c st xs .gate ≡ Closed x → (n : ℕ) × When c st xs n
+  by-fault (ok, o) x g =
+      let k = fault-why (c .settings .side) (c .settings .receive) (given c st) xs x o g in
+      by-cause (k .says) (λ e. (11, unknown-protocol (ok, o) (eighth-with k e))) (λ e. (12, wrong-mode (ok, o) (eighth-with k e)))
+      (λ e. (13, overflows (ok, o) (eighth-with k e)))
 
-  -- a fault, by what it says of the header
-  fault-when : (n : ℕ) (P : List ℕ → ℕ → Route → Type 0) → 11 ≤ n → n ≤ 13
-      → ((held : List ℕ) (m : ℕ) (to : Route) (x : Closing) → Cause (c .settings .receive) held m to x → numberOf x ≡ n → P held m to)
-      → ((held : List ℕ) (m : ℕ) (to : Route) → P held m to
-      → (x : Closing) × (admitted (c .settings .receive) held m to ≡ Fault x) × (numberOf x ≡ n))
-      → (number ≡ n) ↔ (Listens c st × Comes c st xs P)
-  fault-when n P low high forth back = (
-    λ e.
-        ways c st xs (λ out f. absurd (omega (arith, at-23 f))) (λ ok o f. absurd (omega (arith, at-20 f)))
-        (λ ok o.
-        gate-is (ends c st xs .gate) (λ t g. absurd (omega (arith, answer-number c st xs ok o, ap left g)))
-        (λ x t g.
-        let e′ : numberOf x ≡ n = sym (ap left g) ∙ sym (answer-number c st xs ok o) ∙ e in (
-          (ok, o),
-          eighth-so {P = λ held m to. Cause (c .settings .receive) held m to x} {Q = P} (λ held m to y. forth held m to x y e′)
-              (fault-why (c .settings .side) (c .settings .receive) (given c st) xs x o g),
-        ))),
-    λ p.
-        let w = back _ _ _ (p .1 .says) in
-        fault-number (p .0) (w .0) (eighth-with {Q = Refuses (c .settings .side) (c .settings .receive) (w .0)} (p .1) (w .1)) ∙ w .2,
-  )
+  when : (n : ℕ) × When c st xs n
+  when =
+      ways c st xs (λ out e. (23, out-of-range out)) (λ ok o e. (20, closed ok o))
+      (λ ok o.
+      gate-is (ends c st xs .gate)
+      (λ t g. (
+        0,
+        done (ok, o) (λ k. let (x, e) = k .says in true≢false (sym t ∙ ap isOpen (fault-closes x (eighth-with {Q = Faults x} k e)))),
+      ))
+      (λ x t g. by-fault (ok, o) x g))
 
-by-unknown : {caps held : List ℕ} {n : ℕ} {to : Route} {x : Closing} → Cause caps held n to x → numberOf x ≡ 11 → to ≡ Unknown
-by-unknown unknown e = refl
-by-unknown (wrong i) e = absurd (omega arith)
-by-unknown (overflow i h) e = absurd (omega arith)
-
-by-wrong : {caps held : List ℕ} {n : ℕ} {to : Route} {x : Closing} → Cause caps held n to x → numberOf x ≡ 12 → (i : ℕ) × (to ≡ Wrong i)
-by-wrong unknown e = absurd (omega arith)
-by-wrong (wrong i) e = (i, refl)
-by-wrong (overflow i h) e = absurd (omega arith)
-
-by-overflow : {caps held : List ℕ} {n : ℕ} {to : Route} {x : Closing} → Cause caps held n to x → numberOf x ≡ 13
-    → (i : ℕ) × (to ≡ To i) × (getD caps i 0 < getD held i 0 + n)
-by-overflow unknown e = absurd (omega arith)
-by-overflow (wrong i) e = absurd (omega arith)
-by-overflow (overflow i h) e = (i, refl, h)
-
-when : (c : Connection) (st xs : List ℕ) → When c st xs (feedOf c st xs)
-when c st xs =
-    let caps = c .settings .receive in
-    record {
-      out-of-range = out-of-range c st xs;
-      closed = closed c st xs;
-      unknown =
-          fault-when c st xs 11 (λ held n to. to ≡ Unknown) (omega arith) (omega arith) (λ held n to x k e. by-unknown k e)
-          (λ held n to e. (Bare 11, ap (admitted caps held n) e, refl));
-      wrong =
-          fault-when c st xs 12 (λ held n to. (i : ℕ) × (to ≡ Wrong i)) (omega arith) (omega arith) (λ held n to x k e. by-wrong k e)
-          (λ held n to p. (Of 12 (p .0), ap (admitted caps held n) (p .1), refl));
-      overflow =
-          fault-when c st xs 13 (λ held n to. (i : ℕ) × (to ≡ To i) × (getD caps i 0 < getD held i 0 + n)) (omega arith) (omega arith)
-          (λ held n to x k e. by-overflow k e)
-          (λ held n to p.
-          (Of 13 (p .0), ap (admitted caps held n) (p .1) ∙ rw (lt-leb (getD held (p .0) 0 + n) (getD caps (p .0) 0) (p .2)), refl));
-      done = done c st xs;
-    }
-
-by-cause : {P : Type 0} {caps held : List ℕ} {n : ℕ} {to : Route} {x : Closing} → Cause caps held n to x → (to ≡ Unknown → P)
-    → ((i : ℕ) × (to ≡ Wrong i) → P) → ((i : ℕ) × (to ≡ To i) × (getD caps i 0 < getD held i 0 + n) → P) → P
-by-cause unknown f g h = f refl
-by-cause (wrong i) f g h = g (i, refl)
-by-cause (overflow i l) f g h = h (i, refl, l)
-
--- so no number but these six is answered
-pub no-other : (c : Connection) (st xs : List ℕ) (r : Told) → When c st xs r
-    → let n = r .answer .number in
-    (n ≡ 0 → ⊥) → (n ≡ 11 → ⊥) → (n ≡ 12 → ⊥) → (n ≡ 13 → ⊥) → (n ≡ 20 → ⊥) → (n ≡ 23 → ⊥) → ⊥
-no-other c st xs r w n0 n11 n12 n13 n20 n23 =
-    by-test (receives c (length st))
-    (λ ok.
-    by-test (isOpen (c .gate))
-    (λ o.
-    n0
-    (w .done .1 (
-      (ok, o),
-      λ k.
-          by-cause (cause _ _ _ _ (k .says .0) (k .says .1))
-          (λ e. n11 (w .unknown .1 ((ok, o), eighth-with k e)))
-          (λ e. n12 (w .wrong .1 ((ok, o), eighth-with k e)))
-          (λ e. n13 (w .overflow .1 ((ok, o), eighth-with k e))),
-    )))
-    (λ o. n20 (w .closed .1 (ok, o))))
-    (λ out. n23 (w .out-of-range .1 out))
+pub exactly : Exactly
+exactly c st xs n = let (k, w) = when c st xs in exactly-when (When c st xs) (answered-by c st xs w) w (answered-by c st xs)
 
 -- ---- T3
 
-leaves : (c : Connection) (st xs : List ℕ) → Leaves c st xs (feedOf c st xs)
+pub leaves : LeavesAll
 leaves c st xs =
     let side = c .settings .side in
     let caps = c .settings .receive in
@@ -242,10 +162,6 @@ leaves c st xs =
           ∙ ap (λ (n : ℕ). answered c n (ends c st xs)) (k .1)
           ∙ ap (λ (s : Reception). answered c (suc (length (e .front))) s) (k .0);
     }
-
--- T2 and T3
-pub answers : Answers
-answers c st xs = (when c st xs, leaves c st xs)
 
 -- ---- the range
 

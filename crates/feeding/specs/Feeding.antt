@@ -4,7 +4,6 @@ use mathlib.Core.Bool.{cond}
 use mathlib.Core.List.{List, [], _∷_}
 use lib.Dec.{eqb, leb}
 use lib.ListN.{length, getD, set}
-use Rattle.ring.specs.Ring.{baseOf, laid}
 use Rattle.wire.specs.declared.segment.Header.{Header}
 use Rattle.wire.specs.Segments.{headerLength, empty, added, decoded}
 use Rattle.wire.specs.declared.instances.Side.{Side}
@@ -17,6 +16,7 @@ use Rattle.connection.specs.declared.Closing.the-variants.{Bare, Of}
 use Rattle.connection.specs.declared.Gate.{Gate}
 use Rattle.connection.specs.declared.Gate.the-variants.{Open, Closed}
 use Rattle.connection.specs.Closings.{numberOf, isOpen}
+use Rattle.connection.specs.Areas.{laidIn}
 use Rattle.connection.specs.Parts.{withReceiving}
 use Rattle.connection.specs.Ranges.{receives}
 use Rattle.feeding.specs.declared.Admission.{Admission}
@@ -88,7 +88,7 @@ kept caps s xs =
             rest = rest;
           };
       gate = s .gate;
-      store = laid (s .store) (baseOf caps i) (getD caps i 0) (getD (r .starts) i 0 + held) xs;
+      store = laidIn caps (s .store) i (getD (r .starts) i 0 + held) xs;
     }
 
 -- ---- bytes

@@ -10,6 +10,7 @@ use Rattle.wire.specs.Segments.{headerLength, empty, added}
 use Rattle.wire.specs.Instances.{instances}
 use Rattle.connection.specs.declared.Gate.{Gate}
 use Rattle.connection.specs.declared.Gate.the-variants.{Open}
+use Rattle.connection.specs.Inside.{Area}
 use Rattle.feeding.specs.declared.Admission.{Admission}
 use Rattle.feeding.specs.declared.Way.{Way}
 use Rattle.feeding.specs.declared.Step.{Step}
@@ -27,24 +28,16 @@ reception starts held w g store =
 -- What of the range feeding rests on: the store is its areas, each with its start; and there is room for the payload under way.
 pub record Sound (caps : List ℕ) (s : Reception) : Type 0 where
   pub areas : length (s .store) ≡ together caps
-  pub wide : length caps ≡ instances
   pub many : length (s .receiving .held) ≡ instances
   pub each : (i : ℕ) → i < instances → (getD (s .receiving .starts) i 0 < getD caps i 0) × (getD caps i 0 ≤ 131072)
   pub under : 0 < s .receiving .rest
       → (s .receiving .instance < instances)
       × (getD (s .receiving .held) (s .receiving .instance) 0 + s .receiving .rest ≤ getD caps (s .receiving .instance) 0)
 
--- an area of a store of n bytes
-pub record Area (caps : List ℕ) (i n : ℕ) : Type 0 where
-  pub areas : n ≡ together caps
-  pub wide : length caps ≡ instances
-  pub inside : i < instances
-  pub some : 0 < getD caps i 0
-  pub small : (j : ℕ) → j < instances → getD caps j 0 ≤ 131072
-
 -- the area of a payload under way, which has room for it
 pub record Under (caps starts held : List ℕ) (w : Way) (n : ℕ) : Type 0 where
-  pub area : Area caps (w .instance) n
+  pub inside : w .instance < instances
+  pub area : Area caps n (w .instance)
   pub start : getD starts (w .instance) 0 < 131072
   pub more : 0 < w .rest
   pub room : getD held (w .instance) 0 + w .rest ≤ getD caps (w .instance) 0

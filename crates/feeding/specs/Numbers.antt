@@ -22,10 +22,6 @@ use Rattle.connection.specs.Ranges.{receives}
 use Rattle.feeding.specs.declared.Admission.the-variants.{Fault}
 use Rattle.feeding.specs.Feeding.{Reception, admitted, withHeader, fed, Told, told, refused, given, feedOf}
 
--- T1: the contract leaves one outcome
-abbrev pub Once : Type 0
-Once = (c : Connection) (st xs : List ℕ) (r q : Told) → r ≡ feedOf c st xs → q ≡ feedOf c st xs → r ≡ q
-
 -- A byte of the run, reached while the connection is open and no payload under way, makes a header whole; of the held counts there, and of
 -- the header's length and route, P holds.
 pub record Eighth (side : Side) (caps : List ℕ) (s : Reception) (xs : List ℕ) (P : List ℕ → ℕ → Route → Type 0) : Type 0 where
@@ -47,16 +43,18 @@ Listens c st = (receives c (length st) ≡ true) × (isOpen (c .gate) ≡ true)
 abbrev pub Comes : Connection → List ℕ → List ℕ → (List ℕ → ℕ → Route → Type 0) → Type 0
 Comes c st xs P = Eighth (c .settings .side) (c .settings .receive) (given c st) xs P
 
--- T2: each number exactly when document 01 says.
-pub record When (c : Connection) (st xs : List ℕ) (r : Told) : Type 0 where
-  pub out-of-range : (r .answer .number ≡ 23) ↔ (receives c (length st) ≡ false)
-  pub closed : (r .answer .number ≡ 20) ↔ ((receives c (length st) ≡ true) × (isOpen (c .gate) ≡ false))
-  pub unknown : (r .answer .number ≡ 11) ↔ (Listens c st × Comes c st xs (λ held n to. to ≡ Unknown))
-  pub wrong : (r .answer .number ≡ 12) ↔ (Listens c st × Comes c st xs (λ held n to. (i : ℕ) × (to ≡ Wrong i)))
-  pub overflow : (r .answer .number ≡ 13)
-      ↔ (Listens c st × Comes c st xs (λ held n to. (i : ℕ) × (to ≡ To i) × (getD (c .settings .receive) i 0 < getD held i 0 + n)))
-  pub done : (r .answer .number ≡ 0)
-      ↔ (Listens c st × (Comes c st xs (λ held n to. (x : Closing) × (admitted (c .settings .receive) held n to ≡ Fault x)) → ⊥))
+-- T2: when each number is answered, in document 01's order
+pub data When (c : Connection) (st xs : List ℕ) : ℕ → Type 0 where
+  out-of-range : receives c (length st) ≡ false → When c st xs 23
+  closed : receives c (length st) ≡ true → isOpen (c .gate) ≡ false → When c st xs 20
+  unknown-protocol : Listens c st → Comes c st xs (λ held n to. to ≡ Unknown) → When c st xs 11
+  wrong-mode : Listens c st → Comes c st xs (λ held n to. (i : ℕ) × (to ≡ Wrong i)) → When c st xs 12
+  overflows : Listens c st → Comes c st xs (λ held n to. (i : ℕ) × (to ≡ To i) × (getD (c .settings .receive) i 0 < getD held i 0 + n))
+      → When c st xs 13
+  done : Listens c st → (Comes c st xs (λ held n to. (x : Closing) × (admitted (c .settings .receive) held n to ≡ Fault x)) → ⊥) → When c st xs 0
+
+abbrev pub Exactly : Type 0
+Exactly = (c : Connection) (st xs : List ℕ) (n : ℕ) → (feedOf c st xs .answer .number ≡ n) ↔ When c st xs n
 
 -- T3: 20 and 23 change nothing; 0 uses all bytes; and at a fault the bytes in front of that header are kept, the header record is empty, the
 -- closing is written, and no byte behind it is used.
@@ -69,8 +67,8 @@ pub record Leaves (c : Connection) (st xs : List ℕ) (r : Told) : Type 0 where
       let after = withReceiving c (withHeader (s .receiving) empty) (Closed x) in
       r ≡ told (record { number = numberOf x; used = suc (length (e .front)); connection = after }) (s .store)
 
-abbrev pub Answers : Type 0
-Answers = (c : Connection) (st xs : List ℕ) → When c st xs (feedOf c st xs) × Leaves c st xs (feedOf c st xs)
+abbrev pub LeavesAll : Type 0
+LeavesAll = (c : Connection) (st xs : List ℕ) → Leaves c st xs (feedOf c st xs)
 
 -- the header record's array is eight bytes
 abbrev pub Spelt : Header → Type 0

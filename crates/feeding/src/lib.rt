@@ -8,7 +8,9 @@ use connection::Closing;
 use connection::Connection;
 use connection::Gate;
 use connection::Receiving;
+use connection::areas::write;
 use connection::parts::is_open;
+use connection::parts::number_of;
 use connection::parts::with_receiving;
 use connection::range::fits;
 use connection::range::receives;
@@ -20,16 +22,14 @@ use wire::segment::Header;
 ghost use mathlib.Core.Path.{_≡_};
 ghost use mathlib.Core.Bool.{true};
 ghost use Prim.Native.Nat.{_+_, _-_, _≤_, _<_};
-ghost use lib.ListN.{length, getD};
-ghost use Rattle.ring.specs.Ring.{baseOf, laid, run};
+ghost use lib.ListN.{length};
 ghost use Rattle.wire.specs.Instances.{instances};
 ghost use Rattle.wire.specs.Segments.{headerLength};
 ghost use Rattle.wire.specs.declared.instances.Route.the-variants.{To};
 ghost use Rattle.connection.specs.declared.Gate.the-variants.{Open};
-ghost use Rattle.connection.specs.Closings.{numberOf};
 ghost use Rattle.connection.specs.Ranges.{receives};
 ghost use Rattle.feeding.specs.Feeding.{admitted, admission, instanceFor, fed, used, left, told, refused, feedOpen, feedOf};
-ghost use Rattle.feeding.specs.Inside.{reception, Sound, Area, Under, headerAt, Settles, Heads, Lays, Steps};
+ghost use Rattle.feeding.specs.Inside.{reception, Sound, Under, headerAt, Settles, Heads, Lays, Steps};
 
 // Feed's answer: the number, how many bytes were used, and the record.
 pub struct Fed {
@@ -190,25 +190,6 @@ fn header_whole(
     settled(w, admit(side, caps, held, header_at(input, at)), HEADER)
 }
 
-// Lays k bytes of input from place `at` on as byte n of the stream of instance i and those that follow it.
-fn lay(
-    caps: &[u64; INSTANCES],
-    i: usize,
-    n: u64,
-    store: &mut [u8],
-    input: &[u8],
-    at: usize,
-    k: usize,
-)
-    requires { ⌜ Area (now caps) i (length (now store)) × (k ≤ getD (now caps) i 0) × (at + k ≤ length (now input)) ⌝ }
-    ensures { λ _. ⌜ now (store .exit)
-        ≡ laid (now (store .entry)) (baseOf (now (caps .entry)) i) (getD (now (caps .entry)) i 0) n (run (now (input .entry)) at k) ⌝ }
-{
-    let base = ring::base_of(caps, i);
-    let cap = caps[i] as usize;
-    ring::write(store, base, cap, n as usize, input, at, k);
-}
-
 // As many bytes of the payload under way as there are from place `at` on.
 fn kept(
     caps: &[u64; INSTANCES],
@@ -225,7 +206,7 @@ fn kept(
 {
     let i = w.instance as usize;
     let n = base::smaller(w.rest as usize, input.len() - at);
-    lay(caps, i, starts[i] + held[i], store, input, at, n);
+    write(store, caps, i, starts[i] + held[i], input, at, n);
     held[i] = held[i] + n as u64;
     let rest = w.rest - n as u64;
     let header = w.header;
@@ -315,16 +296,6 @@ fn left(g: Gate) -> u64
     match g {
         Gate::Open => 0,
         Gate::Closed(x) => number_of(x),
-    }
-}
-
-// The refusal number that a closing names.
-fn number_of(x: Closing) -> u64
-    ensures { λ r. ⌜ r ≡ numberOf x ⌝ }
-{
-    match x {
-        Closing::Bare(n) => n,
-        Closing::Of(n, _) => n,
     }
 }
 

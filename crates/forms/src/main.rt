@@ -1,248 +1,111 @@
-// The forms of document 01, each read, and each broken in each way: a line with document 01's number, and then the
-// kind, the numbers and the places, start and length, or what is wrong: the bytes are not one item, no array that an
-// unsigned number opens, of no known kind, of another count, or in the field at this place of the array. Then every kind
-// of every protocol built and read back.
+// The forms of document 01, each read, built, and broken in each way. The cases are the lines of the script on standard
+// input, in the words of the crate `script`; a line that begins with `# ` is a remark. Each case has a line of answer.
+//
+// `read I,FROM RUN` reads a run, as a ring from a place on, as a message of the protocol that instance I speaks. The
+// answer is document 01's number, and then the kind, the numbers and the places, start and length, or what is wrong: the
+// bytes are not one item, no array that an unsigned number opens, of no known kind, of another count, or in the field at
+// this place of the array.
+//
+// `build I,KIND,RUNS,LEN NUMS FIRST,SECOND` builds a message of its kind, numbers and runs, RUNS of which are counted,
+// in a lent buffer of LEN bytes. The answer is the instance and the kind, the number that build answers and, where it is
+// 0, the bytes, and what they are read as.
 mod built;
 
 use item::Verdict;
+use libc::STDIN_FILENO;
 use libc::STDOUT_FILENO;
 use messages::MOST_NUMBERS;
 use messages::MOST_PLACES;
 use messages::Message;
 use messages::Reading;
 use rows::Protocol;
+use script::Word;
+use script::lists;
+use script::runs;
+use script::runs::Run;
+use wire::instances::INSTANCES;
 ghost use Prim.Native.Nat.{_≤_};
 ghost use lib.ListN.{length};
 
 fn main() {
-    handshake();
-    answers();
-    chain_sync();
-    no_message();
-    block_fetch();
-    requests();
-    pairs();
-    keep_alive();
-    in_a_ring();
-    built::all();
+    let mut space = io::large_buffer();
+    run(&mut space);
 }
 
-fn handshake() {
-    // Propose of no version, and of two; heads of any width
-    show(Protocol::Handshake, b"\x82\x00\xa0", 0);
-    show(Protocol::Handshake, b"\x82\x00\xa2\x07\x00\x18\x0a\xf5", 0);
-    // keys that do not rise: repeated, repeated in another width, falling
-    show(Protocol::Handshake, b"\x82\x00\xa2\x07\x00\x07\x00", 0);
-    show(Protocol::Handshake, b"\x82\x00\xa2\x07\x00\x18\x07\x00", 0);
-    show(Protocol::Handshake, b"\x82\x00\xa2\x08\x00\x07\x00", 0);
-    // versions up to 2^32 - 1, and no number as a key
-    show(
-        Protocol::Handshake,
-        b"\x82\x00\xa1\x1a\xff\xff\xff\xff\x00",
-        0,
-    );
-    show(
-        Protocol::Handshake,
-        b"\x82\x00\xa1\x1b\x00\x00\x00\x01\x00\x00\x00\x00\x00",
-        0,
-    );
-    show(Protocol::Handshake, b"\x82\x00\xa1\x60\x00", 0);
-    // a map of indefinite length; no map
-    show(Protocol::Handshake, b"\x82\x00\xbf\xff", 0);
-    show(Protocol::Handshake, b"\x82\x00\x80", 0);
+// The script is read to its end, and then run.
+fn run(space: &mut [u8]) {
+    let n = io::read_full(STDIN_FILENO, space);
+    each(&mut space[..n]);
 }
 
-fn answers() {
-    // Accept: the version is a number, its parameters an item
-    show(Protocol::Handshake, b"\x83\x01\x0a\x80", 0);
-    show(Protocol::Handshake, b"\x83\x01\x1a\xff\xff\xff\xff\x00", 0);
-    show(
-        Protocol::Handshake,
-        b"\x83\x01\x1b\x00\x00\x00\x01\x00\x00\x00\x00\x00",
-        0,
-    );
-    // Refuse
-    show(Protocol::Handshake, b"\x82\x02\x82\x00\x81\x07", 0);
-    // unknown kind, wrong count
-    show(Protocol::Handshake, b"\x81\x03", 0);
-    show(Protocol::Handshake, b"\x81\x00", 0);
-    show(Protocol::Handshake, b"\x83\x02\x00\x00", 0);
+// Runs line by line.
+fn each(lines: &mut [u8]) {
+    let mut from: usize = 0;
+    while from < lines.len() {
+        let to = script::end(lines, from, b'\n');
+        line(&mut lines[from..to]);
+        if to == lines.len() {
+            return;
+        }
+        from = to + 1;
+    }
 }
 
-fn chain_sync() {
-    // the number alone, in heads of any width
-    show(Protocol::ChainSync, b"\x81\x00", 0);
-    show(Protocol::ChainSync, b"\x98\x01\x18\x00", 0);
-    show(
-        Protocol::ChainSync,
-        b"\x9b\x00\x00\x00\x00\x00\x00\x00\x01\x1b\x00\x00\x00\x00\x00\x00\x00\x01",
-        0,
-    );
-    // P6: RollForward, items of 2 and 3 bytes; RollBackward
-    show(Protocol::ChainSync, b"\x83\x02\x41\xaa\x82\x80\x00", 0);
-    show(Protocol::ChainSync, b"\x83\x03\x00\x00", 0);
-    // P5: FindIntersect of nothing; of two, in a wide head
-    show(Protocol::ChainSync, b"\x82\x04\x80", 0);
-    show(Protocol::ChainSync, b"\x82\x04\x98\x02\x00\x80", 0);
-    // a list of indefinite length; no list
-    show(Protocol::ChainSync, b"\x82\x04\x9f\xff", 0);
-    show(Protocol::ChainSync, b"\x82\x04\xa0", 0);
-    // IntersectFound; IntersectNotFound, whose item may be of indefinite length; Done
-    show(Protocol::ChainSync, b"\x83\x05\x00\xf6", 0);
-    show(Protocol::ChainSync, b"\x82\x06\x9f\xff", 0);
-    show(Protocol::ChainSync, b"\x81\x07", 0);
+fn line(line: &mut [u8]) {
+    let w = script::first(line);
+    if script::is(line, w, b"read") {
+        read(line, w);
+        return;
+    }
+    if script::is(line, w, b"build") {
+        built::build(line, w);
+        return;
+    }
+    if !script::is(line, w, b"#") {
+        bad();
+    }
 }
 
-fn no_message() {
-    // unknown kind, and one that is unknown in 64 bits only
-    show(Protocol::ChainSync, b"\x81\x08", 0);
-    show(
-        Protocol::ChainSync,
-        b"\x82\x1b\x00\x00\x00\x01\x00\x00\x00\x00\x07",
-        0,
-    );
-    // no array, an empty one, one of indefinite length
-    show(Protocol::ChainSync, b"\x00", 0);
-    show(Protocol::ChainSync, b"\xa0", 0);
-    show(Protocol::ChainSync, b"\x80", 0);
-    show(Protocol::ChainSync, b"\x9f\x00\xff", 0);
-    // not opened by an unsigned number: negative, tagged, a bool
-    show(Protocol::ChainSync, b"\x81\x20", 0);
-    show(Protocol::ChainSync, b"\x81\xc1\x00", 0);
-    show(Protocol::ChainSync, b"\x81\xf4", 0);
-    // not exactly one item: none, incomplete, more than one, bad
-    show(Protocol::ChainSync, b"", 0);
-    show(Protocol::ChainSync, b"\x81", 0);
-    show(Protocol::ChainSync, b"\x81\x00\x00", 0);
-    show(Protocol::ChainSync, b"\xff", 0);
-    // an item in the message may nest 15 deep, and not 16
-    show(
-        Protocol::ChainSync,
-        b"\x83\x02\x00\x81\x81\x81\x81\x81\x81\x81\x81\x81\x81\x81\x81\x81\x81\x81\x00",
-        0,
-    );
-    show(
-        Protocol::ChainSync,
-        b"\x83\x02\x00\x81\x81\x81\x81\x81\x81\x81\x81\x81\x81\x81\x81\x81\x81\x81\x81\x00",
-        0,
-    );
-}
-
-fn block_fetch() {
-    // RequestRange, ClientDone, StartBatch, NoBlocks, Block, BatchDone
-    show(Protocol::BlockFetch, b"\x83\x00\x80\x80", 0);
-    show(Protocol::BlockFetch, b"\x81\x01", 0);
-    show(Protocol::BlockFetch, b"\x81\x02", 0);
-    show(Protocol::BlockFetch, b"\x81\x03", 0);
-    show(Protocol::BlockFetch, b"\x82\x04\x43\x01\x02\x03", 0);
-    show(Protocol::BlockFetch, b"\x81\x05", 0);
-    // unknown kind, wrong count
-    show(Protocol::BlockFetch, b"\x81\x06", 0);
-    show(Protocol::BlockFetch, b"\x81\x04", 0);
-    show(Protocol::BlockFetch, b"\x82\x01\x00", 0);
-}
-
-fn requests() {
-    // Init; RequestTxIds: a bool as 0 or 1, and two numbers up to 65,535
-    show(Protocol::TxSubmission, b"\x81\x06", 0);
-    show(Protocol::TxSubmission, b"\x84\x00\xf5\x00\x0a", 0);
-    show(
-        Protocol::TxSubmission,
-        b"\x84\x00\xf4\x19\xff\xff\x1b\x00\x00\x00\x00\x00\x00\xff\xff",
-        0,
-    );
-    // a bool has one spelling: no number, no null, no float of 20
-    show(Protocol::TxSubmission, b"\x84\x00\x01\x00\x00", 0);
-    show(Protocol::TxSubmission, b"\x84\x00\xf6\x00\x00", 0);
-    show(Protocol::TxSubmission, b"\x84\x00\xf9\x00\x14\x00\x00", 0);
-    // 65,536, in each place
-    show(
-        Protocol::TxSubmission,
-        b"\x84\x00\xf5\x1a\x00\x01\x00\x00\x00",
-        0,
-    );
-    show(
-        Protocol::TxSubmission,
-        b"\x84\x00\xf5\x00\x1a\x00\x01\x00\x00",
-        0,
-    );
-    show(Protocol::TxSubmission, b"\x83\x00\xf5\x00", 0);
-    // RequestTxs, ReplyTxs, Done; unknown kind; no list
-    show(Protocol::TxSubmission, b"\x82\x02\x82\x41\x01\x41\x02", 0);
-    show(Protocol::TxSubmission, b"\x82\x03\x80", 0);
-    show(Protocol::TxSubmission, b"\x81\x04", 0);
-    show(Protocol::TxSubmission, b"\x81\x05", 0);
-    show(Protocol::TxSubmission, b"\x82\x02\x00", 0);
-}
-
-fn pairs() {
-    // ReplyTxIds of nothing, of one, and in wide heads
-    show(Protocol::TxSubmission, b"\x82\x01\x80", 0);
-    show(
-        Protocol::TxSubmission,
-        b"\x82\x01\x81\x82\x41\xaa\x19\x01\x00",
-        0,
-    );
-    show(
-        Protocol::TxSubmission,
-        b"\x82\x01\x98\x01\x98\x02\x00\x18\x05",
-        0,
-    );
-    // sizes up to 2^32 - 1
-    show(
-        Protocol::TxSubmission,
-        b"\x82\x01\x81\x82\x00\x1a\xff\xff\xff\xff",
-        0,
-    );
-    show(
-        Protocol::TxSubmission,
-        b"\x82\x01\x81\x82\x00\x1b\x00\x00\x00\x01\x00\x00\x00\x00",
-        0,
-    );
-    // a pair of three, of one, of indefinite length; no pair; no size
-    show(Protocol::TxSubmission, b"\x82\x01\x81\x83\x00\x00\x00", 0);
-    show(Protocol::TxSubmission, b"\x82\x01\x81\x81\x00", 0);
-    show(Protocol::TxSubmission, b"\x82\x01\x81\x9f\x00\x00\xff", 0);
-    show(Protocol::TxSubmission, b"\x82\x01\x81\x00", 0);
-    show(Protocol::TxSubmission, b"\x82\x01\x81\x82\x00\x20", 0);
-    // the second pair counts as the first
-    show(
-        Protocol::TxSubmission,
-        b"\x82\x01\x82\x82\x00\x00\x82\x00\xf4",
-        0,
-    );
-}
-
-fn keep_alive() {
-    // P3: cookie 65,535; P4: 65,536
-    show(Protocol::KeepAlive, b"\x82\x00\x19\xff\xff", 0);
-    show(Protocol::KeepAlive, b"\x82\x00\x1a\x00\x01\x00\x00", 0);
-    // Response, also in wide heads; Done
-    show(Protocol::KeepAlive, b"\x82\x01\x07", 0);
-    show(
-        Protocol::KeepAlive,
-        b"\x98\x02\x18\x01\x1b\x00\x00\x00\x00\x00\x00\x00\x07",
-        0,
-    );
-    show(Protocol::KeepAlive, b"\x81\x02", 0);
-    // wrong count, no unsigned number, unknown kind
-    show(Protocol::KeepAlive, b"\x82\x02\x00", 0);
-    show(Protocol::KeepAlive, b"\x81\x00", 0);
-    show(Protocol::KeepAlive, b"\x82\x00\x20", 0);
-    show(Protocol::KeepAlive, b"\x82\x00\xc1\x07", 0);
-    show(Protocol::KeepAlive, b"\x81\x03", 0);
-}
-
-// P6 in a ring: its first four bytes at the end of a slice, the others at its front.
-fn in_a_ring() {
-    show(Protocol::ChainSync, b"\x82\x80\x00\x83\x02\x41\xaa", 3);
+// A line that is no case.
+fn bad() {
+    text(b"bad line\n");
 }
 
 fn text(bytes: &[u8]) {
     io::write_all(STDOUT_FILENO, bytes);
 }
 
-// All bytes of a slice, as a ring from a place on.
+// read I,FROM RUN
+fn read(line: &mut [u8], w: Word) {
+    let first = script::next(line, w);
+    let second = script::next(line, first);
+    let given = lists::numbers_of(line, first);
+    if !base::and(given.count == 2, script::last(line, second)) {
+        bad();
+        return;
+    }
+    let Run::Is(n) = runs::of(line, second) else {
+        bad();
+        return;
+    };
+    let numbers = given.numbers;
+    let bytes = script::text(line, script::within(line, second.from, n));
+    spoken(numbers[0], bytes, numbers[1]);
+}
+
+// All bytes of a slice, as a ring from a place on, in the protocol that an instance speaks.
+fn spoken(i: u64, bytes: &[u8], from: u64) {
+    if INSTANCES as u64 <= i {
+        bad();
+        return;
+    }
+    if (bytes.len() as u64) < from {
+        bad();
+        return;
+    }
+    show(rows::spoken::protocol(i as usize), bytes, from as usize);
+}
+
 fn show(p: Protocol, bytes: &[u8], from: usize)
     requires { ⌜ from ≤ length (now bytes) ⌝ }
 {

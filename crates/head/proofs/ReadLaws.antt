@@ -9,13 +9,13 @@ use lib.Pow.{pow-mono}
 use lib.Dec.{lit≤, ltb, leb, eqb}
 use lib.ListN.{length, getD, drop, length-append, length-drop, List·getD-append}
 use lib.Seq.{getD-drop}
-use borrow.Author.Tests.{lt-ltb, le-ltb, le-leb, lt-leb, ltb-true, leb-true}
+use borrow.Author.Tests.{lt-ltb, le-ltb, le-leb, lt-leb, ltb-true, leb-true, eqb-true}
 use Rattle.base.specs.Numbers.{number}
 use Rattle.base.proofs.Conds.{cond-cases}
 use Rattle.ring.specs.Ring.{run, around}
 use Rattle.ring.proofs.Runs.{run-front, run-drop}
 use Rattle.ring.proofs.Around.{around-length}
-use Rattle.head.specs.Initial.{initial}
+use Rattle.head.specs.Initial.{majorOf, initial}
 use Rattle.head.specs.Read.{longAt, simpleAt, headBy, headAt}
 use Rattle.head.specs.declared.Major.{Major}
 use Rattle.head.specs.declared.Initial.{Initial}
@@ -66,42 +66,43 @@ head-by-around s from n h l e f g =
 
 -- ---- what an initial byte can say
 
--- an argument in the byte is below 24; one that follows has 1, 2, 4 or 8 bytes
-unfoldable pub Sound : Initial → Type 0
-Sound (says.Short _ v) = v < 24
-Sound (says.Long _ k) = (e : ℕ) × (e ≤ 3) × (k + 1 ≡ 2 ^ e)
-Sound (says.Indefinite _) = Unit {0}
-Sound says.Simple = Unit {0}
-Sound says.Break = Unit {0}
-Sound says.Reserved = Unit {0}
+-- of major type m: the type that it names is m's; an argument in the byte is below 24; one that follows has 1, 2, 4 or 8 bytes
+unfoldable pub Sound : ℕ → Initial → Type 0
+Sound m (says.Short M v) = (M ≡ majorOf m) × (v < 24)
+Sound m (says.Long M k) = (M ≡ majorOf m) × ((e : ℕ) × (e ≤ 3) × (k + 1 ≡ 2 ^ e))
+Sound m (says.Indefinite _) = Unit {0}
+Sound m says.Simple = m ≡ 7
+Sound m says.Break = Unit {0}
+Sound m says.Reserved = Unit {0}
 
-pub sound : (b : ℕ) → Sound (initial b)
+pub sound : (b : ℕ) → Sound (b / 32) (initial b)
 unfolding initial Sound
 sound b =
     let m : ℕ = b / 32 in
     let i : ℕ = b % 32 in
-    cond-cases Sound (ltb i 24) (λ t. ltb-true i 24 t)
+    let P : Initial → Type 0 = Sound m in
+    cond-cases P (ltb i 24) (λ t. (refl, ltb-true i 24 t))
     (λ _.
-    cond-cases Sound (eqb i 24) (λ _. cond-cases Sound (eqb m 7) (λ _. tt) (λ _. (0, lit≤ tt, refl)))
+    cond-cases P (eqb i 24) (λ _. cond-cases P (eqb m 7) (λ t. eqb-true m 7 t) (λ _. (refl, (0, lit≤ tt, refl))))
     (λ _.
-    cond-cases Sound (eqb i 25) (λ _. (1, lit≤ tt, refl))
+    cond-cases P (eqb i 25) (λ _. (refl, (1, lit≤ tt, refl)))
     (λ _.
-    cond-cases Sound (eqb i 26) (λ _. (2, lit≤ tt, refl))
+    cond-cases P (eqb i 26) (λ _. (refl, (2, lit≤ tt, refl)))
     (λ _.
-    cond-cases Sound (eqb i 27) (λ _. (3, lit≤ tt, refl))
+    cond-cases P (eqb i 27) (λ _. (refl, (3, lit≤ tt, refl)))
     (λ _.
-    cond-cases Sound (eqb i 31)
+    cond-cases P (eqb i 31)
     (λ _.
-    cond-cases Sound (eqb m 7) (λ _. tt)
-    (λ _. cond-cases Sound (leb 2 m) (λ _. cond-cases Sound (leb m 5) (λ _. tt) (λ _. tt)) (λ _. tt)))
+    cond-cases P (eqb m 7) (λ _. tt)
+    (λ _. cond-cases P (leb 2 m) (λ _. cond-cases P (leb m 5) (λ _. tt) (λ _. tt)) (λ _. tt)))
     (λ _. tt))))))
 
 -- so an argument that follows has at most eight bytes
 pub long-small : (b : ℕ) {k : ℕ} {r : Initial} {M : Major} → r ≡ initial b → r ≡ says.Long M k → k + 1 ≤ 8
 unfolding Sound
 long-small b {k} {r} {M} e f =
-    let s : Sound (says.Long M k) = subst Sound (sym e ∙ f) (sound b) in
-    omega (arith, s .2, pow-mono {j = 3} (s .1))
+    let s : Sound (b / 32) (says.Long M k) = subst (Sound (b / 32)) (sym e ∙ f) (sound b) in
+    omega (arith, s .1 .2, pow-mono {j = 3} (s .1 .1))
 
 -- ---- how far a head reaches
 
@@ -200,7 +201,7 @@ module _ (bs more : List ℕ) where
   ]
 
 -- a head that ends in the front part is the same head in that part alone
-cut-short : {m v q : ℕ} → Short ≡ Definite m v q → ⊥
+pub cut-short : {m v q : ℕ} → Short ≡ Definite m v q → ⊥
 cut-short e = let z : _≡_ {A = ℕ} 0 1 = cc in omega arith
 
 long-end : (bs : List ℕ) (m k at : ℕ) {M v q : ℕ} → longAt bs m k at ≡ Definite M v q → at + k ≡ q

@@ -196,20 +196,20 @@ module _ (bs : List ℕ) (b : Bytes bs) where
       (λ _. omega (arith, width-least (getD bs at 0) 0 (omega arith) (byte-below bs at b))))
       (λ _. tt)
 
-  head-least : (i : Initial) → Sound i → (m at : ℕ) → Least at (headBy i bs m at)
+  head-least : (m at : ℕ) (i : Initial) → Sound m i → Least at (headBy i bs m at)
   unfolding headBy Least Sound
-  head-least (says.Short _ v) s m at = omega (arith, width-inside v s)
-  head-least (says.Long _ k) (e, h, w) m at = rw w (long-least m e at h)
-  head-least (says.Indefinite _) s m at = tt
-  head-least says.Simple s m at = simple-least at
-  head-least says.Break s m at = tt
-  head-least says.Reserved s m at = tt
+  head-least m at (says.Short _ v) s = omega (arith, width-inside v (s .1))
+  head-least m at (says.Long _ k) (_, (e, h, w)) = rw w (long-least m e at h)
+  head-least m at (says.Indefinite _) s = tt
+  head-least m at says.Simple s = simple-least at
+  head-least m at says.Break s = tt
+  head-least m at says.Reserved s = tt
 
   least : (at : ℕ) → Least (at + 1) (headAt bs at)
   unfolding headAt Least
   least at =
       cond-cases (Least (at + 1)) (ltb at (length bs))
-      (λ _. head-least (initial (getD bs at 0)) (sound (getD bs at 0)) (getD bs at 0 / 32) (at + 1))
+      (λ _. head-least (getD bs at 0 / 32) (at + 1) (initial (getD bs at 0)) (sound (getD bs at 0)))
       (λ _. tt)
 
 pub none-shorter : NoneShorter

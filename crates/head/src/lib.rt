@@ -24,6 +24,23 @@ pub const TAG: u8 = 6;
 
 pub const SIMPLE: u8 = 7;
 
+// Additional information, the lower five bits of an initial byte, so that a major type has 32 initial bytes. Below 24 it is
+// the argument; from there on the argument is in 1, 2, 4 or 8 bytes that follow; the next values are reserved, but for
+// the last, which says that there is no argument.
+pub const INFOS: u8 = 32;
+
+pub const ONE_BYTE: u8 = 24;
+
+pub const TWO_BYTES: u8 = 25;
+
+pub const FOUR_BYTES: u8 = 26;
+
+pub const EIGHT_BYTES: u8 = 27;
+
+pub const RESERVED: u8 = 28;
+
+pub const OPEN: u8 = 31;
+
 // What a major type begins. Major types 0, 1 and 7 are one: a number, after whose head nothing follows.
 pub enum Major {
     Number,
@@ -86,27 +103,27 @@ fn open_of(m: u8) -> Initial
 pub fn initial_of(b: u8) -> Initial
     ensures { λ r. ⌜ r ≡ initial b ⌝ }
 {
-    let m = b / 32;
-    let i = b % 32;
-    if i < 24 {
+    let m = b / INFOS;
+    let i = b % INFOS;
+    if i < ONE_BYTE {
         return Initial::Short(major_of(m), i as u64);
     }
-    if i == 24 {
+    if i == ONE_BYTE {
         if m == SIMPLE {
             return Initial::Simple;
         }
         return Initial::Long(major_of(m), 0);
     }
-    if i == 25 {
+    if i == TWO_BYTES {
         return Initial::Long(major_of(m), 1);
     }
-    if i == 26 {
+    if i == FOUR_BYTES {
         return Initial::Long(major_of(m), 3);
     }
-    if i == 27 {
+    if i == EIGHT_BYTES {
         return Initial::Long(major_of(m), 7);
     }
-    if i == 31 {
+    if i == OPEN {
         return open_of(m);
     }
     Initial::Reserved

@@ -1,4 +1,5 @@
 // A head read at a place of a slice, or of the bytes of a ring.
+use super::INFOS;
 use super::Initial;
 use super::SIMPLE;
 use super::initial_of;
@@ -86,7 +87,7 @@ pub fn head_around(s: &[u8], from: usize, n: usize, at: usize) -> Head
         return Head::Short;
     }
     let b = ring::byte_at(s, from, n, at);
-    let major = b / 32;
+    let major = b / INFOS;
     let next = at + 1;
     let says = initial_of(b);
     match says {

@@ -1,4 +1,9 @@
 // A head written as short as can be.
+use super::EIGHT_BYTES;
+use super::FOUR_BYTES;
+use super::INFOS;
+use super::ONE_BYTE;
+use super::TWO_BYTES;
 ghost use mathlib.Core.Path.{_≡_};
 ghost use Prim.Native.Nat.{_+_, _≤_, _<_};
 ghost use lib.ListN.{length};
@@ -22,15 +27,27 @@ fn width_of(argument: u64) -> Width
         };
     }
     if argument < 256 {
-        return Width { info: 24, bytes: 1 };
+        return Width {
+            info: ONE_BYTE,
+            bytes: 1,
+        };
     }
     if argument < 65536 {
-        return Width { info: 25, bytes: 2 };
+        return Width {
+            info: TWO_BYTES,
+            bytes: 2,
+        };
     }
     if argument < 4294967296 {
-        return Width { info: 26, bytes: 4 };
+        return Width {
+            info: FOUR_BYTES,
+            bytes: 4,
+        };
     }
-    Width { info: 27, bytes: 8 }
+    Width {
+        info: EIGHT_BYTES,
+        bytes: 8,
+    }
 }
 
 // How long the shortest head is.
@@ -48,7 +65,7 @@ pub fn write_head(buf: &mut [u8], at: usize, major: u8, argument: u64) -> usize
 {
     let w = width_of(argument);
     let k = w.bytes;
-    buf[at] = major * 32 + w.info;
+    buf[at] = major * INFOS + w.info;
     base::number::write(buf, at + 1, k, argument);
     at + 1 + k
 }

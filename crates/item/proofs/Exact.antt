@@ -4,7 +4,7 @@
 -- Assumes nothing.
 use Prim.Native.Nat.{ℕ, zero, suc, _+_, _*_, _≤_, _<_}
 use mathlib.Core.List.{List, [], _∷_, _++_}
-use mathlib.Core.Bool.{Bool, true, false, cond}
+use mathlib.Core.Bool.{Bool, true, false, false≢true, cond}
 use mathlib.Core.Option.{Option, none, some}
 use mathlib.Core.Path.{_≡_, refl, sym, ap, subst, subst⁻¹, _∙_}
 use lib.ListN.{length, take}
@@ -73,24 +73,21 @@ unfolding Bytes
 alive nil = ([], done, tt)
 alive (push d f fs) = let r = alive fs in let q = meets d f (r .0) in (q .0, then (q .1) (r .1), q .2 (r .2))
 
-pub clash : false ≡ true → ⊥
-clash p = let z : _≡_ {A = ℕ} 0 1 = cc in omega arith
-
 -- `met` is right
 pub met-rest : (fs : Stack) → met fs ≡ true → Rest fs []
 unfolding met
 met-rest nil p = done
-met-rest (push d One fs) p = absurd (clash p)
+met-rest (push d One fs) p = absurd (false≢true p)
 met-rest (push d (Items zero) fs) p = then no-more (met-rest fs p)
-met-rest (push d (Items (suc n)) fs) p = absurd (clash p)
-met-rest (push d Elements fs) p = absurd (clash p)
-met-rest (push d Pairs fs) p = absurd (clash p)
-met-rest (push d Value fs) p = absurd (clash p)
-met-rest (push d (Chunks t) fs) p = absurd (clash p)
+met-rest (push d (Items (suc n)) fs) p = absurd (false≢true p)
+met-rest (push d Elements fs) p = absurd (false≢true p)
+met-rest (push d Pairs fs) p = absurd (false≢true p)
+met-rest (push d Value fs) p = absurd (false≢true p)
+met-rest (push d (Chunks t) fs) p = absurd (false≢true p)
 met-rest (push d (Content zero) fs) p = then no-byte (met-rest fs p)
-met-rest (push d (Content (suc n)) fs) p = absurd (clash p)
-met-rest (push d Second fs) p = absurd (clash p)
-met-rest (push d (Argument m v k) fs) p = absurd (clash p)
+met-rest (push d (Content (suc n)) fs) p = absurd (false≢true p)
+met-rest (push d Second fs) p = absurd (false≢true p)
+met-rest (push d (Argument m v k) fs) p = absurd (false≢true p)
 
 abbrev Some : List ℕ → Type 0
 Some [] = ⊥
@@ -132,7 +129,7 @@ begun : (fs : Stack) → met fs ≡ false → Begun fs []
 begun fs p = let r = alive fs in go (r .0) (r .1) (r .2)
   where
     go : (bs : List ℕ) → Rest fs bs → Bytes bs → Begun fs []
-    go [] r o = absurd (clash (sym p ∙ rest-met r))
+    go [] r o = absurd (false≢true (sym p ∙ rest-met r))
     go (b ∷ bs) r o = (b, bs, r, o)
 
 onto : {fs : Stack} {b : ℕ} {bs : List ℕ} {n : Option Stack} → step fs b ≡ n → Rest fs (b ∷ bs) → After n bs
@@ -166,7 +163,7 @@ exact (b ∷ bs) at fs = go (met fs) refl (step fs b) refl (λ gs. exact bs (suc
 -- and no other verdict says what is so
 only-end : (at : ℕ) (fs : Stack) (t : Bool) → met fs ≡ t → (v : Verdict) → Exact fs [] at v → cond t (Whole at) Incomplete ≡ v
 only-end at fs true p (Whole n) (zero, e, l, r) = ap Whole (omega arith)
-only-end at fs false p (Whole n) (zero, e, l, r) = absurd (clash (sym p ∙ rest-met r))
+only-end at fs false p (Whole n) (zero, e, l, r) = absurd (false≢true (sym p ∙ rest-met r))
 only-end at fs t p (Whole n) (suc m, e, l, r) = absurd (omega arith)
 only-end at fs t p (Bad n) (m, e, l, r, no-item) = absurd (omega arith)
 only-end at fs true p Incomplete (c, cs, r, o) = absurd (met-none (met-rest fs p) r)
@@ -180,7 +177,7 @@ only-more b bs at fs true p n q h (Whole k) (suc m, e, l, r) = absurd (met-none 
 only-more b bs at fs true p n q h (Bad k) (zero, e, l, (c, cs, r, o), no-item) = absurd (met-none (met-rest fs p) r)
 only-more b bs at fs true p n q h (Bad k) (suc m, e, l, (c, cs, r, o), no-item) = absurd (met-none (met-rest fs p) r)
 only-more b bs at fs true p n q h Incomplete (c, cs, r, o) = absurd (met-none (met-rest fs p) r)
-only-more b bs at fs false p n q h (Whole k) (zero, e, l, r) = absurd (clash (sym p ∙ rest-met r))
+only-more b bs at fs false p n q h (Whole k) (zero, e, l, r) = absurd (false≢true (sym p ∙ rest-met r))
 only-more b bs at fs false p none q h (Whole k) (suc m, e, l, r) = absurd (onto q r)
 only-more b bs at fs false p (some gs) q h (Whole k) (suc m, e, l, r) = h gs (Whole k) (m, omega arith, omega arith, onto q r)
 only-more b bs at fs false p none q h (Bad k) (zero, e, l, x, no-item) = ap Bad (omega arith)

@@ -3,7 +3,7 @@
 use Prim.Native.Nat.{ℕ, zero, suc, _+_, _*_, _-_}
 use mathlib.Core.List.{List, [], _∷_}
 use mathlib.Core.Bool.{Bool, true, false}
-use mathlib.Core.Option.{Option, some}
+use mathlib.Core.Option.{Option, some, Option·some-injective}
 use mathlib.Core.Path.{_≡_, refl, sym, ap, _∙_}
 use native.Mathlib.Omega.{arith}
 use borrow.Author.Tests.{le-leb}
@@ -49,18 +49,15 @@ content-whole Array v = refl
 content-whole Map v = refl
 content-whole Tag v = refl
 
-the-same : {f g : Frame} → _≡_ {A = Option Frame} (some f) (some g) → f ≡ g
-the-same p = cc
-
 within-is : (d : ℕ) (f g : Frame) → within d f ≡ some g → f ≡ g
 within-is zero f g p = absurd (nothing p)
-within-is (suc d) f g p = the-same p
+within-is (suc d) f g p = cc
 
-nest-is : (m : Major) (d : ℕ) (f g : Frame) → nest m d f ≡ some g → f ≡ g
+pub nest-is : (m : Major) (d : ℕ) (f g : Frame) → nest m d f ≡ some g → f ≡ g
 unfolding nest
-nest-is Number d f g p = the-same p
-nest-is Bytes d f g p = the-same p
-nest-is Text d f g p = the-same p
+nest-is Number d f g p = cc
+nest-is Bytes d f g p = cc
+nest-is Text d f g p = cc
 nest-is Array d f g p = within-is d f g p
 nest-is Map d f g p = within-is d f g p
 nest-is Tag d f g p = within-is d f g p
@@ -68,8 +65,8 @@ nest-is Tag d f g p = within-is d f g p
 indefinite-whole : (m : Major) (d : ℕ) (g : Frame) → indefinite m d ≡ some g → pending g ≡ 0
 unfolding indefinite
 indefinite-whole Number d g p = absurd (nothing p)
-indefinite-whole Bytes d g p = ap pending (sym (the-same p))
-indefinite-whole Text d g p = ap pending (sym (the-same p))
+indefinite-whole Bytes d g p = ap pending (sym (Option·some-injective _ _ p))
+indefinite-whole Text d g p = ap pending (sym (Option·some-injective _ _ p))
 indefinite-whole Array d g p = ap pending (sym (within-is d Elements g p))
 indefinite-whole Map d g p = ap pending (sym (within-is d Pairs g p))
 indefinite-whole Tag d g p = absurd (nothing p)
@@ -79,7 +76,7 @@ unfolding enter
 item-head (Short m v) d g p = let e : pending g ≡ 0 = ap pending (sym (nest-is m d (content m v) g p)) ∙ content-whole m v in omega arith
 item-head (Long m k) d g p = ap (λ (f : Frame). 0 + pending f) (sym (nest-is m d (Argument m 0 k) g p)) ∙ omega arith
 item-head (Indefinite m) d g p = let e : pending g ≡ 0 = indefinite-whole m d g p in omega arith
-item-head Simple d g p = ap (λ (f : Frame). 0 + pending f) (sym (the-same p)) ∙ omega arith
+item-head Simple d g p = ap (λ (f : Frame). 0 + pending f) (sym (Option·some-injective _ _ p)) ∙ omega arith
 item-head Break d g p = absurd (nothing p)
 item-head Reserved d g p = absurd (nothing p)
 
@@ -110,7 +107,8 @@ pub record Moved (fs : Stack) (b : ℕ) (bs : List ℕ) (n : ℕ) : Type 0 where
   pub rest : Rest to bs
   pub sum : tally fs b + (owed to + headsRest rest) ≡ n
 
-into-some : (d : ℕ) (o : Option Frame) (f : Frame) (fs : Stack) → o ≡ some f → into d o fs ≡ some (push (d - 1) f fs)
+-- into what the first byte asks for
+pub into-some : (d : ℕ) (o : Option Frame) (f : Frame) (fs : Stack) → o ≡ some f → into d o fs ≡ some (push (d - 1) f fs)
 into-some d o f fs e = ap (λ (o : Option Frame). into d o fs) e
 
 moves : {fs : Stack} {b : ℕ} {bs : List ℕ} (r : Rest fs (b ∷ bs)) → Moved fs b bs (owed fs + headsRest r)

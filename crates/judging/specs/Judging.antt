@@ -5,7 +5,7 @@ use mathlib.Core.List.{List}
 use lib.Dec.{eqb}
 use lib.ListN.{length, getD, set}
 use Rattle.wire.specs.declared.instances.Side.{Side}
-use Rattle.wire.specs.Instances.{at, initiates}
+use Rattle.wire.specs.Instances.{handshake, at, initiates}
 use Rattle.rows.specs.declared.Protocol.{Protocol}
 use Rattle.rows.specs.declared.Agency.{Agency}
 use Rattle.rows.specs.declared.Agency.the-variants.{Initiator, Responder, Nobody}
@@ -37,11 +37,11 @@ ours side i state = holds (initiates side (at i .role)) (agencyOf (speaks i) sta
 
 -- 19: instance 1 to 8 and Handshake hasn't ended in Accept
 abbrev pub barred : Talk → ℕ → Bool
-barred t i = not (eqb i 0) && not (t .accepted)
+barred t i = not (eqb i handshake) && not (t .accepted)
 
 -- the state moves, and message 1 of Handshake, Accept, is marked
 abbrev pub movedBy : Talk → ℕ → ℕ → ℕ → Talk
-movedBy t i kind next = record { states = set (t .states) i next; accepted = t .accepted || (eqb i 0 && eqb kind 1) }
+movedBy t i kind next = record { states = set (t .states) i next; accepted = t .accepted || (eqb i handshake && eqb kind 1) }
 
 -- where a message leads in the present state
 abbrev pub leadsTo : Connection → ℕ → Message → Next

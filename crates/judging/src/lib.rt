@@ -9,9 +9,11 @@ use connection::parts::changed;
 use item::Verdict;
 use messages::Message;
 use messages::Reading;
+use messages::number_of;
 use rows::Agency;
 use rows::Next;
 use rows::Protocol;
+use wire::instances::HANDSHAKE;
 use wire::instances::Side;
 ghost use mathlib.Core.Path.{_≡_};
 ghost use Prim.Native.Nat.{_≤_, _<_};
@@ -68,7 +70,7 @@ pub fn ours(side: Side, i: usize, state: u64) -> bool
 pub fn barred(t: Talk, i: usize) -> bool
     ensures { λ r. ⌜ r ≡ barred t i ⌝ }
 {
-    base::and(base::not(i == 0), base::not(t.accepted))
+    base::and(base::not(i == HANDSHAKE), base::not(t.accepted))
 }
 
 // The states, and the mark of Accept, once a message of this kind has moved instance i to the next state.
@@ -77,7 +79,7 @@ pub fn moved_by(t: Talk, i: usize, kind: u64, next: u64) -> Talk
     ensures { λ r. ⌜ r ≡ movedBy t i kind next ⌝ }
 {
     let states = t.states;
-    let accept = base::and(i == 0, kind == ACCEPT);
+    let accept = base::and(i == HANDSHAKE, kind == ACCEPT);
     Talk {
         states: changed(states, i, next),
         accepted: base::or(t.accepted, accept),
@@ -115,19 +117,6 @@ fn by_row(n: usize, message: Message, next: Next) -> Judged
     match next {
         Next::To(state) => led(n, message, state),
         Next::None => unjudged(16),
-    }
-}
-
-// Document 01's number for what reading came to.
-fn number_of(reading: Reading) -> u64
-    ensures { λ r. ⌜ r ≡ numberOf reading ⌝ }
-{
-    match reading {
-        Reading::Read => 0,
-        Reading::NotArray => 15,
-        Reading::UnknownKind => 15,
-        Reading::WrongCount => 15,
-        Reading::WrongField(_) => 15,
     }
 }
 

@@ -9,7 +9,7 @@ use lib.Dec.{ltb, leb, eqb}
 use lib.ListN.{length, getD, drop, length-drop, length-append}
 use lib.Seq.{drop-drop, drop-append-seam}
 use borrow.Author.Tests.{ltb-true, leb-true, eqb-true, lt-ltb, le-leb, eq-eqb}
-use Rattle.base.proofs.Conds.{cond-cases}
+use Rattle.base.proofs.Conds.{cond-cases, both-true}
 use Rattle.head.specs.Read.{headAt}
 use Rattle.head.specs.declared.read.Head.{Head}
 use Rattle.head.specs.declared.read.Head.the-variants as head
@@ -256,17 +256,13 @@ module _ (bs : List ℕ) where
   abbrev pub VersionAt : ℕ → ℕ → ℕ → ℕ → Type 0
   VersionAt low p v b = (a : ℕ) × KeyAt low p v a × ItemAt bs inList a b
 
-  both : (a b : Bool) → a && b ≡ true → (a ≡ true) × (b ≡ true)
-  both true b e = (refl, e)
-  both false b e = absurd (let z : _≡_ {A = ℕ} 0 1 = cc in omega arith)
-
   key-sound : (low p : ℕ) → Numbers (KeyAt low p) (keyAt bs low p)
   unfolding keyAt
   key-sound low p =
       number-cases (Numbers (KeyAt low p)) (λ v q. cond (leb low v && ltb v versions) (Is v q) Not) (unsignedAt bs p) (unsigned-sound p) tt
       (λ v q u.
       cond-cases (Numbers (KeyAt low p)) (leb low v && ltb v versions)
-      (λ t. let ts = both (leb low v) (ltb v versions) t in (u, leb-true low v (ts .0), ltb-true v versions (ts .1))) (λ _. tt))
+      (λ t. let ts = both-true (leb low v) (ltb v versions) t in (u, leb-true low v (ts .0), ltb-true v versions (ts .1))) (λ _. tt))
 
   pub version-sound : (low p : ℕ) → Numbers (VersionAt low p) (versionAt bs low p)
   unfolding versionAt

@@ -1,59 +1,27 @@
 -- A head in the grammar: what stands at a place where a head is read is an item, and what is in it follows the head.
 -- Assumes nothing.
-use Prim.Native.Nat.{ℕ, zero, suc, _+_, _-_, _/_, _%_, _*_, _<_}
+use Prim.Native.Nat.{ℕ, zero, suc, _+_, _-_, _/_, _*_, _<_}
 use mathlib.Core.Path.{_≡_, refl, sym, ap, subst, subst⁻¹, _∙_}
 use mathlib.Core.List.{List, [], _∷_}
 use mathlib.Core.Option.{some}
 use native.Mathlib.Omega.{arith}
 use native.Mathlib.Decide.{decLt}
-use lib.Dec.{ltb, leb, eqb}
+use lib.Dec.{ltb}
 use lib.ListN.{length, getD, take, drop, length-drop}
 use lib.Seq.{drop-cons, drop-drop}
-use borrow.Author.Tests.{eqb-true}
 use Rattle.base.specs.Numbers.{spelled, number}
 use Rattle.base.proofs.Conds.{cond-cases}
 use Rattle.ring.specs.Ring.{run}
 use Rattle.head.specs.Initial.{majorOf, initial}
 use Rattle.head.specs.Read.{headAt, headBy, simpleAt}
 use Rattle.head.specs.declared.Major.{Major}
-use Rattle.head.specs.declared.Major.the-variants as major
 use Rattle.head.specs.declared.Initial.{Initial}
 use Rattle.head.specs.declared.Initial.the-variants as says
 use Rattle.head.specs.declared.read.Head.{Head}
 use Rattle.head.specs.declared.read.Head.the-variants.{Definite, Indefinite, Break, Short, Bad}
-use Rattle.head.proofs.ReadLaws.{head-by, long-here, long-short, definite-within}
+use Rattle.head.proofs.ReadLaws.{Sound, sound, head-by, long-here, long-short, cut-short, definite-within}
 use Rattle.item.specs.Grammar.{Frame, One, Argument, content, nest, enter, Reads, one, last, digit}
-use Rattle.item.proofs.Derivative.{nothing}
-
--- ---- the major type that an initial byte names
-
-Named : ℕ → Initial → Type 0
-Named m (says.Short M v) = M ≡ majorOf m
-Named m (says.Long M k) = M ≡ majorOf m
-Named m (says.Indefinite M) = Unit {0}
-Named m says.Simple = m ≡ 7
-Named m says.Break = Unit {0}
-Named m says.Reserved = Unit {0}
-
-named : (b : ℕ) → Named (b / 32) (initial b)
-unfolding Named initial
-named b =
-    let m : ℕ = b / 32 in
-    let i : ℕ = b % 32 in
-    let P : Initial → Type 0 = Named m in
-    cond-cases P (ltb i 24) (λ _. refl)
-    (λ _.
-    cond-cases P (eqb i 24) (λ _. cond-cases P (eqb m 7) (λ t. eqb-true m 7 t) (λ _. refl))
-    (λ _.
-    cond-cases P (eqb i 25) (λ _. refl)
-    (λ _.
-    cond-cases P (eqb i 26) (λ _. refl)
-    (λ _.
-    cond-cases P (eqb i 27) (λ _. refl)
-    (λ _.
-    cond-cases P (eqb i 31)
-    (λ _. cond-cases P (eqb m 7) (λ _. tt) (λ _. cond-cases P (leb 2 m) (λ _. cond-cases P (leb m 5) (λ _. tt) (λ _. tt)) (λ _. tt)))
-    (λ _. tt))))))
+use Rattle.item.proofs.Heads.{nest-is}
 
 -- ---- arguments
 
@@ -77,18 +45,6 @@ argued (suc k) v (x ∷ xs) (digit r) = argued k (v * 256 + x) xs r
 abbrev pub Room : ℕ → ℕ → Type 0
 Room d m = (f : Frame) → nest (majorOf m) d f ≡ some f
 
-nest-same : (M : Major) (d : ℕ) (f : Frame) {g : Frame} → nest M d f ≡ some g → f ≡ g
-unfolding nest
-nest-same major.Number d f p = cc
-nest-same major.Bytes d f p = cc
-nest-same major.Text d f p = cc
-nest-same major.Array zero f p = absurd (nothing p)
-nest-same major.Array (suc d) f p = cc
-nest-same major.Map zero f p = absurd (nothing p)
-nest-same major.Map (suc d) f p = cc
-nest-same major.Tag zero f p = absurd (nothing p)
-nest-same major.Tag (suc d) f p = cc
-
 module _ (bs : List ℕ) (p : ℕ) (h : p < length bs) where
   abbrev b : ℕ
   b = getD bs p 0
@@ -108,13 +64,10 @@ module _ (bs : List ℕ) (p : ℕ) (h : p < length bs) where
   simple-seven {m} {v} {q} =
       let P : Head → Type 0 = λ k. k ≡ Definite m v q → m ≡ 7 in
       cond-cases P (ltb (p + 1) (length bs)) (λ _. cond-cases P (ltb (getD bs (p + 1) 0) 32) (λ _ e. absurd (bad e)) (λ _ e. cc))
-      (λ _ e. absurd (short e))
+      (λ _ e. absurd (cut-short e))
     where
       bad : {m v q : ℕ} → Bad ≡ Definite m v q → ⊥
       bad e = let z : _≡_ {A = ℕ} 0 1 = cc in omega arith
-
-      short : {m v q : ℕ} → Short ≡ Definite m v q → ⊥
-      short e = let z : _≡_ {A = ℕ} 0 1 = cc in omega arith
 
 -- what the bytes of a head ask for: in the initial byte, or in the k + 1 bytes behind it
 data Asks (bs : List ℕ) (p m v q : ℕ) : Type 0 where
@@ -126,17 +79,14 @@ module _ (bs : List ℕ) (p m v q : ℕ) (low : m < 7) where
   abbrev b′ : ℕ
   b′ = getD bs p 0
 
-  clash : {h : Head} → h ≡ Short → h ≡ Definite m v q → ⊥
-  clash e f = let z : _≡_ {A = ℕ} 0 1 = cc in omega arith
-
-  by : p < length bs → (i : Initial) → initial b′ ≡ i → Named (b′ / 32) i → headBy i bs (b′ / 32) (p + 1) ≡ Definite m v q → Asks bs p m v q
-  unfolding headBy Named
+  by : p < length bs → (i : Initial) → initial b′ ≡ i → Sound (b′ / 32) i → headBy i bs (b′ / 32) (p + 1) ≡ Definite m v q → Asks bs p m v q
+  unfolding headBy Sound
   by h (says.Short M w) e n f =
       let x : b′ / 32 ≡ m = cc in
       let y : w ≡ v = cc in
-      inside (e ∙ ap (λ (N : Major). says.Short N w) (n ∙ ap majorOf x) ∙ ap (says.Short (majorOf m)) y) cc
+      inside (e ∙ ap (λ (N : Major). says.Short N w) (n .0 ∙ ap majorOf x) ∙ ap (says.Short (majorOf m)) y) cc
   by h (says.Long M k) e n f = elim (decLt (length bs) (p + 1 + (k + 1))) [
-    | yes y ↦ absurd (clash (long-short bs (b′ / 32) (k + 1) (p + 1) y) f)
+    | yes y ↦ absurd (cut-short (sym (long-short bs (b′ / 32) (k + 1) (p + 1) y) ∙ f))
     | no x ↦
         let g : Definite (b′ / 32) (number (run bs (p + 1) (k + 1))) (p + 1 + (k + 1)) ≡ Definite m v q =
         sym (long-here bs (b′ / 32) (k + 1) (p + 1) (omega arith)) ∙ f in
@@ -145,7 +95,7 @@ module _ (bs : List ℕ) (p m v q : ℕ) (low : m < 7) where
         let next : p + 1 + (k + 1) ≡ q = cc in
         let from : p + 1 ≡ suc p = omega arith in
         let size : k + 1 ≡ suc k = omega arith in
-        behind k (e ∙ ap (λ (N : Major). says.Long N k) (n ∙ ap majorOf is)) (omega (arith, length-drop (suc p) bs))
+        behind k (e ∙ ap (λ (N : Major). says.Long N k) (n .0 ∙ ap majorOf is)) (omega (arith, length-drop (suc p) bs))
         (ap (λ (n : ℕ). number (take (suc k) (drop n bs))) (sym from) ∙ ap (λ (n : ℕ). number (take n (drop (p + 1) bs))) (sym size) ∙ spells)
         (drop-drop (suc k) (suc p) bs ∙ ap (λ (n : ℕ). drop n bs) (let e : suc p + suc k ≡ q = omega arith in e))
   ]
@@ -156,7 +106,7 @@ module _ (bs : List ℕ) (p m v q : ℕ) (low : m < 7) where
 
   asks : headAt bs p ≡ Definite m v q → Asks bs p m v q
   asks e = let h : p < length bs = omega (arith, definite-within bs p e .0, definite-within bs p e .1) in
-      by h (initial b′) refl (named b′) (sym (head-by bs {at = p} h refl refl refl) ∙ e)
+      by h (initial b′) refl (sound b′) (sym (head-by bs {at = p} h refl refl refl) ∙ e)
 
   module _ (head : headAt bs p ≡ Definite m v q) where
     in-bytes : p < length bs
@@ -185,11 +135,11 @@ module _ (bs : List ℕ) (p m v q : ℕ) (low : m < 7) where
         of : Asks bs p m v q → Reads d One (b′ ∷ drop (suc p) bs) ds → Reads (d - 1) (content (majorOf m) v) (drop q bs) ds
         of (inside e n) (one {f = f} w r) =
             let n′ : suc p ≡ q = omega arith in
-            let g : content (majorOf m) v ≡ f = nest-same (majorOf m) d (content (majorOf m) v) (ap (enter d) (sym e) ∙ w) in
+            let g : content (majorOf m) v ≡ f = nest-is (majorOf m) d (content (majorOf m) v) f (ap (enter d) (sym e) ∙ w) in
             subst (λ (k : ℕ). Reads (d - 1) (content (majorOf m) v) (drop k bs) ds) n′
             (subst⁻¹ (λ (x : Frame). Reads (d - 1) x (drop (suc p) bs) ds) g r)
         of (behind k e l s n) (one {f = f} w r) =
-            let g : Argument (majorOf m) 0 k ≡ f = nest-same (majorOf m) d (Argument (majorOf m) 0 k) (ap (enter d) (sym e) ∙ w) in
+            let g : Argument (majorOf m) 0 k ≡ f = nest-is (majorOf m) d (Argument (majorOf m) 0 k) f (ap (enter d) (sym e) ∙ w) in
             subst (λ (l : List ℕ). Reads (d - 1) (content (majorOf m) v) l ds) n
             (subst (λ (w : ℕ). Reads (d - 1) (content (majorOf m) w) (drop (suc k) (drop (suc p) bs)) ds) s
             (argued k 0 (drop (suc p) bs) (subst⁻¹ (λ (x : Frame). Reads (d - 1) x (drop (suc p) bs) ds) g r)))

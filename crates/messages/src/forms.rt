@@ -1,12 +1,16 @@
 // The forms as one table, searched by protocol and kind.
 //
 // The table is document 01's: what is found is the form of this kind, and none is found exactly if the protocol has none.
+use rows::PROTOCOLS;
 use rows::Protocol;
+use rows::number_of;
 ghost use mathlib.Core.Path.{_≡_};
-ghost use Prim.Native.Nat.{_<_, _≤_};
+ghost use Prim.Native.Nat.{_+_, _<_, _≤_};
 ghost use lib.ListN.{length, getD};
 ghost use Rattle.messages.specs.declared.forms.Field.the-variants.{Item};
-ghost use Rattle.messages.specs.Inside.{firstOf, countOf, formCount, formAt, columns, fieldOf, Finds};
+ghost use Rattle.rows.specs.Inside.{firstIn, countIn};
+ghost use Rattle.messages.specs.Forms.{forms};
+ghost use Rattle.messages.specs.Inside.{formCount, formAt, mostFields, columns, fieldOf, Finds};
 
 // What stands in a message behind its number: an item; a list of items; a list of pairs [item, size]; a version map;
 // w, a number up to 65,535; a bool; a version.
@@ -51,8 +55,10 @@ const FIELDS: usize = 1;
 
 const FIRST_FIELD: usize = 2;
 
+const FORM_COUNT: usize = 26;
+
 // A row for each form; 0 where there is no field.
-const FORMS: [[u8; FIRST_FIELD + MOST_FIELDS]; 26] = [
+const FORMS: [[u8; FIRST_FIELD + MOST_FIELDS]; FORM_COUNT] = [
     // Handshake: Propose, Accept, Refuse
     [0, 1, VERSIONS, 0, 0],
     [1, 2, VERSION, ITEM, 0],
@@ -86,35 +92,26 @@ const FORMS: [[u8; FIRST_FIELD + MOST_FIELDS]; 26] = [
     [2, 0, 0, 0, 0],
 ];
 
-// A protocol's first row.
+// By protocol: its first row, and its number of rows.
+const FIRST: [u8; PROTOCOLS] = [0, 3, 11, 17, 23];
+
+const COUNT: [u8; PROTOCOLS] = [3, 8, 6, 6, 3];
+
 fn first(p: Protocol) -> usize
-    ensures { λ r. ⌜ r ≡ firstOf p ⌝ }
+    ensures { λ r. ⌜ r ≡ firstIn forms p ⌝ }
 {
-    match p {
-        Protocol::Handshake => 0,
-        Protocol::ChainSync => 3,
-        Protocol::BlockFetch => 11,
-        Protocol::TxSubmission => 17,
-        Protocol::KeepAlive => 23,
-    }
+    number_of(FIRST, p)
 }
 
-// A protocol's number of rows.
 fn count(p: Protocol) -> usize
-    ensures { λ r. ⌜ r ≡ countOf p ⌝ }
+    ensures { λ r. ⌜ r ≡ countIn forms p ⌝ }
 {
-    match p {
-        Protocol::Handshake => 3,
-        Protocol::ChainSync => 8,
-        Protocol::BlockFetch => 6,
-        Protocol::TxSubmission => 6,
-        Protocol::KeepAlive => 3,
-    }
+    number_of(COUNT, p)
 }
 
 // What stands in a column of row i.
 fn at(i: usize, column: usize) -> u8
-    requires { ⌜ (i < formCount) × (column < 5) ⌝ }
+    requires { ⌜ (i < formCount) × (column < 2 + mostFields) ⌝ }
     ensures { λ r. ⌜ r ≡ getD (columns (formAt i)) column 0 ⌝ }
 {
     FORMS[i][column]
@@ -140,7 +137,7 @@ pub fn find(p: Protocol, kind: u64) -> Listed
 // How many fields row i has.
 pub fn fields(i: usize) -> usize
     requires { ⌜ i < formCount ⌝ }
-    ensures { λ r. ⌜ (r ≡ length (formAt i .fields)) × (r ≤ 3) ⌝ }
+    ensures { λ r. ⌜ (r ≡ length (formAt i .fields)) × (r ≤ mostFields) ⌝ }
 {
     at(i, FIELDS) as usize
 }

@@ -21,11 +21,11 @@ ghost use Rattle.ring.specs.Ring.{around};
 ghost use Rattle.item.specs.declared.Verdict.the-variants.{Whole};
 ghost use Rattle.item.specs.Verdict.{verdict};
 ghost use Rattle.messages.specs.Matching.{ItemsAt, inMessage, begun, withNumber, withPlace};
-ghost use Rattle.messages.specs.Reading.{failed, withPart, behind, fieldsOf, counted, numberedOf, messageOf, flagOf};
+ghost use Rattle.messages.specs.Reading.{failed, withPart, behind, fieldsOf, counted, numberedOf, messageOf, numberOf, flagOf};
 ghost use Rattle.messages.specs.Forms.{formOf};
 ghost use Rattle.messages.specs.Inside.{formCount, formAt};
 
-// What reading comes to. Document 01's number for each case is `numberOf` in the specs.
+// What reading comes to.
 pub enum Reading {
     // the bytes are a message
     Read,
@@ -243,6 +243,19 @@ pub fn read(p: Protocol, s: &[u8], from: usize, n: usize) -> Answer
     match array {
         Number::Is(count, first) => numbered(p, s, from, n, count, first),
         Number::Not => fail(Reading::NotArray),
+    }
+}
+
+// Document 01's number for each case.
+pub fn number_of(reading: Reading) -> u64
+    ensures { λ r. ⌜ r ≡ numberOf reading ⌝ }
+{
+    match reading {
+        Reading::Read => 0,
+        Reading::NotArray => 15,
+        Reading::UnknownKind => 15,
+        Reading::WrongCount => 15,
+        Reading::WrongField(_) => 15,
     }
 }
 

@@ -33,7 +33,7 @@ use Rattle.connection.specs.declared.Settings.{Settings}
 use Rattle.connection.specs.declared.Connection.{Connection}
 use Rattle.connection.specs.declared.Gate.{Gate}
 use Rattle.connection.specs.declared.Gate.the-variants.{Open, Closed}
-use Rattle.connection.specs.Closings.{isOpen, closingOf}
+use Rattle.connection.specs.Closings.{isOpen, closingOf, takeFault}
 use Rattle.connection.specs.Parts.{firstHeld, heldOf}
 use Rattle.judging.specs.declared.Judged.{Judged}
 use Rattle.judging.specs.Judging.{stateOf, ours, unjudged, byRow, byReading, judgedOf}
@@ -171,7 +171,7 @@ module _ (w : World) (i : ℕ) (buf : List ℕ) where
       (λ t.
       rw (t, held-take (j .len) (l (eqb-true (j .number) 0 t)))
       (by-test (ltb (length buf) (j .len)) (λ q. rw q) (λ q. rw q)))
-      (λ t. rw t (by-test (taking.faulty (j .number)) (λ q. rw q) (λ q. rw q)))
+      (λ t. rw t (by-test (takeFault (j .number)) (λ q. rw q) (λ q. rw q)))
 
   judged-short : {xs : List ℕ} {p : Protocol} {state : ℕ} (j : Judged) → Judges p state xs j → j .number ≡ 0 → j .len ≡ length xs
   judged-short j (not-read q) e = absurd (omega arith)

@@ -159,7 +159,7 @@ pub built-is-taken : BuiltIsTaken
 unfolding runsAt
 built-is-taken i p bs b w j same k lent room =
     let r = buildWith i p (b .lent) in
-    let back = build.reads-back i (p .kind) (p .numbers) (p .runs) (p .one) (p .two) (b .lent) (r .built) (r .buffer) (b .slices .0)
+    let back = build.reads-back i (p .kind) (p .numbers) (p .runs) (p .one) (p .two) (b .lent) (r .answer) (r .buffer) (b .slices .0)
     (b .slices .1) refl (b .done) in
     let xs : List Value = back .0 in
     let m : Matches (speaks j) bs (p .kind) xs =

@@ -2,6 +2,7 @@
 -- Handshake, each of which one of the segments made takes away.
 -- Assumes nothing.
 use mathlib.Core.Path.{_≡_, refl, sym, ap, subst, _∙_}
+use mathlib.Core.Bool.{true}
 use mathlib.Core.List.{List, [], _∷_, _++_, flatMap}
 use mathlib.Core.Logic.{_≢_}
 use Prim.Native.Nat.{ℕ, zero, suc, _+_, _-_, _*_, _/_, _≤_, _<_}
@@ -21,8 +22,9 @@ use Rattle.ready.specs.declared.Choice.the-variants.{Instance, Nobody}
 use Rattle.ready.proofs.ReadyLaws.{nobody-waits}
 use Rattle.connection.specs.declared.Settings.{Settings}
 use Rattle.connection.specs.declared.Talk.{Talk}
+use Rattle.connection.specs.Closings.{isOpen}
 use Rattle.connection.proofs.RangeLaws.{ranged}
-use Rattle.sending.specs.Numbers.{Numbers}
+use Rattle.sending.specs.Numbers.{When, all-empty, done}
 use Rattle.sending.proofs.NumberLaws as sending
 use Rattle.promises.specs.Trace.{run, trace}
 use Rattle.promises.specs.Calls.{Call, World, step, AllReal, first}
@@ -259,14 +261,15 @@ serves-always s w r =
     record {
       made = λ i l has o time buf room.
           let (j, who) = somebody i l has (chosen ws turn) refl in
-          numbers time buf .n0 .1 ((reached-sends r, o), (j, who, omega (arith, ap (λ (x : Settings). x .limit) (r .settings))));
+          sending.exactly (w .connection) (w .send) time buf (r .shaped) 0 .1
+          (done (reached-sends r, o) who (omega (arith, ap (λ (x : Settings). x .limit) (r .settings))));
       nothing = λ time buf.
-          let q = numbers time buf .n4 in
-          (λ e. let p = q .0 e in (p .0 .1, p .1), λ (o, none). q .1 ((reached-sends r, o), none));
+          let q = sending.exactly (w .connection) (w .send) time buf (r .shaped) 4 in
+          (λ e. empty (q .0 e), λ (o, none). q .1 (all-empty (reached-sends r, o) none));
     }
   where
-    numbers : (time : ℕ) (buf : List ℕ) → Numbers (w .connection) (w .send) time buf
-    numbers time buf = sending.exactly (w .connection) (w .send) time buf (r .shaped)
+    empty : {buf : List ℕ} → When (w .connection) (w .send) buf 4 → (isOpen (w .connection .gate) ≡ true) × ((i : ℕ) → i < instances → waits w i ≡ 0)
+    empty (all-empty (fit, o) none) = (o, none)
 
     turn : ℕ
     turn = w .connection .sending .turn

@@ -13,6 +13,7 @@ use lib.Seq.{sets, drop-at}
 use borrow.Author.Tests.{eq-eqb, ne-eqb}
 use Rattle.ring.specs.Ring.{together}
 use Rattle.ring.proofs.Stores.{stream-length}
+use Rattle.ring.proofs.Streams.{queue-freed, queue-laid}
 use Rattle.wire.specs.declared.segment.Segment.{Segment}
 use Rattle.wire.specs.Segments.{headerLength, encoded}
 use Rattle.wire.specs.Instances.{instances, protocolOf, modeOf}
@@ -34,7 +35,6 @@ use Rattle.promises.specs.Fairness.{queue, segmentOf, header, payload}
 use Rattle.promises.proofs.Ways.{Takes, Puts, Nexts, refuses, faults, hands, queues, serves, take-way, put-way, next-way}
 use Rattle.promises.proofs.ReachedFeed.{Feeds, shut, bytes, feed-way}
 use Rattle.promises.proofs.Reached.{handshake, Sound, reached-receives, reached-sends, moved, put-bound}
-use Rattle.promises.proofs.Streams.{queue-freed, queue-laid}
 use Rattle.promises.proofs.SegmentMade.{Made, made-of}
 
 -- no segment: every queue stays or grows at its end, and no more of Handshake is to come

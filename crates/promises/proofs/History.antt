@@ -2,15 +2,12 @@
 -- Assumes nothing.
 use mathlib.Core.Path.{_≡_, refl, sym, ap, _∙_, subst}
 use mathlib.Core.List.{List, [], _∷_, _++_}
-use Prim.Native.Nat.{ℕ, zero, suc, _+_, _<_}
+use Prim.Native.Nat.{ℕ}
 use native.Mathlib.Omega.{arith}
-use native.Mathlib.Nat.{add-zero, add-suc, suc-add}
-use borrow.Author.Tests.{eq-eqb, ne-eqb}
-use lib.ListN.{length, getD}
+use lib.ListN.{length}
 use Rattle.wire.specs.Instances.{instances}
 use Rattle.wire.proofs.SegmentLaws.{divided-once}
-use Rattle.ready.specs.Ready.{lowestFrom}
-use Rattle.ready.proofs.ReadyLaws.{bit-by-bit, no-more, ones-ready}
+use Rattle.ready.proofs.ReadyLaws.{bit-by-bit, no-more, ones-ready, word-none, lowest-at, lowest-none}
 use Rattle.connection.specs.declared.Settings.{Settings}
 use Rattle.connection.specs.Statuses.{statusOf}
 use Rattle.promises.specs.Trace.{Out, event, run, trace}
@@ -45,19 +42,6 @@ ties-next s past w c real k k′ t =
 
 -- ---- status
 
--- which is lowest, counted from k
-lowest-at : (k : ℕ) (ws : List ℕ) (i : ℕ) → i < length ws → 0 < getD ws i 0 → ((j : ℕ) → j < i → getD ws j 0 ≡ 0) → lowestFrom k ws ≡ k + i
-unfolding lowestFrom
-lowest-at k [] i l some h = absurd (omega arith)
-lowest-at k (x ∷ ws) zero l some h = rw (ne-eqb x 0 (λ e. omega arith), add-zero)
-lowest-at k (x ∷ ws) (suc i) l some h =
-    rw (eq-eqb x 0 (h 0 (omega arith))) (lowest-at (suc k) ws i (omega arith) some (λ j p. h (suc j) (omega arith)) ∙ rw (suc-add, ← add-suc))
-
-lowest-none : (k : ℕ) (ws : List ℕ) → ((j : ℕ) → j < length ws → getD ws j 0 ≡ 0) → lowestFrom k ws ≡ 255
-unfolding lowestFrom
-lowest-none k [] h = refl
-lowest-none k (x ∷ ws) h = rw (eq-eqb x 0 (h 0 (omega arith))) (lowest-none (suc k) ws (λ j p. h (suc j) (omega arith)))
-
 -- what status tells of a record in range
 reports : (s : Settings) (past : Past) (w : World) → Reached s w → Tells s past w → Reports s past (statusOf (w .connection))
 unfolding statusOf
@@ -76,7 +60,7 @@ reports s past w k t =
       small = rw many at (no-more ws);
       count = sym (ones-ready ws);
       lowest = λ i l some h. lowest-at 0 ws i (omega arith) some h ∙ omega arith;
-      none = λ h. lowest-none 0 ws (λ j l. h j (omega arith));
+      none = λ h. lowest-none 0 ws (word-none ws (λ j l. h j (omega arith)));
       closing = t .closes;
     })
 

@@ -11,13 +11,14 @@ use lib.Dec.{eqb, leb}
 use lib.ListN.{length, getD, take, length-set, length-append}
 use Rattle.base.proofs.Conds.{by-test, cond-cases}
 use Rattle.ring.specs.Ring.{baseOf, together, stream}
+use Rattle.ring.proofs.Streams.{queue-laid}
 use Rattle.wire.specs.declared.segment.Header.{Header}
 use Rattle.wire.specs.declared.instances.Side.{Side}
 use Rattle.wire.specs.declared.instances.Route.{Route}
 use Rattle.wire.specs.declared.instances.Route.the-variants.{Unknown, Wrong, To}
 use Rattle.wire.specs.Segments.{headerLength, empty, added, decoded, Carried, Divided, in-header, in-payload}
 use Rattle.wire.specs.Instances.{instances, routeOf}
-use Rattle.wire.proofs.SegmentLaws.{part, add-part, part-whole}
+use Rattle.wire.proofs.SegmentLaws.{part, add-part, part-whole, divided-on, divided-whole}
 use Rattle.connection.specs.declared.Receiving.{Receiving}
 use Rattle.connection.specs.Closings.{isOpen}
 use Rattle.feeding.specs.declared.Admission.{Admission}
@@ -25,8 +26,7 @@ use Rattle.feeding.specs.Feeding.{Reception, admitted, admission, settled, head
 use Rattle.feeding.proofs.Bytes.{step-headed, step-kept, fed-closed}
 use Rattle.feeding.proofs.Keeping.{Kept, kept-fed}
 use Rattle.promises.specs.History.{payloadFor, receivedIn}
-use Rattle.promises.proofs.Streams.{queue-laid}
-use Rattle.promises.proofs.HistoryLayout.{divided-on, divided-whole, none-for, for-append, received-head, received-in, received-whole}
+use Rattle.promises.proofs.HistoryLayout.{none-for, for-append, received-head, received-in, received-whole}
 
 -- the bytes held for instance i
 abbrev pub heldIn : List ℕ → Reception → ℕ → List ℕ

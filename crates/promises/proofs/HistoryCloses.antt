@@ -1,7 +1,7 @@
 -- The closing (T11 e): each call keeps that the gate is closed by the first fault answered.
 -- Assumes nothing.
 use mathlib.Core.Path.{_≡_, refl, sym, ap, _∙_, subst}
-use mathlib.Core.Bool.{true, true≢false, cond, _&&_}
+use mathlib.Core.Bool.{true, cond, _&&_}
 use mathlib.Core.List.{List, [], _∷_, _++_, append-assoc, flatMap}
 use mathlib.Core.Option.{Option, none, some, orElse}
 use Prim.Native.Nat.{ℕ, _+_, _-_, _≤_, _<_}
@@ -15,17 +15,18 @@ use Rattle.ring.specs.Ring.{together}
 use Rattle.wire.specs.declared.segment.Header.{Header}
 use Rattle.wire.specs.declared.instances.Side.{Side}
 use Rattle.wire.specs.declared.instances.Route.{Route}
-use Rattle.wire.specs.Segments.{headerLength, added, decoded, Carried, Divided, in-header, in-payload, whole}
+use Rattle.wire.specs.Segments.{headerLength, added, decoded}
 use Rattle.wire.specs.Instances.{instances, routeOf}
-use Rattle.wire.proofs.SegmentLaws.{part, add-part, part-whole}
+use Rattle.wire.proofs.SegmentLaws.{part, add-part, part-whole, divided-ends}
 use Rattle.connection.specs.declared.Settings.{Settings}
 use Rattle.connection.specs.declared.Closing.{Closing}
 use Rattle.connection.specs.declared.Closing.the-variants.{Of}
 use Rattle.connection.specs.declared.Gate.{Gate}
 use Rattle.connection.specs.declared.Gate.the-variants.{Open, Closed}
 use Rattle.connection.specs.Closings as closings
-use Rattle.connection.specs.Closings.{closingOf, isOpen, closedBy}
+use Rattle.connection.specs.Closings.{closingOf, isOpen}
 use Rattle.connection.proofs.RangeLaws.{ranged}
+use Rattle.connection.proofs.ClosingLaws.{closed-or, open-or}
 use Rattle.feeding.specs.Feeding as feeding
 use Rattle.feeding.specs.Feeding.{Reception, used, left, given}
 use Rattle.feeding.specs.Numbers.{Eighth}
@@ -46,15 +47,6 @@ use Rattle.promises.proofs.HistoryBytes.{Reading, in-head, in-pay, Tied
 use Rattle.promises.proofs.HistoryReceives.{Held}
 
 -- ---- the header that is refused
-
--- what is left stands at the end of the bytes
-divided-ends : {bs left : List ℕ} {cs : List Carried} → Divided bs cs left → (front : List ℕ) × (bs ≡ front ++ left)
-divided-ends (in-header h) = ([], refl)
-divided-ends (in-payload h p e n) = ([], refl)
-divided-ends (whole h p {left = left} e n d) =
-    let q = divided-ends d in
-    let inner : (p ++ q .0) ++ left ≡ p ++ (q .0 ++ left) = append-assoc p (q .0) left in
-    (h ++ (p ++ q .0), ap (λ (l : List ℕ). h ++ (p ++ l)) (q .1) ∙ sym (append-assoc h (p ++ q .0) left ∙ ap (λ (l : List ℕ). h ++ l) inner))
 
 last-at : (side : Side) (front h : List ℕ) → length h ≡ headerLength
     → lastRoute side (front ++ h) ≡ routeOf side (decoded h .protocol) (decoded h .mode)
@@ -139,17 +131,6 @@ cause-tells : {caps held : List ℕ} {n : ℕ} {r : Route} {x : Closing} → Cau
 cause-tells unknown = refl
 cause-tells (wrong i) = refl
 cause-tells (overflow i h) = refl
-
--- a closing is kept
-closed-or : (g : Gate) (x : Closing) → closingOf (closedBy g x) ≡ orElse (closingOf g) (closingOf (Closed x))
-unfolding orElse
-closed-or Open x = refl
-closed-or (Closed y) x = refl
-
-open-or : (g : Gate) (b : Option (ℕ × Option ℕ)) → isOpen g ≡ true → orElse (closingOf g) b ≡ b
-unfolding orElse
-open-or Open b e = refl
-open-or (Closed x) b e = absurd (true≢false (sym e))
 
 module _ (w : World) (g : Good w) (past : Past) (t : Held (w .connection .settings) past w) where
   abbrev side : Side

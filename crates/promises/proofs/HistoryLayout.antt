@@ -1,34 +1,18 @@
--- Bytes by the layout, one more at a time: how they are divided, and what of their payload is for an instance.
+-- What of the payload of divided bytes is for an instance, with bytes more.
 -- Assumes nothing.
 use mathlib.Core.Path.{_≡_, refl, _∙_}
 use mathlib.Core.Bool.{Bool, true, false, cond}
-use mathlib.Core.List.{List, [], _∷_, _++_, append-nil, append-assoc, flatMap}
+use mathlib.Core.List.{List, [], _∷_, _++_, append-nil, flatMap}
 use Prim.Native.Nat.{ℕ, _≤_}
 use native.Mathlib.Omega.{arith}
 use lib.ListN.{length, drop-of-length-le}
 use lib.Seq.{take-at, drop-at}
 use Rattle.wire.specs.declared.segment.Segment.{Segment}
 use Rattle.wire.specs.declared.instances.Side.{Side}
-use Rattle.wire.specs.Segments.{headerLength, decoded, Carried, Divided, in-header, in-payload, whole}
+use Rattle.wire.specs.Segments.{headerLength, decoded, Carried}
 use Rattle.wire.specs.Instances.{routeOf}
 use Rattle.promises.specs.History.{isFor, payloadFor, receivedIn}
 use Rattle.promises.proofs.HistoryLaws.{flat-next}
-
--- ---- the division
-
--- bytes more are divided with those that were left
-pub divided-on : {bs left left′ : List ℕ} {cs cs′ : List Carried} (zs : List ℕ) → Divided bs cs left → Divided (left ++ zs) cs′ left′
-    → Divided (bs ++ zs) (cs ++ cs′) left′
-divided-on zs (in-header h) d = d
-divided-on zs (in-payload h p e n) d = d
-divided-on zs (whole h p {bs = bs} e n k) d = rw (append-assoc h (p ++ bs) zs, append-assoc p bs zs) (whole h p e n (divided-on zs k d))
-
--- a header with its payload, and nothing behind it
-pub divided-whole : (h p : List ℕ) → length h ≡ headerLength → length p ≡ decoded h .len
-    → Divided (h ++ p) (record { header = decoded h; payload = p } ∷ []) []
-divided-whole h p e n = rw append-nil at (whole h p {bs = []} e n (in-header {bs = []} (omega arith)))
-
--- ---- what of it is for an instance
 
 module _ (side : Side) (i : ℕ) where
   pub none-for : (h : Segment) → payloadFor side i h [] ≡ []

@@ -12,6 +12,7 @@ use lib.ListN.{length, getD, length-set, getD-replicate}
 use lib.Seq.{sets}
 use Rattle.ring.specs.Ring.{baseOf, stream}
 use Rattle.ring.proofs.Stores.{stream-length}
+use Rattle.ring.proofs.Streams.{stream-count, stream-place, queue-freed, starts-freed}
 use Rattle.wire.specs.declared.instances.Side.{Side}
 use Rattle.wire.specs.Segments.{decoded, in-header}
 use Rattle.wire.specs.Instances.{instances}
@@ -41,7 +42,6 @@ use Rattle.promises.proofs.ReachedFeed.{Feeds, shut, bytes}
 use Rattle.promises.proofs.Reached.{opens-fresh}
 use Rattle.promises.proofs.HistoryCalls.{Good, good, feeds, takes, puts, makes, afterFeed, afterTake, afterPut, afterNext}
 use Rattle.promises.proofs.HistoryLaws.{no-act-adds, act-adds, act-unseen, front, bytes-next, handed-next}
-use Rattle.promises.proofs.Streams.{stream-count, stream-place, queue-freed, starts-freed}
 use Rattle.promises.proofs.HistoryLayout.{none-for}
 use Rattle.promises.proofs.HistoryBytes.{heldIn, Reading, in-head, in-pay, Tied, tied-fed}
 

@@ -12,6 +12,7 @@ use lib.ListN.{length, getD, getD-replicate}
 use Rattle.base.proofs.Conds.{by-test}
 use Rattle.ring.specs.Ring.{baseOf, stream}
 use Rattle.ring.proofs.Stores.{stream-length}
+use Rattle.ring.proofs.Streams.{stream-count, stream-place, queue-freed, starts-freed, queue-laid}
 use Rattle.wire.specs.declared.segment.Segment.{Segment}
 use Rattle.wire.specs.declared.instances.Side.{Side}
 use Rattle.wire.specs.Instances.{instances, protocolOf, modeOf}
@@ -35,7 +36,6 @@ use Rattle.promises.proofs.Reached.{opens-fresh}
 use Rattle.promises.proofs.SegmentMade.{Made, made-of}
 use Rattle.promises.proofs.HistoryCalls.{Good, good, feeds, takes, puts, makes, afterFeed, afterTake, afterPut, afterNext}
 use Rattle.promises.proofs.HistoryLaws.{no-act-adds, act-adds, act-unseen, put-next, sent-next}
-use Rattle.promises.proofs.Streams.{stream-count, stream-place, queue-freed, starts-freed, queue-laid}
 
 -- ---- whose segment it is
 

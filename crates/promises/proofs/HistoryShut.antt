@@ -1,7 +1,7 @@
 -- After a fault (T15): a closed connection answers 20 and stays closed by the same closing.
 -- Assumes nothing.
 use mathlib.Core.Path.{_≡_, refl, ap, _∙_}
-use mathlib.Core.Bool.{false, true≢false, cond, _&&_}
+use mathlib.Core.Bool.{false, cond, _&&_}
 use mathlib.Core.List.{List, [], _∷_, _++_, flatMap}
 use mathlib.Core.Option.{Option, some}
 use mathlib.Core.Logic.{_≢_}
@@ -11,12 +11,11 @@ use lib.Dec.{eqb, ltb}
 use Rattle.base.proofs.Conds.{by-test, cond-cases}
 use Rattle.wire.specs.Instances.{instances}
 use Rattle.connection.specs.declared.Settings.{Settings}
-use Rattle.connection.specs.declared.Closing.{Closing}
 use Rattle.connection.specs.declared.Closing.the-variants.{Of}
 use Rattle.connection.specs.declared.Gate.{Gate}
-use Rattle.connection.specs.declared.Gate.the-variants.{Open, Closed}
-use Rattle.connection.specs.Closings.{closingOf, isOpen, closedBy}
+use Rattle.connection.specs.Closings.{closingOf, isOpen}
 use Rattle.connection.specs.Parts.{withGate}
+use Rattle.connection.proofs.ClosingLaws.{closed-stays, closed-so}
 use Rattle.feeding.specs.Feeding as feeding
 use Rattle.putting.specs.Putting as putting
 use Rattle.sending.specs.NextSegment as sending
@@ -31,11 +30,6 @@ use Rattle.promises.proofs.HistoryCalls.{Good, good, takes, tells, afte
 use Rattle.promises.proofs.HistoryLaws.{no-act-adds, act-unseen, bytes-next, put-next, segments-next}
 use Rattle.promises.proofs.Reached.{Sound, reached-receives, reached-sends, sound-first, sound-run}
 use Rattle.promises.proofs.HistoryRuns.{on}
-
--- only the first closing is kept
-still : (g : Gate) (x : Closing) → isOpen g ≡ false → closedBy g x ≡ g
-still Open x e = absurd (true≢false e)
-still (Closed y) x e = refl
 
 module _ (w : World) (g : Good w) (closed : isOpen (w .connection .gate) ≡ false) where
   shut-feeds : (xs : List ℕ) → step w (feed xs) ≡ record { world = w; answer = fed 20 0 }
@@ -61,7 +55,7 @@ module _ (w : World) (g : Good w) (closed : isOpen (w .connection .gate) ≡ fal
     where
       of : {x : taking.Told} → Takes (w .connection) (w .receive) i buf x → Leaves ((afterTake w x) .world)
       of (refuses n z y f) = (refl, refl, refl, refl)
-      of (faults n low high h) = (refl, refl, refl, ap closingOf (still (w .connection .gate) _ closed))
+      of (faults n low high h) = (refl, refl, refl, ap closingOf (closed-stays (w .connection .gate) _ closed))
       of (hands n m to h e l b r q) = (refl, refl, refl, refl)
 
   shut-refuses : (i : ℕ) (buf : List ℕ) → (numberOf (step w (take i buf) .answer) ≡ 0 → ⊥) → step w (take i buf) .world ≡ w
@@ -72,7 +66,7 @@ module _ (w : World) (g : Good w) (closed : isOpen (w .connection .gate) ≡ fal
       of (refuses n z y f) ne = refl
       of (faults n low high h) ne =
           ap (λ (q : Gate). record { connection = withGate (w .connection) q; receive = w .receive; send = w .send })
-          (still (w .connection .gate) (Of n i) closed)
+          (closed-stays (w .connection .gate) (Of n i) closed)
       of (hands n m to h e l b r q) ne = absurd (ne refl)
 
   shut : Shut w
@@ -114,10 +108,6 @@ stays w (take j buf) g o = shut-takes w g o j buf .3
 stays w (put j xs) g o = rw (shut-puts w g o j xs)
 stays w (next time buf) g o = rw (shut-makes w g o time buf)
 stays w status g o = rw (tells w)
-
-closed-so : (g : Gate) (x : ℕ × Option ℕ) → closingOf g ≡ some x → isOpen g ≡ false
-closed-so Open x e = absurd (let z : _≡_ {A = ℕ} 0 1 = cc in omega arith)
-closed-so (Closed y) x e = refl
 
 -- the closing is this, and nothing came in, was put or was sent since
 record Since (closing : ℕ × Option ℕ) (past : Past) (w : World) : Type 0 where

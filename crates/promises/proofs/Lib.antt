@@ -2,7 +2,6 @@ pub mod ExampleLaws
 pub mod Ways
 pub mod ReachedFeed
 pub mod ReachedHandshake
-pub mod Streams
 pub mod Reached
 pub mod HistoryLaws
 pub mod SegmentMade

@@ -1,5 +1,11 @@
 -- Every promise is kept: each is proved in a file of its own.
 -- Assumes nothing.
+use Rattle.connection.proofs.Once.{open-once, status-once}
+use Rattle.feeding.proofs.Once as feeding
+use Rattle.taking.proofs.Once as taking
+use Rattle.build.proofs.Once as build
+use Rattle.putting.proofs.Once as putting
+use Rattle.sending.proofs.Once as sending
 use Rattle.promises.specs.Promises.{Promises}
 use Rattle.promises.proofs.ExampleLaws as examples
 use Rattle.promises.proofs.Reached.{in-range-for-ever, never-23}
@@ -15,6 +21,16 @@ use Rattle.promises.proofs.Arrival.{glued, all-there, journey}
 pub promises : Promises
 promises =
     record {
+      contracts =
+          record {
+            opening = open-once;
+            feed = feeding.once;
+            take = taking.once;
+            build = build.once;
+            put = putting.once;
+            next-segment = sending.once;
+            status = status-once;
+          };
       opened = opened;
       glued = glued;
       all-there = all-there;

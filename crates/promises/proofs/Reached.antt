@@ -26,7 +26,7 @@ use Rattle.connection.proofs.RangeLaws.{ranged}
 use Rattle.connection.proofs.NumberLaws as connection
 use Rattle.judging.specs.Judging.{ours, barred}
 use Rattle.feeding.specs.Feeding as feeding
-use Rattle.feeding.specs.Numbers.{Spelt}
+use Rattle.feeding.specs.Numbers.{Spelt, When, out-of-range}
 use Rattle.feeding.proofs.Keeping.{spelt-empty}
 use Rattle.feeding.proofs.NumberLaws as feeding-laws
 use Rattle.taking.specs.Taking as taking
@@ -291,6 +291,9 @@ sound-first s receive send o =
 
 -- ---- no call answers 23
 
+feeds-known : {c : Connection} {st xs : List ℕ} → receives c (length st) ≡ true → When c st xs 23 → ⊥
+feeds-known ok (out-of-range out) = true≢false (sym ok ∙ out)
+
 takes-known : {c : Connection} {store : List ℕ} {i : ℕ} {buf : List ℕ} {t : taking.Told} → Takes c store i buf t → t .answer .number ≡ 23 → ⊥
 takes-known (refuses n z ne f) e = ne e
 takes-known (faults n low high l) e = omega arith
@@ -307,7 +310,7 @@ nexts-known (serves i who room) e = omega arith
 known : {s : Settings} {w : World} → Reached s w → (c : Call) → numberOf (step w c .answer) ≡ 23 → ⊥
 unfolding step
 known {w = w} r (feed xs) e =
-    true≢false (sym (reached-receives r) ∙ feeding-laws.answers (w .connection) (w .receive) xs .0 .out-of-range .0 e)
+    feeds-known (reached-receives r) (feeding-laws.exactly (w .connection) (w .receive) xs 23 .0 e)
 known {w = w} r (take i buf) e = takes-known (take-way (w .connection) (w .receive) i buf (reached-receives r)) e
 known {w = w} r (put i xs) e = puts-known (put-way (w .connection) (w .send) i xs (reached-sends r)) e
 known {w = w} r (next time buf) e = nexts-known (next-way (w .connection) (w .send) time buf (reached-sends r)) e

@@ -22,7 +22,7 @@ use Rattle.ready.specs.Ready.{chosen}
 use Rattle.ready.specs.declared.Choice.the-variants.{Instance}
 use Rattle.connection.specs.declared.Connection.{Connection}
 use Rattle.connection.specs.declared.Closing.the-variants.{Of}
-use Rattle.connection.specs.Closings.{isOpen, closedBy}
+use Rattle.connection.specs.Closings.{isOpen, closedBy, takeFault}
 use Rattle.connection.specs.Parts.{withSending, withGate, firstHeld}
 use Rattle.connection.specs.Ranges.{receives, sends}
 use Rattle.judging.specs.Judging.{stateOf, ours, barred}
@@ -45,7 +45,7 @@ Row p state to = (k : ℕ) × (f : ℕ) × (nextOf p state k f ≡ To to)
 module _ (c : Connection) (store : List ℕ) (i : ℕ) (buf : List ℕ) where
   -- nothing changes; or a fault closes; or a message is handed out, for which the peer had agency and a row
   pub data Takes : taking.Told → Type 0 where
-    refuses : (n : ℕ) → n ≢ 0 → n ≢ 23 → taking.faulty n ≡ false → Takes (taking.told (taking.refused c n) buf)
+    refuses : (n : ℕ) → n ≢ 0 → n ≢ 23 → takeFault n ≡ false → Takes (taking.told (taking.refused c n) buf)
     faults : (n : ℕ) → 14 ≤ n → n ≤ 17 → i < instances → Takes (taking.told (taking.refused (withGate c (closedBy (c .gate) (Of n i))) n) buf)
     hands : (n : ℕ) (m : Message) (to : ℕ) → i < instances → ours (c .settings .side) i (stateOf c i) ≡ false
         → n ≤ getD (c .receiving .held) i 0 → n ≤ length buf → messageOf (speaks i) (firstHeld c store i n) ≡ read m
@@ -61,7 +61,7 @@ module _ (c : Connection) (store : List ℕ) (i : ℕ) (buf : List ℕ) where
       of (taking-laws.unfit q e) = absurd (true≢false (sym r ∙ q))
       of (taking-laws.stays n z k inside e) =
           subst Takes e
-          (cond-cases (λ (t : Taken). Takes (taking.told t buf)) (taking.faulty n)
+          (cond-cases (λ (t : Taken). Takes (taking.told t buf)) (takeFault n)
           (λ f. let (low, high) = taking-laws.among n f in faults n low high (inside f)) (λ f. refuses n z k f))
       of (taking-laws.gone n m to s x l e) =
           subst Takes e (hands n m to (s .awaited .0 .0 .1) (s .awaited .2) (held-within c store i n (s .whole)) l (s .read) x)
@@ -80,13 +80,15 @@ module _ (c : Connection) (store : List ℕ) (i : ℕ) (xs : List ℕ) where
         (putting.told (record { number = 0; connection = putting.queued c i (length xs) (led (length xs) m to) }) (putting.stored c store i xs))
 
   pub put-way : sends c (length store) ≡ true → Puts (putting.putOf c store i xs)
-  put-way r = of (putting-laws.way c store i xs)
+  put-way r = of (putting-laws.way c store i xs .1)
     where
-      of : putting-laws.Way c store i xs → Puts (putting.putOf c store i xs)
-      of (putting-laws.stays n z w e) =
-          subst Puts e (refuses n z (λ q. true≢false (sym r ∙ subst (putting-laws.When c store i xs) q w)))
-      of (putting-laws.gone m to t s x l f e) =
-          subst Puts e (queues m to (t .0 .0 .0 .1) (t .0 .0 .1) (t .0 .1) (t .1) (reads-forms (speaks i) xs m .1 s) x l f)
+      of : {n : ℕ} → putting-laws.Way c store i xs n → Puts (putting.putOf c store i xs)
+      of (putting-laws.unfit q e) = absurd (true≢false (sym r ∙ q))
+      of (putting-laws.stays n z k e) = subst Puts e (refuses n z k)
+      of (putting-laws.gone m to v f e) =
+          let t = v .moves .turn in
+          let reads = reads-forms (speaks i) xs m .1 (v .moves .says) in
+          subst Puts e (queues m to (t .0 .0 .0 .1) (t .0 .0 .1) (t .0 .1) (t .1) reads (v .moves .row) (v .short) f)
 
 -- ---- next segment
 
@@ -108,6 +110,5 @@ module _ (c : Connection) (store : List ℕ) (time : ℕ) (buf : List ℕ) where
   next-way r = of (sending-laws.way c store time buf)
     where
       of : sending-laws.Way c store time buf → Nexts (sending.nextOf c store time buf)
-      of (sending-laws.stays n z w e) =
-          subst Nexts e (refuses n z (λ q. true≢false (sym r ∙ subst (sending-laws.When c store time buf) q w)))
+      of (sending-laws.stays n z k w e) = subst Nexts e (refuses n z (λ q. true≢false (sym r ∙ k q)))
       of (sending-laws.gone i u who l e) = subst Nexts e (serves i who l)

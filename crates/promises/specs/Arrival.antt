@@ -84,8 +84,8 @@ buildWith i p lent = buildOf i (p .kind) (p .numbers) (p .runs) (p .one) (p .two
 pub record Builds (i : ℕ) (p : Parts) (bs : List ℕ) : Type 0 where
   pub slices : (length (p .one) < 2 ^ 64) × (length (p .two) < 2 ^ 64)
   pub lent : List ℕ
-  pub done : buildWith i p lent .built .number ≡ 0
-  pub front : take (buildWith i p lent .built .len) (buildWith i p lent .buffer) ≡ bs
+  pub done : buildWith i p lent .answer .number ≡ 0
+  pub front : take (buildWith i p lent .answer .len) (buildWith i p lent .buffer) ≡ bs
 
 -- A take on instance i is awaited, the bytes held begin with bs, and the message that these are has a row in the present state.
 pub record Awaits (w : World) (i : ℕ) (bs : List ℕ) : Type 0 where

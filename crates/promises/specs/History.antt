@@ -22,9 +22,8 @@ use Rattle.messages.specs.declared.Message.{Message}
 use Rattle.messages.specs.Reading.{messageOf, read, flagOf}
 use Rattle.connection.specs.declared.Settings.{Settings}
 use Rattle.connection.specs.declared.telling.Report.{Report}
-use Rattle.connection.specs.Closings.{closingOf}
+use Rattle.connection.specs.Closings.{closingOf, takeFault}
 use Rattle.judging.specs.Judging.{holds, ours}
-use Rattle.taking.specs.Taking.{faulty}
 use Rattle.connection.specs.Parts.{heldOf}
 use Rattle.promises.specs.Trace.{Event, run, trace}
 use Rattle.promises.specs.Calls as calls
@@ -224,7 +223,7 @@ routed (route.To j) = some j
 -- the refused header, with the instance that it names; and of 14 to 17 from take.
 abbrev pub faultBy : Side → List ℕ → Call → Answer → Option (ℕ × Option ℕ)
 faultBy side bs (calls.feed xs) a = cond (leb 11 (numberOf a) && leb (numberOf a) 13) (some (numberOf a, routed (lastRoute side bs))) none
-faultBy side bs (calls.take j buf) a = cond (faulty (numberOf a)) (some (numberOf a, some j)) none
+faultBy side bs (calls.take j buf) a = cond (takeFault (numberOf a)) (some (numberOf a, some j)) none
 faultBy side bs (calls.put j xs) a = none
 faultBy side bs (calls.next time buf) a = none
 faultBy side bs calls.status a = none

@@ -1,3 +1,4 @@
+pub mod Contracts
 pub mod Promises
 pub mod Examples
 pub mod Trace

@@ -1,5 +1,6 @@
 -- What the front promises over several calls. Each that speaks of calls holds after every list of calls from an open answered 0 on (`Calls`), where
 -- the caller hands record and stores back untouched. This is the file to open first; the words of each promise stand at its statement.
+use Rattle.promises.specs.Contracts.{Contracts}
 use Rattle.promises.specs.Examples.{Examples}
 use Rattle.promises.specs.Calls.{SomeOpened}
 use Rattle.promises.specs.Reached.{InRangeForEver, Never23}
@@ -9,6 +10,8 @@ use Rattle.promises.specs.Alone.{Alone, Alike}
 use Rattle.promises.specs.Arrival.{Glued, AllThere, BuiltIsTaken, Journey, SomeDue}
 
 pub record Promises : Type 0 where
+  -- T1: each contract determines the answer, the next state and each lent byte, on every input
+  pub contracts : Contracts
   -- what the others suppose is met: there is an open answered 0
   pub opened : SomeOpened
   -- T9 (c): what is put at one end is what the other end was handed and holds, what is in flight and what waits; and a message that was built, put,

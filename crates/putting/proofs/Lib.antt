@@ -1,2 +1,3 @@
 pub mod PuttingLaws
 pub mod NumberLaws
+pub mod Once

@@ -1,4 +1,4 @@
--- Laws of put: the area of an instance is in the store, and each way out of the code is the definition.
+-- Laws of put: what waits of an instance is little, and each way out of the code is the definition.
 -- Assumes nothing.
 use mathlib.Core.Path.{_≡_, sym, _∙_}
 use mathlib.Core.Bool.{true, false, _&&_}
@@ -10,8 +10,6 @@ use lib.Dec.{eqb, ltb, leb}
 use lib.ListN.{length, getD}
 use borrow.Author.Tests.{eq-eqb, ne-eqb, lt-ltb, le-ltb, leb-true}
 use Rattle.base.proofs.Conds.{by-test}
-use Rattle.ring.specs.Ring.{baseOf}
-use Rattle.ring.proofs.Areas.{area-in-store}
 use Rattle.wire.specs.Instances.{instances}
 use Rattle.rows.specs.Spoken.{speaks}
 use Rattle.connection.specs.declared.Connection.{Connection}
@@ -37,10 +35,6 @@ module _ (c : Connection) (i : ℕ) (xs : List ℕ) (n : ℕ) (e : n ≡ earlyOf
 -- ---- the area of an instance
 
 module _ (c : Connection) (store : List ℕ) (i : ℕ) (l : InSend c store i) where
-  -- it is in the store
-  pub area-lent : length (c .settings .send) ≡ instances → baseOf (c .settings .send) i + getD (c .settings .send) i 0 ≤ length store
-  area-lent long = area-in-store store (c .settings .send) i (sends-both c (length store) (l .0) .1) (omega (arith, l .1))
-
   -- where its bytes begin, and how many wait, are small numbers
   pub area-small : (getD (c .sending .starts) i 0 < 2 ^ 32) × (getD (c .sending .waiting) i 0 < 2 ^ 32)
   area-small =

@@ -5,7 +5,7 @@ use mathlib.Core.Bool.{true, false}
 use mathlib.Core.List.{List}
 use mathlib.Core.Logic.{_↔_}
 use lib.ListN.{length, getD}
-use Rattle.wire.specs.Instances.{instances}
+use Rattle.wire.specs.Instances.{instances, handshake}
 use Rattle.rows.specs.declared.Next.the-variants.{To, None}
 use Rattle.rows.specs.Spoken.{speaks}
 use Rattle.messages.specs.declared.Message.{Message}
@@ -35,47 +35,45 @@ Allowed c store i = Unclosed c store i × (barred (c .talk) i ≡ false)
 abbrev pub OurTurn : Connection → List ℕ → ℕ → Type 0
 OurTurn c store i = Allowed c store i × (ours (c .settings .side) i (stateOf c i) ≡ true)
 
--- and the bytes are a message of the protocol that has a row in the present state
-abbrev pub Moves : Connection → List ℕ → ℕ → List ℕ → Type 0
-Moves c store i xs = OurTurn c store i × ((m : Message) × Says (speaks i) xs m × ((next : ℕ) × (leadsTo c i m ≡ To next)))
+-- and the bytes are a message of the protocol, which says m and has a row in the present state, to next
+pub record Moves (c : Connection) (store : List ℕ) (i : ℕ) (xs : List ℕ) (m : Message) (next : ℕ) : Type 0 where
+  pub turn : OurTurn c store i
+  pub says : Says (speaks i) xs m
+  pub row : leadsTo c i m ≡ To next
 
 -- and it is not a Handshake message above S
-abbrev pub InOneSegment : Connection → List ℕ → ℕ → List ℕ → Type 0
-InOneSegment c store i xs = Moves c store i xs × (i ≡ 0 → length xs ≤ c .settings .limit)
+pub record InOneSegment (c : Connection) (store : List ℕ) (i : ℕ) (xs : List ℕ) (m : Message) (next : ℕ) : Type 0 where
+  pub moves : Moves c store i xs m next
+  pub short : i ≡ handshake → length xs ≤ c .settings .limit
 
 -- ---- the numbers
 
--- T2: 23 before all others; 10; 20 if closed; 19; 21 if not our agency, or Done; 15 if the bytes are not a message of the protocol; 16 if the
--- message has no row; 24 for a Handshake message above S; 22 if waiting bytes and message are above the capacity; else 0
-pub record Numbers (c : Connection) (store : List ℕ) (i : ℕ) (xs : List ℕ) : Type 0 where
-  pub n23 : (putOf c store i xs .answer .number ≡ 23) ↔ (sends c (length store) ≡ false)
-  pub n10 : (putOf c store i xs .answer .number ≡ 10) ↔ ((sends c (length store) ≡ true) × (instances ≤ i))
-  pub n20 : (putOf c store i xs .answer .number ≡ 20) ↔ (InSend c store i × (isOpen (c .gate) ≡ false))
-  pub n19 : (putOf c store i xs .answer .number ≡ 19) ↔ (Unclosed c store i × (barred (c .talk) i ≡ true))
-  pub n21 : (putOf c store i xs .answer .number ≡ 21) ↔ (Allowed c store i × (ours (c .settings .side) i (stateOf c i) ≡ false))
-  pub n15 : (putOf c store i xs .answer .number ≡ 15) ↔ (OurTurn c store i × ((m : Message) → Says (speaks i) xs m → ⊥))
-  pub n16 : (putOf c store i xs .answer .number ≡ 16)
-      ↔ (OurTurn c store i × ((m : Message) × Says (speaks i) xs m × (leadsTo c i m ≡ None)))
-  pub n24 : (putOf c store i xs .answer .number ≡ 24) ↔ (Moves c store i xs × (i ≡ 0) × (c .settings .limit < length xs))
-  pub n22 : (putOf c store i xs .answer .number ≡ 22)
-      ↔ (InOneSegment c store i xs × (getD (c .settings .send) i 0 < getD (c .sending .waiting) i 0 + length xs))
-  pub n0 : (putOf c store i xs .answer .number ≡ 0)
-      ↔ (InOneSegment c store i xs × (getD (c .sending .waiting) i 0 + length xs ≤ getD (c .settings .send) i 0))
+-- T2: when each number is answered, in document 01's order
+pub data When (c : Connection) (store : List ℕ) (i : ℕ) (xs : List ℕ) : ℕ → Type 0 where
+  out-of-range : sends c (length store) ≡ false → When c store i xs 23
+  no-instance : sends c (length store) ≡ true → instances ≤ i → When c store i xs 10
+  closed : InSend c store i → isOpen (c .gate) ≡ false → When c store i xs 20
+  no-accept : Unclosed c store i → barred (c .talk) i ≡ true → When c store i xs 19
+  -- not our agency, or Done
+  not-our-turn : Allowed c store i → ours (c .settings .side) i (stateOf c i) ≡ false → When c store i xs 21
+  no-message : OurTurn c store i → ((m : Message) → Says (speaks i) xs m → ⊥) → When c store i xs 15
+  no-row : {m : Message} → OurTurn c store i → Says (speaks i) xs m → leadsTo c i m ≡ None → When c store i xs 16
+  -- a Handshake message above S
+  above-limit : {m : Message} {next : ℕ} → Moves c store i xs m next → i ≡ handshake → c .settings .limit < length xs → When c store i xs 24
+  -- waiting bytes and message above the capacity
+  above-capacity : {m : Message} {next : ℕ} → InOneSegment c store i xs m next
+      → getD (c .settings .send) i 0 < getD (c .sending .waiting) i 0 + length xs → When c store i xs 22
+  done : {m : Message} {next : ℕ} → InOneSegment c store i xs m next
+      → getD (c .sending .waiting) i 0 + length xs ≤ getD (c .settings .send) i 0 → When c store i xs 0
 
 abbrev pub Exactly : Type 0
-Exactly = (c : Connection) (store : List ℕ) (i : ℕ) (xs : List ℕ) → Numbers c store i xs
+Exactly = (c : Connection) (store : List ℕ) (i : ℕ) (xs : List ℕ) (n : ℕ) → (putOf c store i xs .answer .number ≡ n) ↔ When c store i xs n
 
 -- T3: with any number but 0, record and store are as they were; what 0 leaves is in the contract
 abbrev pub Untouched : Type 0
 Untouched =
     (c : Connection) (store : List ℕ) (i : ℕ) (xs : List ℕ) (r : Queued) (after : List ℕ) → told r after ≡ putOf c store i xs
     → (r .number ≡ 0 → ⊥) → (r .connection ≡ c) × (after ≡ store)
-
--- T1: the contract leaves one answer, one record and one store
-abbrev pub Once : Type 0
-Once =
-    (c : Connection) (store : List ℕ) (i : ℕ) (xs : List ℕ) (r r′ : Queued) (after after′ : List ℕ)
-    → told r after ≡ putOf c store i xs → told r′ after′ ≡ putOf c store i xs → (r ≡ r′) × (after ≡ after′)
 
 -- in range with its store again, with the same settings
 pub record Kept (c : Connection) (store : List ℕ) (t : Told) : Type 0 where

@@ -4,13 +4,13 @@ use mathlib.Core.Bool.{cond, _&&_}
 use mathlib.Core.List.{List}
 use lib.Dec.{eqb, leb, ltb}
 use lib.ListN.{length, getD, set}
-use Rattle.ring.specs.Ring.{baseOf, laid}
-use Rattle.wire.specs.Instances.{instances}
+use Rattle.wire.specs.Instances.{instances, handshake}
 use Rattle.rows.specs.Spoken.{speaks}
 use Rattle.connection.specs.declared.Sending.{Sending}
 use Rattle.connection.specs.declared.Connection.{Connection}
 use Rattle.connection.specs.Closings.{isOpen}
 use Rattle.connection.specs.Ranges.{sends}
+use Rattle.connection.specs.Areas.{laidIn}
 use Rattle.connection.specs.Parts.{withSending, withTalk}
 use Rattle.judging.specs.declared.Judged.{Judged}
 use Rattle.judging.specs.Judging.{stateOf, ours, barred, movedBy, unjudged, judgedOf}
@@ -44,7 +44,7 @@ judgeOf c i xs = cond (eqb (earlyOf c i) 0) (judgedOf (speaks i) (stateOf c i) x
 -- 24, a Handshake message above S; 22, waiting bytes plus message above the send capacity; and else 0
 abbrev pub roomOf : Connection → ℕ → ℕ → ℕ
 roomOf c i n =
-    cond (eqb i 0 && ltb (c .settings .limit) n) 24
+    cond (eqb i handshake && ltb (c .settings .limit) n) 24
     (cond (leb (getD (c .sending .waiting) i 0 + n) (getD (c .settings .send) i 0)) 0 22)
 
 -- n bytes more wait
@@ -57,9 +57,7 @@ queued c i n j = withTalk (withSending c (longerOf (c .sending) i n)) (movedBy (
 
 -- the message's bytes follow those that wait, in the stream of the instance
 abbrev pub stored : Connection → List ℕ → ℕ → List ℕ → List ℕ
-stored c store i xs =
-    let caps = c .settings .send in
-    laid store (baseOf caps i) (getD caps i 0) (getD (c .sending .starts) i 0 + getD (c .sending .waiting) i 0) xs
+stored c store i xs = laidIn (c .settings .send) store i (getD (c .sending .starts) i 0 + getD (c .sending .waiting) i 0) xs
 
 -- 24; 22; then queued
 unfoldable pub queue : Connection → List ℕ → ℕ → List ℕ → Judged → Told

@@ -4,6 +4,7 @@
 // record and every byte of the send store, on every input.
 use connection::Connection;
 use connection::Sending;
+use connection::areas::write;
 use connection::parts::at;
 use connection::parts::changed;
 use connection::parts::is_open;
@@ -12,6 +13,7 @@ use connection::parts::with_talk;
 use connection::range::fits;
 use connection::range::sends;
 use judging::Judged;
+use wire::instances::HANDSHAKE;
 use wire::instances::INSTANCES;
 ghost use mathlib.Core.Path.{_≡_};
 ghost use Prim.Native.Nat.{_+_, _<_, _^_};
@@ -74,7 +76,7 @@ fn room(c: Connection, i: usize, n: u64) -> u64
     let sending = c.sending;
     let waiting = sending.waiting;
     let area = base::choose(fits(at(waiting, i), n, at(caps, i)), 0, 22);
-    base::choose(base::and(i == 0, settings.limit < n), 24, area)
+    base::choose(base::and(i == HANDSHAKE, settings.limit < n), 24, area)
 }
 
 // n bytes of instance i wait behind those that wait. Both are few, so that their sum fits.
@@ -114,10 +116,8 @@ fn lay(c: Connection, store: &mut [u8], i: usize, message: &[u8])
     let sending = c.sending;
     let starts = sending.starts;
     let waiting = sending.waiting;
-    let base = ring::base_of(&caps, i);
-    let cap = at(caps, i) as usize;
-    let end = (at(starts, i) + at(waiting, i)) as usize;
-    ring::write(store, base, cap, end, message, 0, message.len());
+    let end = at(starts, i) + at(waiting, i);
+    write(store, &caps, i, end, message, 0, message.len());
 }
 
 // The message that was judged is queued, if there is room for it.

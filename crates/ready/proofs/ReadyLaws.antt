@@ -6,7 +6,7 @@ use mathlib.Core.List.{List, [], _∷_}
 use Prim.Native.Nat.{ℕ, zero, suc, _+_, _-_, _*_, _/_, _%_, _^_, _<_, _≤_}
 use native.Mathlib.Omega.{arith}
 use native.Mathlib.Numerals.{add-one, one-add, sub-one}
-use native.Mathlib.Nat.{suc-add, pow-suc, pow-succ', pow-le-pow-right, div-one, div-div-eq-div-mul}
+use native.Mathlib.Nat.{add-zero, add-suc, suc-add, pow-suc, pow-succ', pow-le-pow-right, div-one, div-div-eq-div-mul}
 use lib.Dec.{eqb, ltb, lit<}
 use lib.ListN.{length, getD, drop, length-drop, List·getD-eq-default}
 use lib.Count.{ones, ones-step, trailingZeros, under}
@@ -78,6 +78,20 @@ pub lowest-none : (i : ℕ) (ws : List ℕ) → wordOf ws ≡ 0 → lowestFrom i
 unfolding wordOf lowestFrom
 lowest-none i [] z = refl
 lowest-none i (w ∷ ws) z = none-at (eqb w 0) (wordOf ws) i (lowestFrom (suc i) ws) (lowest-none (suc i) ws) z
+
+-- where no count has any, no bit is set
+pub word-none : (ws : List ℕ) → ((j : ℕ) → j < length ws → getD ws j 0 ≡ 0) → wordOf ws ≡ 0
+unfolding wordOf
+word-none [] h = refl
+word-none (w ∷ ws) h = rw (h 0 (omega arith), word-none ws (λ j p. h (suc j) (omega arith)))
+
+-- the first count that has any is the lowest
+pub lowest-at : (k : ℕ) (ws : List ℕ) (i : ℕ) → i < length ws → 0 < getD ws i 0 → ((j : ℕ) → j < i → getD ws j 0 ≡ 0) → lowestFrom k ws ≡ k + i
+unfolding lowestFrom
+lowest-at k [] i l some h = absurd (omega arith)
+lowest-at k (x ∷ ws) zero l some h = rw (ne-eqb x 0 (λ e. omega arith), add-zero)
+lowest-at k (x ∷ ws) (suc i) l some h =
+    rw (eq-eqb x 0 (h 0 (omega arith))) (lowest-at (suc k) ws i (omega arith) some (λ j p. h (suc j) (omega arith)) ∙ rw (suc-add, ← add-suc))
 
 -- some bit is set: the lowest is the first that is ready
 some-at : (t : Bool) (n z i f : ℕ) → ((n ≡ 0 → ⊥) → z + suc i ≡ f) → (2 * n + cond t 0 1 ≡ 0 → ⊥) → under (cond t 0 1) z + i ≡ cond t f i

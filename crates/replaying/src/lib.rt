@@ -1,15 +1,14 @@
 // A script of calls, run on one front: each line is read, its call made, and its answer printed, as docs/REPLAY.md fixes.
 //
 // The desk is what goes from line to line. The stores, the lent buffer, the line and the buffer for answers are lent.
+use base::smaller;
 use connection::Connection;
 use connection::Settings;
 use connection::opening;
 use wire::instances::INSTANCES;
 use wire::instances::Side;
-ghost use Prim.Native.Nat.{_≤_};
 ghost use Rattle.io.specs.Counts.{Counts};
 
-pub mod answering;
 pub mod calls;
 pub mod reading;
 
@@ -89,19 +88,12 @@ fn counted(d: Desk) -> Desk {
 fn lent(n: usize, s: &[u8]) -> usize
     ensures { λ r. ⌜ Counts r (now (s .entry)) ⌝ }
 {
-    least(n, s.len())
+    smaller(n, s.len())
 }
 
 // The same of numbers.
-fn first(n: usize, s: &[u64]) -> usize
-    ensures { λ r. ⌜ Counts r (now (s .entry)) ⌝ }
+fn first(n: usize, numbers: &[u64]) -> usize
+    ensures { λ r. ⌜ Counts r (now (numbers .entry)) ⌝ }
 {
-    least(n, s.len())
-}
-
-// The smaller of two numbers.
-fn least(a: usize, b: usize) -> usize
-    ensures { λ r. ⌜ (r ≤ a) × (r ≤ b) ⌝ }
-{
-    if a < b { a } else { b }
+    smaller(n, numbers.len())
 }

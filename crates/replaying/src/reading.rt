@@ -6,17 +6,19 @@ use crate::LINE;
 use crate::STORE;
 use crate::calls;
 use crate::counted;
-use crate::least;
 use crate::lent;
+use base::smaller;
 use libc::STDIN_FILENO;
-ghost use mathlib.Core.Path.{_≡_};
-ghost use Prim.Native.Nat.{_+_, min};
+use script::Word;
 
-// The desk; how many characters of a line are in, at most one more than a line may have; and whether the script has ended.
-pub struct Read {
-    pub desk: Desk,
-    pub filled: usize,
-    pub ended: bool,
+// What was read and is not gathered yet, from a place on up to another; how many characters of a line are in, at most one
+// more than a line may have; whether the line is whole; and whether the script has ended.
+struct Read {
+    at: usize,
+    to: usize,
+    filled: usize,
+    whole: bool,
+    ended: bool,
 }
 
 // Runs the script on standard input to its end, with the stores, a line, the lent buffer, and buffers for answers and for
@@ -45,175 +47,148 @@ fn run_from(
     out: &mut [u8],
     space: &mut [u8],
 ) {
-    let mut read = begun(d, 0);
+    let mut state = begun(d);
     let mut turns = u64::MAX;
     while 0 < turns {
         turns -= 1;
-        read = some(read, receive, send, line, buf, out, space);
-        if read.ended {
+        state = turn(state, receive, send, line, buf, out, space);
+        if state.ended {
             return;
         }
     }
 }
 
-// A line that has so many characters until now.
-fn begun(d: Desk, filled: usize) -> Read {
-    Read {
+// The desk, what was read, and whether the script has ended.
+struct State {
+    desk: Desk,
+    read: Read,
+    ended: bool,
+}
+
+fn begun(d: Desk) -> State {
+    let read = nothing();
+    State {
         desk: d,
-        filled,
+        read,
         ended: false,
     }
 }
 
-// Reads once, and runs the lines that end there.
-fn some(
-    r: Read,
+// A step of reading, and the call of a line that is whole by it.
+fn turn(
+    t: State,
     receive: &mut [u8],
     send: &mut [u8],
     line: &mut [u8],
     buf: &mut [u8],
     out: &mut [u8],
     space: &mut [u8],
-) -> Read {
-    let n = io::count(libc::read(STDIN_FILENO, space), space);
-    if n == 0 {
-        return rest(r, receive, send, line, buf, out);
+) -> State {
+    let before = t.read;
+    let read = some(before, line, space);
+    let d = t.desk;
+    let desk = one(d, receive, send, line, read, buf, out);
+    State {
+        desk,
+        read,
+        ended: read.ended,
     }
-    each(r, receive, send, line, buf, out, &space[..n])
 }
 
-// The last line may lack its line feed.
-fn rest(
-    r: Read,
-    receive: &mut [u8],
-    send: &mut [u8],
-    line: &mut [u8],
-    buf: &mut [u8],
-    out: &mut [u8],
-) -> Read {
-    let d = r.desk;
+// Before the first character.
+fn nothing() -> Read {
     Read {
-        desk: last(d, receive, send, line, r.filled, buf, out),
+        at: 0,
+        to: 0,
         filled: 0,
-        ended: true,
+        whole: false,
+        ended: false,
     }
 }
 
-fn last(
-    d: Desk,
-    receive: &mut [u8],
-    send: &mut [u8],
-    line: &mut [u8],
-    n: usize,
-    buf: &mut [u8],
-    out: &mut [u8],
-) -> Desk {
-    if n == 0 {
-        return d;
+// Gathers what was read, up to the end of a line, or reads more.
+fn some(r: Read, line: &mut [u8], space: &mut [u8]) -> Read {
+    if r.at < r.to {
+        return on(r, line, space);
     }
-    one(counted(d), receive, send, line, n, buf, out)
+    more(r, space)
 }
 
-// The lines that end in a run of bytes, and the beginning of the one that does not.
-fn each(
-    r: Read,
-    receive: &mut [u8],
-    send: &mut [u8],
-    line: &mut [u8],
-    buf: &mut [u8],
-    out: &mut [u8],
-    bytes: &[u8],
-) -> Read {
-    let mut read = r;
-    let mut from: usize = 0;
-    while from < bytes.len() {
-        let to = script::end(bytes, from, b'\n');
-        let next = behind(to, bytes.len());
-        read = up_to(
-            read,
-            receive,
-            send,
-            line,
-            buf,
-            out,
-            &bytes[from..to],
-            to < bytes.len(),
-        );
-        from = next;
+// How many characters the line has before more are gathered: none after a whole one.
+fn before(r: Read) -> usize {
+    if r.whole {
+        return 0;
     }
-    read
+    r.filled
+}
+
+// Reads once. At the end of the script a last line may lack its line feed.
+fn more(r: Read, space: &mut [u8]) -> Read {
+    let n = io::count(libc::read(STDIN_FILENO, space), space);
+    let filled = before(r);
+    Read {
+        at: 0,
+        to: n,
+        filled,
+        whole: base::and(n == 0, 0 < filled),
+        ended: n == 0,
+    }
+}
+
+// Gathers what was read, up to a line feed or to its end.
+fn on(r: Read, line: &mut [u8], space: &[u8]) -> Read {
+    let read = script::text(space, Word { from: 0, to: r.to });
+    let w = script::part(read, r.at, b'\n');
+    let n = read.len();
+    Read {
+        at: behind(w.to, n),
+        to: r.to,
+        filled: gather(line, before(r), script::text(read, w)),
+        whole: w.to < n,
+        ended: false,
+    }
 }
 
 // The place behind a line feed, or the end.
-fn behind(to: usize, n: usize) -> usize
-    ensures { λ r. ⌜ r ≡ min (to + 1) n ⌝ }
-{
+fn behind(to: usize, n: usize) -> usize {
     if to < n { to + 1 } else { n }
-}
-
-// The bytes of a line up to its end, if it ends here.
-fn up_to(
-    r: Read,
-    receive: &mut [u8],
-    send: &mut [u8],
-    line: &mut [u8],
-    buf: &mut [u8],
-    out: &mut [u8],
-    bytes: &[u8],
-    ended: bool,
-) -> Read {
-    let filled = gather(line, r.filled, bytes);
-    let d = r.desk;
-    if ended {
-        return whole(d, receive, send, line, filled, buf, out);
-    }
-    begun(d, filled)
-}
-
-// A whole line is run, and the next begins.
-fn whole(
-    d: Desk,
-    receive: &mut [u8],
-    send: &mut [u8],
-    line: &mut [u8],
-    n: usize,
-    buf: &mut [u8],
-    out: &mut [u8],
-) -> Read {
-    begun(one(counted(d), receive, send, line, n, buf, out), 0)
 }
 
 // Puts bytes behind those of the line, as far as it may have them, and answers how many there are now, with one more
 // for a line that is too long.
 fn gather(line: &mut [u8], filled: usize, bytes: &[u8]) -> usize {
-    let at = least(filled, line.len());
-    let k = least(bytes.len(), line.len() - at);
+    let at = smaller(filled, line.len());
+    let k = smaller(bytes.len(), line.len() - at);
     ring::copy(line, at, bytes, 0, k);
     if k < bytes.len() {
         return LINE + 1;
     }
-    least(filled, LINE + 1) + k
+    smaller(filled, LINE + 1) + k
 }
 
-// Runs a line of n characters.
+// Runs a line if it is whole.
 fn one(
     d: Desk,
     receive: &mut [u8],
     send: &mut [u8],
     line: &mut [u8],
-    n: usize,
+    r: Read,
     buf: &mut [u8],
     out: &mut [u8],
 ) -> Desk {
+    if !r.whole {
+        return d;
+    }
+    spoil(line, r.filled);
+    let k = lent(r.filled, line);
+    calls::call(counted(d), receive, send, &mut line[..k], buf, out)
+}
+
+// A line that is too long is no call: it gets a first character that begins none.
+fn spoil(line: &mut [u8], n: usize) {
     if line.len() < n {
-        return calls::bad(d, out);
+        if 0 < line.len() {
+            line[0] = b'?';
+        }
     }
-    if n == 0 {
-        return d;
-    }
-    if line[0] == b'#' {
-        return d;
-    }
-    let k = lent(n, line);
-    calls::call(d, receive, send, &mut line[..k], buf, out)
 }

@@ -1,1 +1,2 @@
+pub mod ByProtocol
 pub mod RowLaws

@@ -1,51 +1,24 @@
--- Laws of the rows: where a protocol's rows lie in the table, and a search along them.
+-- Laws of the rows: what a row's columns say, the searches along them, and T8.
 -- Assumes nothing.
-use mathlib.Core.Path.{_≡_, refl, sym, ap, subst, _∙_}
-use mathlib.Core.Bool.{Bool, true, false, cond, not, _&&_, _||_}
-use mathlib.Core.List.{List, [], _∷_, _++_, map}
-use Prim.Native.Nat.{ℕ, zero, suc, _+_, _-_, _<_, _≤_}
+use mathlib.Core.Path.{_≡_, refl, ap, subst}
+use mathlib.Core.Bool.{Bool, true, cond, not, _&&_, _||_}
+use mathlib.Core.List.{List, [], _∷_, map}
+use Prim.Native.Nat.{ℕ, suc, _+_, _<_, _≤_}
 use native.Mathlib.Omega.{arith}
-use native.Mathlib.Numerals.{add-one}
 use lib.Dec.{T, eqb, leb, ltb, eqb→eq, leb→le, ltb→lt, eqb·suc-suc, eqb·zero-suc}
-use lib.ListN.{length, getD, take, drop, length-map}
-use lib.Seq.{drop-cons}
+use lib.ListN.{length, getD}
 use borrow.Author.Tests.{ne-eqb}
 use Rattle.base.proofs.Conds.{by-test, and-left, and-right}
 use Rattle.base.proofs.ListLaws.{getD-map}
 use Rattle.base.proofs.Table.{every, at}
 use Rattle.rows.specs.declared.Protocol.{Protocol}
-use Rattle.rows.specs.declared.Protocol.the-variants.{Handshake, ChainSync, BlockFetch, TxSubmission, KeepAlive}
 use Rattle.rows.specs.declared.Agency.{Agency}
 use Rattle.rows.specs.declared.Agency.the-variants.{Initiator, Responder, Nobody}
 use Rattle.rows.specs.declared.Next.{Next}
 use Rattle.rows.specs.declared.Next.the-variants.{To, None}
 use Rattle.rows.specs.Rows.{State, Done, Row, states, doneOf, rowsOf, rowIn, Thirty, fits, nextIn, nextOf, agencyIn, agencyOf, placeIn}
-use Rattle.rows.specs.Inside.{placeOf, protocols, rowsUpTo, allRows, firstOf, countOf, rowCount, rowAt, holder, mark, columns}
-
--- a table by protocol
-pub by-protocol : (f : Protocol → ℕ) (p : Protocol) → getD (map f protocols) (placeOf p) 0 ≡ f p
-by-protocol f Handshake = refl
-by-protocol f ChainSync = refl
-by-protocol f BlockFetch = refl
-by-protocol f TxSubmission = refl
-by-protocol f KeepAlive = refl
-
--- a protocol's rows in the table
-rows-at : (p : Protocol) → take (countOf p) (drop (firstOf p) allRows) ≡ rowsOf p
-unfolding rowsUpTo placeIn
-rows-at Handshake = refl
-rows-at ChainSync = refl
-rows-at BlockFetch = refl
-rows-at TxSubmission = refl
-rows-at KeepAlive = refl
-
-pub rows-end : (p : Protocol) → firstOf p + countOf p ≤ rowCount
-unfolding rowsUpTo placeIn
-rows-end Handshake = omega arith
-rows-end ChainSync = omega arith
-rows-end BlockFetch = omega arith
-rows-end TxSubmission = omega arith
-rows-end KeepAlive = omega arith
+use Rattle.rows.proofs.ByProtocol.{each-protocol, Search}
+use Rattle.rows.specs.Inside.{entries, allRows, rowCount, rowAt, holder, mark, columns}
 
 -- what stands past the table's end
 abbrev nothing : Row
@@ -55,50 +28,29 @@ nothing = record { state = 0; agency = Nobody; kind = 0; flag = 0; next = 0 }
 pub row-at : (i : ℕ) → i < rowCount → getD (map columns allRows) i [] ≡ columns (rowAt i)
 row-at i h = getD-map columns allRows i nothing [] h
 
--- ---- a search along the rows from i up to the end e
-
-abbrev pub between : ℕ → ℕ → List Row
-between i e = take (e - i) (drop i allRows)
-
-between-more : (i e : ℕ) → i < e → e ≤ rowCount → between i e ≡ rowAt i ∷ between (i + 1) e
-between-more i e h l =
-    let n : e - i ≡ suc (e - (i + 1)) = omega arith in
-    rw (n, add-one i, drop-cons allRows i nothing (omega arith))
-
--- from a protocol's first row, as many as it has
-pub between-all : (p : Protocol) (a n : ℕ) → a ≡ firstOf p → n ≡ countOf p → between a (a + n) ≡ rowsOf p
-between-all p a n e f =
-    let k : a + n - a ≡ n = omega arith in
-    rw (k, e, f) (rows-at p)
-
-pub between-none : (i : ℕ) → between i i ≡ []
-between-none i = let z : i - i ≡ 0 = omega arith in rw z
-
-module _ (i e : ℕ) (h : i < e) (l : e ≤ rowCount) where
-  -- a search for where a message leads
-  pub leads : (s k f : ℕ) → fits s k f (rowAt i) ≡ true → nextIn s k f (between i e) ≡ To (rowAt i .next)
+-- the two searches along the rows: for where a message leads, and for who may send
+module _ (s k f : ℕ) where
+  pub each-next : (r : Row) (rs : List Row) → nextIn s k f (r ∷ rs) ≡ cond (fits s k f r) (To (r .next)) (nextIn s k f rs)
   unfolding nextIn
-  leads s k f t = rw (between-more i e h l, t)
+  each-next r rs = refl
 
-  pub leads-on : (s k f : ℕ) → fits s k f (rowAt i) ≡ false → nextIn s k f (between i e) ≡ nextIn s k f (between (i + 1) e)
-  unfolding nextIn
-  leads-on s k f t = rw (between-more i e h l, t)
+  abbrev pub leading : Search Row Next
+  leading = record { past = nothing; test = fits s k f; said = λ r. To (r .next); along = nextIn s k f; each = each-next }
 
-  -- a search for who may send
-  pub holds : (s : ℕ) → eqb (rowAt i .state) s ≡ true → agencyIn s (between i e) ≡ rowAt i .agency
+module _ (s : ℕ) where
+  pub each-agent : (r : Row) (rs : List Row) → agencyIn s (r ∷ rs) ≡ cond (eqb (r .state) s) (r .agency) (agencyIn s rs)
   unfolding agencyIn
-  holds s t = rw (between-more i e h l, t)
+  each-agent r rs = refl
 
-  pub holds-on : (s : ℕ) → eqb (rowAt i .state) s ≡ false → agencyIn s (between i e) ≡ agencyIn s (between (i + 1) e)
-  unfolding agencyIn
-  holds-on s t = rw (between-more i e h l, t)
+  abbrev pub holding : Search Row Agency
+  holding = record { past = nothing; test = λ r. eqb (r .state) s; said = λ r. r .agency; along = agencyIn s; each = each-agent }
 
 -- no row has nobody's agency
 held : (a : Agency) → Bool
 held a = leb (mark a) 1
 
 all-held : T (every nothing (λ i r. held (r .agency)) 0 allRows)
-unfolding held rowsUpTo placeIn
+unfolding held entries placeIn
 all-held = tt
 
 holder-mark : (a : Agency) → T (held a) → holder (mark a) ≡ a
@@ -154,36 +106,20 @@ module _ (p : Protocol) where
 
 all-alone : (p : Protocol) → T (every nothing (alone p) 0 (rowsOf p))
 unfolding alone placeIn
-all-alone Handshake = tt
-all-alone ChainSync = tt
-all-alone BlockFetch = tt
-all-alone TxSubmission = tt
-all-alone KeepAlive = tt
+all-alone = each-protocol (λ p. every nothing (alone p) 0 (rowsOf p)) tt
 
 all-sound : (p : Protocol) → T (every nothing (sound p) 0 (rowsOf p))
 unfolding sound placeIn agencyIn nextIn reached sameAgency
-all-sound Handshake = tt
-all-sound ChainSync = tt
-all-sound BlockFetch = tt
-all-sound TxSubmission = tt
-all-sound KeepAlive = tt
+all-sound = each-protocol (λ p. every nothing (sound p) 0 (rowsOf p)) tt
 
 all-agents : (p : Protocol) → T (every Done (agents p) 0 (states p))
 unfolding agents placeIn agencyIn sameAgency
-all-agents Handshake = tt
-all-agents ChainSync = tt
-all-agents BlockFetch = tt
-all-agents TxSubmission = tt
-all-agents KeepAlive = tt
+all-agents = each-protocol (λ p. every Done (agents p) 0 (states p)) tt
 
 -- the states are those up to Done
 all-states : (p : Protocol) → length (states p) ≡ doneOf p + 1
 unfolding placeIn
-all-states Handshake = refl
-all-states ChainSync = refl
-all-states BlockFetch = refl
-all-states TxSubmission = refl
-all-states KeepAlive = refl
+all-states p = eqb→eq (length (states p)) (doneOf p + 1) (each-protocol (λ q. eqb (length (states q)) (doneOf q + 1)) tt p)
 
 module _ (p : Protocol) (i : ℕ) (h : i < length (rowsOf p)) where
   abbrev r : Row
@@ -236,12 +172,8 @@ only (r ∷ rs) s k f n e =
     (λ t. later r rs s k f n (only rs s k f n (rw t at e)))
 
 ended : (p : Protocol) → agencyOf p (doneOf p) ≡ Nobody
-unfolding placeIn agencyIn
-ended Handshake = refl
-ended ChainSync = refl
-ended BlockFetch = refl
-ended TxSubmission = refl
-ended KeepAlive = refl
+unfolding placeIn agencyIn sameAgency
+ended p = same-agency (agencyOf p (doneOf p)) Nobody (each-protocol (λ q. sameAgency (agencyOf q (doneOf q)) Nobody) tt p)
 
 going : (p : Protocol) (s : ℕ) → s < doneOf p → agencyOf p s ≡ Nobody → ⊥
 unfolding agents sameAgency

@@ -1,7 +1,7 @@
 -- What only functions below the operations cite: how the table is laid out.
-use Prim.Native.Nat.{ℕ, zero, suc, _+_}
+use Prim.Native.Nat.{ℕ}
 use mathlib.Core.Bool.{Bool, cond, _&&_}
-use mathlib.Core.List.{List, [], _∷_, _++_, map}
+use mathlib.Core.List.{List, [], _∷_, _++_}
 use lib.Dec.{eqb}
 use lib.ListN.{length, getD, take}
 use Rattle.rows.specs.declared.Protocol.{Protocol}
@@ -21,13 +21,25 @@ placeOf KeepAlive = 4
 abbrev pub protocols : List Protocol
 protocols = Handshake ∷ ChainSync ∷ BlockFetch ∷ TxSubmission ∷ KeepAlive ∷ []
 
--- all rows, one protocol after the other
-unfoldable pub rowsUpTo : List Protocol → List Row
-rowsUpTo [] = []
-rowsUpTo (p ∷ ps) = rowsOf p ++ rowsUpTo ps
+-- a table by protocol: the entries of each, one protocol after the other
+module _ {A : Type 0} (of : Protocol → List A) where
+  unfoldable pub entries : List Protocol → List A
+  entries [] = []
+  entries (p ∷ ps) = of p ++ entries ps
 
+  abbrev pub table : List A
+  table = entries protocols
+
+  -- where a protocol's entries begin, and how many they are
+  abbrev pub firstIn : Protocol → ℕ
+  firstIn p = length (entries (take (placeOf p) protocols))
+
+  abbrev pub countIn : Protocol → ℕ
+  countIn p = length (of p)
+
+-- the rows
 abbrev pub allRows : List Row
-allRows = rowsUpTo protocols
+allRows = table rowsOf
 
 abbrev pub rowCount : ℕ
 rowCount = length allRows
@@ -35,13 +47,6 @@ rowCount = length allRows
 -- row i; what stands past the table's end is no row
 abbrev pub rowAt : ℕ → Row
 rowAt i = getD allRows i (record { state = 0; agency = Nobody; kind = 0; flag = 0; next = 0 })
-
--- where a protocol's rows begin, and how many they are
-abbrev pub firstOf : Protocol → ℕ
-firstOf p = length (rowsUpTo (take (placeOf p) protocols))
-
-abbrev pub countOf : Protocol → ℕ
-countOf p = length (rowsOf p)
 
 -- the agency that a number in the table stands for, and the number of an agency
 abbrev pub holder : ℕ → Agency

@@ -6,8 +6,9 @@ pub mod spoken;
 
 ghost use mathlib.Core.Path.{_≡_};
 ghost use Prim.Native.Nat.{_<_};
-ghost use Rattle.rows.specs.Rows.{doneOf, nextOf, agencyOf};
-ghost use Rattle.rows.specs.Inside.{placeOf, firstOf, countOf, suits, holder};
+ghost use lib.ListN.{length, getD};
+ghost use Rattle.rows.specs.Rows.{doneOf, rowsOf, nextOf, agencyOf};
+ghost use Rattle.rows.specs.Inside.{placeOf, protocols, firstIn, countIn, suits, holder};
 
 pub enum Protocol {
     Handshake,
@@ -35,9 +36,23 @@ const C: u8 = 0;
 
 const S: u8 = 1;
 
-// State, agency, kind, flag, next state. RequestTxIds, of kind 0, is two messages, told apart by its bool: the flag
-// is 1 for true. The flag of every other message is 0.
-const ROWS: [[u8; 5]; 30] = [
+// The columns: state, agency, kind, flag, next state. RequestTxIds, of kind 0, is two messages, told apart by its bool:
+// the flag is 1 for true. The flag of every other message is 0.
+const STATE: usize = 0;
+
+const AGENCY: usize = 1;
+
+const KIND: usize = 2;
+
+const FLAG: usize = 3;
+
+const NEXT: usize = 4;
+
+const COLUMNS: usize = 5;
+
+const ROW_COUNT: usize = 30;
+
+const ROWS: [[u8; COLUMNS]; ROW_COUNT] = [
     // Handshake: Propose 0, Confirm 1, Done 2
     [0, C, 0, 0, 1],
     [1, S, 1, 0, 2],
@@ -75,15 +90,18 @@ const ROWS: [[u8; 5]; 30] = [
     [1, S, 1, 0, 0],
 ];
 
+// How many protocols there are.
+pub const PROTOCOLS: usize = 5;
+
 // By protocol: its first row, its number of rows, and its state Done.
-const FIRST: [u8; 5] = [0, 3, 13, 19, 27];
+const FIRST: [u8; PROTOCOLS] = [0, 3, 13, 19, 27];
 
-const COUNT: [u8; 5] = [3, 10, 6, 8, 3];
+const COUNT: [u8; PROTOCOLS] = [3, 10, 6, 8, 3];
 
-const DONE: [u8; 5] = [2, 4, 3, 5, 2];
+const DONE: [u8; PROTOCOLS] = [2, 4, 3, 5, 2];
 
 fn place(p: Protocol) -> usize
-    ensures { λ r. ⌜ (r ≡ placeOf p) × (r < 5) ⌝ }
+    ensures { λ r. ⌜ (r ≡ placeOf p) × (r < length protocols) ⌝ }
 {
     match p {
         Protocol::Handshake => 0,
@@ -94,34 +112,39 @@ fn place(p: Protocol) -> usize
     }
 }
 
+// A protocol's number in a table of one for each.
+pub fn number_of(table: [u8; PROTOCOLS], p: Protocol) -> usize
+    ensures { λ r. ⌜ r ≡ getD table (placeOf p) 0 ⌝ }
+{
+    let at = place(p);
+    table[at] as usize
+}
+
 // The state that a protocol ends in. It is the last of its states by number.
 pub fn done(p: Protocol) -> u64
     ensures { λ r. ⌜ r ≡ doneOf p ⌝ }
 {
-    let at = place(p);
-    DONE[at] as u64
+    number_of(DONE, p) as u64
 }
 
 fn first(p: Protocol) -> usize
-    ensures { λ r. ⌜ r ≡ firstOf p ⌝ }
+    ensures { λ r. ⌜ r ≡ firstIn rowsOf p ⌝ }
 {
-    let at = place(p);
-    FIRST[at] as usize
+    number_of(FIRST, p)
 }
 
 fn count(p: Protocol) -> usize
-    ensures { λ r. ⌜ r ≡ countOf p ⌝ }
+    ensures { λ r. ⌜ r ≡ countIn rowsOf p ⌝ }
 {
-    let at = place(p);
-    COUNT[at] as usize
+    number_of(COUNT, p)
 }
 
 // Whether a row is that of a message in a state.
-fn is_for(row: [u8; 5], state: u64, kind: u64, flag: u64) -> bool
+fn is_for(row: [u8; COLUMNS], state: u64, kind: u64, flag: u64) -> bool
     ensures { λ r. ⌜ r ≡ suits state kind flag row ⌝ }
 {
-    let message = base::and(row[2] as u64 == kind, row[3] as u64 == flag);
-    base::and(row[0] as u64 == state, message)
+    let message = base::and(row[KIND] as u64 == kind, row[FLAG] as u64 == flag);
+    base::and(row[STATE] as u64 == state, message)
 }
 
 // Where a message leads in a state. The table is made anew wherever it is named: so once, before the search.
@@ -134,7 +157,7 @@ pub fn find(p: Protocol, state: u64, kind: u64, flag: u64) -> Next
     while i < end {
         let row = table[i];
         if is_for(row, state, kind, flag) {
-            return Next::To(row[4] as u64);
+            return Next::To(row[NEXT] as u64);
         }
         i += 1;
     }
@@ -150,8 +173,8 @@ pub fn agent(p: Protocol, state: u64) -> Agency
     let end = i + count(p);
     while i < end {
         let row = table[i];
-        if row[0] as u64 == state {
-            return held_by(row[1]);
+        if row[STATE] as u64 == state {
+            return held_by(row[AGENCY]);
         }
         i += 1;
     }

@@ -1,2 +1,3 @@
 pub mod SendingLaws
 pub mod NumberLaws
+pub mod Once

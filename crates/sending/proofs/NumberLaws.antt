@@ -1,17 +1,16 @@
--- Which number next segment answers, and what a call leaves: `exactly`, `untouched`, `once` and `keeps`. Where the "when" of a number holds, it is
+-- Which number next segment answers, and what a call leaves: `exactly`, `untouched` and `keeps`. Where the "when" of a number holds, it is
 -- answered; one walk through the tests finds a "when" that holds.
 -- Assumes nothing.
 use mathlib.Core.Path.{_≡_, refl, sym, ap, _∙_}
-use mathlib.Core.Bool.{true, false, cond}
+use mathlib.Core.Bool.{true, false}
 use mathlib.Core.List.{List, _++_}
 use mathlib.Core.Logic.{_↔_, _≢_}
-use Prim.Native.Nat.{ℕ, _+_, _-_, _%_, _<_, _≤_}
+use Prim.Native.Nat.{ℕ, _+_, _<_, _≤_}
 use native.Mathlib.Omega.{arith}
-use native.Mathlib.Nat.{mod-lt}
 use lib.Dec.{eqb, ltb}
 use lib.ListN.{length, getD, length-set}
-use lib.Seq.{sets, getD-set-same, getD-set-other}
-use borrow.Author.Tests.{ltb-true, ltb-false, eqb-true, eqb-false}
+use lib.Seq.{sets}
+use borrow.Author.Tests.{ltb-true, ltb-false}
 use Rattle.base.proofs.Conds.{by-test, cond-cases, exactly-when}
 use Rattle.wire.specs.Segments.{headerLength, encoded}
 use Rattle.wire.specs.Instances.{instances}
@@ -25,10 +24,11 @@ use Rattle.connection.specs.Shapes.{Shaped}
 use Rattle.connection.specs.Closings.{isOpen}
 use Rattle.connection.specs.Ranges.{inRange, sends}
 use Rattle.connection.specs.Parts.{withSending}
+use Rattle.connection.proofs.StoreLaws.{leaves-front}
 use Rattle.connection.proofs.RangeLaws.{ranged, in-range, sends-both}
 use Rattle.sending.specs.declared.Made.{Made}
 use Rattle.sending.specs.NextSegment.{Told, told, refused, much, headed, payloadOf, sentOf, nextOf}
-use Rattle.sending.specs.Numbers.{Unclosed, Numbers, Exactly, Untouched, Once, Keeps}
+use Rattle.sending.specs.Numbers.{Unclosed, When, out-of-range, closed, all-empty, no-room, done, Exactly, Untouched, Keeps}
 use Rattle.sending.proofs.SendingLaws.{serve-short, serve-all, next-unranged, next-closed, next-served}
 
 -- whoever is chosen is an instance with bytes waiting
@@ -46,30 +46,6 @@ module _ (c : Connection) (store : List ℕ) (time : ℕ) (buf : List ℕ) where
   abbrev Refuses : ℕ → Type 0
   Refuses n = told (refused c n) buf ≡ out
 
-  -- the "when" of each number, as in `Numbers` but for 4, by whom the counts choose; no other number has one
-  abbrev pub When : ℕ → Type 0
-  When n =
-      cond (eqb n 23) (sends c (length store) ≡ false)
-      (cond (eqb n 20) ((sends c (length store) ≡ true) × (isOpen (c .gate) ≡ false))
-      (cond (eqb n 4) (Unclosed c store × (who ≡ Nobody))
-      (cond (eqb n 18) (Unclosed c store × ((i : ℕ) × (who ≡ Instance i) × (length buf < headerLength + much c i)))
-      (cond (eqb n 0) (Unclosed c store × ((i : ℕ) × (who ≡ Instance i) × (headerLength + much c i ≤ length buf)))
-      ⊥))))
-
-  -- ---- where its "when" holds, a number is answered
-
-  o23 : When 23 → Refuses 23
-  o23 r = next-unranged c store time buf r
-
-  o20 : When 20 → Refuses 20
-  o20 (r, o) = next-closed c store time buf r o
-
-  o4 : When 4 → Refuses 4
-  o4 ((r, o), w) = next-served c store time buf r o Nobody (sym w)
-
-  o18 : When 18 → Refuses 18
-  o18 ((r, o), (i, w, l)) = serve-short c store time buf i (much c i) refl l ∙ next-served c store time buf r o (Instance i) (sym w)
-
   -- what 0 leaves
   abbrev Serves : ℕ → Type 0
   Serves i =
@@ -78,28 +54,45 @@ module _ (c : Connection) (store : List ℕ) (time : ℕ) (buf : List ℕ) where
       (sets buf 0 (encoded (headed (c .settings .side) time i (much c i)) ++ payloadOf c store i))
       ≡ out
 
+  -- ---- what is answered where nobody is chosen, and where somebody is
+
+  o4 : Unclosed c store → who ≡ Nobody → Refuses 4
+  o4 (r, o) w = next-served c store time buf r o Nobody (sym w)
+
+  o18 : Unclosed c store → (i : ℕ) → who ≡ Instance i → length buf < headerLength + much c i → Refuses 18
+  o18 (r, o) i w l = serve-short c store time buf i (much c i) refl l ∙ next-served c store time buf r o (Instance i) (sym w)
+
   o0 : Unclosed c store → (i : ℕ) → who ≡ Instance i → headerLength + much c i ≤ length buf → Serves i
   o0 (r, o) i w l = serve-all c store time buf i l ∙ next-served c store time buf r o (Instance i) (sym w)
 
-  -- ---- and one of them holds
+  -- every queue is empty exactly where nobody is chosen
+  idle : Shaped c → Unclosed c store → (who ≡ Nobody) ↔ ((i : ℕ) → i < instances → getD (c .sending .waiting) i 0 ≡ 0)
+  idle s u =
+      let t = ranged c (sends-both c (length store) (u .0) .0) .turn in
+      let none = nobody-waits (c .sending .waiting) (c .sending .turn) (t .0) (rw (s .waiting) (t .1)) in
+      (λ w i h. none .0 w i (rw (s .waiting) h), λ e. none .1 (λ i h. e i (rw (s .waiting) at h)))
 
-  -- the ways of a call: a refusal or a notice, or a segment
+  -- the ways of a call: a refusal or a notice, with its "when"; or a segment
   pub data Way : Type 0 where
-    stays : (n : ℕ) → n ≢ 0 → When n → Refuses n → Way
+    stays : (n : ℕ) → n ≢ 0 → (n ≡ 23 → sends c (length store) ≡ false) → (Shaped c → When c store buf n) → Refuses n → Way
     gone : (i : ℕ) → Unclosed c store → who ≡ Instance i → headerLength + much c i ≤ length buf → Serves i → Way
 
   by-who : Unclosed c store → (x : Choice) → who ≡ x → Way
-  by-who u Nobody e = stays 4 (λ z. omega arith) (u, e) (o4 (u, e))
+  by-who u Nobody e = stays 4 (λ z. omega arith) (λ z. absurd (omega arith)) (λ s. all-empty u (idle s u .0 e)) (o4 u e)
   by-who u (Instance i) e =
       by-test (ltb (length buf) (headerLength + much c i))
-      (λ t. let w : When 18 = (u, (i, e, ltb-true (length buf) (headerLength + much c i) t)) in stays 18 (λ z. omega arith) w (o18 w))
+      (λ t.
+      let l = ltb-true (length buf) (headerLength + much c i) t in
+      stays 18 (λ z. omega arith) (λ z. absurd (omega arith)) (λ s. no-room u e l) (o18 u i e l))
       (λ t. let l = ltb-false (length buf) (headerLength + much c i) t in gone i u e l (o0 u i e l))
 
   pub way : Way
   way =
       by-test (sends c (length store))
-      (λ r. by-test (isOpen (c .gate)) (λ o. by-who (r, o) who refl) (λ o. stays 20 (λ z. omega arith) (r, o) (o20 (r, o))))
-      (λ r. stays 23 (λ z. omega arith) r (o23 r))
+      (λ r.
+      by-test (isOpen (c .gate)) (λ o. by-who (r, o) who refl)
+      (λ o. stays 20 (λ z. omega arith) (λ z. absurd (omega arith)) (λ s. closed r o) (next-closed c store time buf r o)))
+      (λ r. stays 23 (λ z. omega arith) (λ z. r) (λ s. out-of-range r) (next-unranged c store time buf r))
 
   -- ---- so each number exactly then
 
@@ -109,48 +102,32 @@ module _ (c : Connection) (store : List ℕ) (time : ℕ) (buf : List ℕ) where
   numbered : (n : ℕ) → Refuses n → number ≡ n
   numbered n e = ap (λ (x : Told). x .answer .number) (sym e)
 
-  zero-out : When 0 → number ≡ 0
-  zero-out (u, (i, w, l)) = ap (λ (x : Told). x .answer .number) (sym (o0 u i w l))
+  zero-out : (i : ℕ) → Serves i → number ≡ 0
+  zero-out i e = ap (λ (x : Told). x .answer .number) (sym e)
 
-  exact : Way → {n : ℕ} → (When n → number ≡ n) → (number ≡ n) ↔ When n
-  exact (stays k ne w e) = exactly-when When (numbered k e) w
-  exact (gone i u w l e) = let z : When 0 = (u, (i, w, l)) in exactly-when When (zero-out z) z
+  answered : Shaped c → {n : ℕ} → When c store buf n → number ≡ n
+  answered s (out-of-range r) = numbered 23 (next-unranged c store time buf r)
+  answered s (closed r o) = numbered 20 (next-closed c store time buf r o)
+  answered s (all-empty u e) = numbered 4 (o4 u (idle s u .1 e))
+  answered s (no-room {i = i} u w l) = numbered 18 (o18 u i w l)
+  answered s (done {i = i} u w l) = zero-out i (o0 u i w l)
 
-  -- every queue is empty exactly where nobody is chosen
-  idle : Shaped c → When 4 ↔ (Unclosed c store × ((i : ℕ) → i < instances → getD (c .sending .waiting) i 0 ≡ 0))
-  idle s = (λ (u, w). (u, λ i h. none u .0 w i (rw (s .waiting) h)), λ (u, e). (u, none u .1 (λ i h. e i (rw (s .waiting) at h))))
-    where
-      none : Unclosed c store → (who ≡ Nobody) ↔ ((i : ℕ) → i < length (c .sending .waiting) → getD (c .sending .waiting) i 0 ≡ 0)
-      none u =
-          let t = ranged c (sends-both c (length store) (u .0) .0) .turn in
-          nobody-waits (c .sending .waiting) (c .sending .turn) (t .0) (rw (s .waiting) (t .1))
-
-  all : Shaped c → Numbers c store time buf
-  all s =
-      let four = exact way {n = 4} (λ w. numbered 4 (o4 w)) in
-      record {
-        n23 = exact way {n = 23} (λ w. numbered 23 (o23 w));
-        n20 = exact way {n = 20} (λ w. numbered 20 (o20 w));
-        n4 = (λ e. idle s .0 (four .0 e), λ w. four .1 (idle s .1 w));
-        n18 = exact way {n = 18} (λ w. numbered 18 (o18 w));
-        n0 = exact way {n = 0} zero-out;
-      }
+  exact : Shaped c → Way → (n : ℕ) → (number ≡ n) ↔ When c store buf n
+  exact s (stays k ne z w e) n = exactly-when (When c store buf) (numbered k e) (w s) (answered s)
+  exact s (gone i u w l e) n = exactly-when (When c store buf) (zero-out i e) (done u w l) (answered s)
 
   -- with any number but 0, record and buffer are as they were
   untouched-by : Way → (m : Made) (after : List ℕ) → told m after ≡ out → (m .number ≡ 0 → ⊥) → (m .connection ≡ c) × (m .len ≡ 0) × (after ≡ buf)
-  untouched-by (stays n ne w e) m after q z =
+  untouched-by (stays n ne k w e) m after q z =
       let p = q ∙ sym e in
       (ap (λ (x : Told). x .answer .connection) p, ap (λ (x : Told). x .answer .len) p, ap (λ (x : Told). x .buffer) p)
   untouched-by (gone i u w l e) m after q z = absurd (z (ap (λ (x : Told). x .answer .number) (q ∙ sym e)))
 
 pub exactly : Exactly
-exactly = all
+exactly c store time buf s n = exact c store time buf s (way c store time buf) n
 
 pub untouched : Untouched
 untouched c store time buf = untouched-by c store time buf (way c store time buf)
-
-pub once : Once
-once c store time buf m m′ after after′ e e′ = let q = e ∙ sym e′ in (ap (λ (x : Told). x .answer) q, ap (λ (x : Told). x .buffer) q)
 
 -- ---- the range
 
@@ -159,30 +136,16 @@ module _ (c : Connection) (s : Shaped c) (r : inRange c ≡ true) (i : ℕ) (ins
   abbrev w : Sending
   w = sentOf (c .sending) (c .settings .send) i n
 
-  sent-here : (getD (w .starts) i 0 < getD (c .settings .send) i 0) × (getD (w .waiting) i 0 ≤ getD (c .settings .send) i 0)
-  sent-here =
-      let cap = getD (c .settings .send) i 0 in
-      let k = ranged c r in
-      let l = k .set .send i inside in
-      let q = k .sending i inside in
-      rw (
-        getD-set-same (c .sending .starts) i ((getD (c .sending .starts) i 0 + n) % cap) 0 (omega (arith, s .send-starts)),
-        getD-set-same (c .sending .waiting) i (getD (c .sending .waiting) i 0 - n) 0 (omega (arith, s .waiting)),
-      )
-      (mod-lt (getD (c .sending .starts) i 0 + n) (omega arith), omega arith)
-
-  sent-there : (j : ℕ) → j < instances → j ≢ i
-      → (getD (w .starts) j 0 < getD (c .settings .send) j 0) × (getD (w .waiting) j 0 ≤ getD (c .settings .send) j 0)
-  sent-there j h ne =
-      rw (
-        getD-set-other (c .sending .starts) i j ((getD (c .sending .starts) i 0 + n) % getD (c .settings .send) i 0) 0 ne,
-        getD-set-other (c .sending .waiting) i j (getD (c .sending .waiting) i 0 - n) 0 ne,
-      )
-      (ranged c r .sending j h)
-
   sent-area : (j : ℕ) → j < instances
       → (getD (w .starts) j 0 < getD (c .settings .send) j 0) × (getD (w .waiting) j 0 ≤ getD (c .settings .send) j 0)
-  sent-area j h = by-test (eqb j i) (λ t. rw (eqb-true j i t) sent-here) (λ t. sent-there j h (eqb-false j i t))
+  sent-area j h =
+      let k = ranged c r in
+      let cap = k .set .send i inside in
+      let q = k .sending j h in
+      let (low, less) =
+      leaves-front (c .settings .send) (c .sending .starts) (c .sending .waiting) i n (omega arith) (omega (arith, s .send-starts))
+      (omega (arith, s .waiting)) j (q .0) in
+      (low, omega (arith, less, q .1))
 
   sent-turn : (1 ≤ w .turn) × (w .turn < instances)
   sent-turn =
@@ -220,7 +183,7 @@ module _ (c : Connection) (s : Shaped c) (r : inRange c ≡ true) (i : ℕ) (ins
 
 keeps-by : (c : Connection) (store : List ℕ) (time : ℕ) (buf : List ℕ) → Shaped c → inRange c ≡ true → Way c store time buf
     → (inRange (nextOf c store time buf .answer .connection) ≡ true) × Shaped (nextOf c store time buf .answer .connection)
-keeps-by c store time buf s r (stays n ne w e) = rw (← e) (r, s)
+keeps-by c store time buf s r (stays n ne k w e) = rw (← e) (r, s)
 keeps-by c store time buf s r (gone i u w l e) =
     let inside = chosen-waiting c s i w .0 in rw (← e) (sent-ranged c s r i inside (much c i), sent-shaped c s r i inside (much c i))
 

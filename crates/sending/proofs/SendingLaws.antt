@@ -1,4 +1,4 @@
--- Laws of next segment: what is sent is in the area of its instance, whoever is chosen is an instance, and each way out of the code is the
+-- Laws of next segment: what is sent is small, whoever is chosen is an instance, and each way out of the code is the
 -- definition.
 -- Assumes nothing.
 use mathlib.Core.Path.{_≡_, sym, ap, subst, _∙_}
@@ -11,8 +11,6 @@ use lib.Seq.{sets}
 use borrow.Author.Tests.{lt-ltb, le-ltb}
 use Rattle.base.proofs.ListLaws.{sets-append}
 use Rattle.base.proofs.NumberLaws.{length-octets}
-use Rattle.ring.specs.Ring.{baseOf}
-use Rattle.ring.proofs.Areas.{area-in-store}
 use Rattle.wire.specs.declared.segment.Segment.{Segment}
 use Rattle.wire.specs.declared.instances.Side.{Side}
 use Rattle.wire.specs.Segments.{headerLength, encoded, Fits}
@@ -30,7 +28,7 @@ use Rattle.connection.proofs.RangeLaws.{ranged, sends-both}
 use Rattle.connection.specs.declared.Sending.{Sending}
 use Rattle.connection.specs.Parts.{withSending, InSend, firstWaiting}
 use Rattle.sending.specs.NextSegment.{told, refused, much, headed, payloadOf, sentOf, serve, byChoice, nextOf}
-use Rattle.sending.specs.Inside.{Area, Chosen}
+use Rattle.sending.specs.Inside.{Chosen}
 
 -- a header has eight bytes
 pub header-long : (s : Segment) → length (encoded s) ≡ headerLength
@@ -44,24 +42,6 @@ joined l s p = sym (sets-append l 0 (encoded s) p ∙ rw (header-long s))
 pub header-fits : (side : Side) (i time n : ℕ) → i < instances → time < 2 ^ 32 → n ≤ 65535
     → Fits (record { time = time; mode = modeOf side i; protocol = protocolOf i; len = n })
 header-fits side i time n h t l = record { time = t; mode = mode-low side i; protocol = protocol-low i h; len = omega arith }
-
--- the area of an instance is in the store
-pub in-store : (caps store : List ℕ) (i n : ℕ) → length caps ≡ instances → Area caps store i n → baseOf caps i + getD caps i 0 ≤ length store
-in-store caps store i n long a = area-in-store store caps i (a .stored) (omega (arith, a .instance))
-
--- what is sent of an instance is in its area
-pub waits-area : (c : Connection) (store : List ℕ) (i : ℕ) → InSend c store i → Area (c .settings .send) store i (much c i)
-waits-area c store i w =
-    let p = sends-both c (length store) (w .0) in
-    let r = ranged c (p .0) in
-    let l = r .set .send i (w .1) in
-    let k = r .sending i (w .1) in
-    record {
-      instance = w .1;
-      within = omega arith;
-      some = omega arith;
-      stored = p .1;
-    }
 
 -- ---- the ways out of serving an instance
 

@@ -1,9 +1,9 @@
 -- Next segment (document 01, "Segments" and "Numbers and their order": 20; notice 4; 18; 23 before all others).
-use Prim.Native.Nat.{ℕ, _+_, _-_, _%_, min}
+use Prim.Native.Nat.{ℕ, _+_, min}
 use mathlib.Core.Bool.{cond}
 use mathlib.Core.List.{List, _++_}
 use lib.Dec.{ltb}
-use lib.ListN.{length, getD, set}
+use lib.ListN.{length, getD}
 use lib.Seq.{sets}
 use Rattle.wire.specs.declared.segment.Segment.{Segment}
 use Rattle.wire.specs.declared.instances.Side.{Side}
@@ -16,6 +16,7 @@ use Rattle.connection.specs.declared.Sending.{Sending}
 use Rattle.connection.specs.declared.Connection.{Connection}
 use Rattle.connection.specs.Closings.{isOpen}
 use Rattle.connection.specs.Ranges.{sends}
+use Rattle.connection.specs.Areas.{startsPast, countsLess}
 use Rattle.connection.specs.Parts.{withSending, firstWaiting}
 use Rattle.sending.specs.declared.Made.{Made}
 
@@ -43,12 +44,12 @@ headed side time i n = record { time = time; mode = modeOf side i; protocol = pr
 abbrev pub payloadOf : Connection → List ℕ → ℕ → List ℕ
 payloadOf c store i = firstWaiting c store i (much c i)
 
--- n bytes of instance i are sent: their room is used again, and the turn moves
+-- n bytes of instance i are sent, and the turn moves
 abbrev pub sentOf : Sending → List ℕ → ℕ → ℕ → Sending
 sentOf w caps i n =
     record {
-      starts = set (w .starts) i ((getD (w .starts) i 0 + n) % getD caps i 0);
-      waiting = set (w .waiting) i (getD (w .waiting) i 0 - n);
+      starts = startsPast caps (w .starts) i n;
+      waiting = countsLess (w .waiting) i n;
       turn = turnAfter instances i (w .turn);
     }
 

@@ -20,30 +20,26 @@ use Rattle.sending.specs.NextSegment.{told, much, nextOf}
 abbrev pub Unclosed : Connection → List ℕ → Type 0
 Unclosed c store = (sends c (length store) ≡ true) × (isOpen (c .gate) ≡ true)
 
--- T2: 23 before all others; 20 if closed; notice 4 if every queue is empty; 18 if the buffer is shorter than header and payload; else 0
-pub record Numbers (c : Connection) (store : List ℕ) (time : ℕ) (buf : List ℕ) : Type 0 where
-  pub n23 : (nextOf c store time buf .answer .number ≡ 23) ↔ (sends c (length store) ≡ false)
-  pub n20 : (nextOf c store time buf .answer .number ≡ 20) ↔ ((sends c (length store) ≡ true) × (isOpen (c .gate) ≡ false))
-  pub n4 : (nextOf c store time buf .answer .number ≡ 4) ↔ (Unclosed c store × ((i : ℕ) → i < instances → getD (c .sending .waiting) i 0 ≡ 0))
-  pub n18 : (nextOf c store time buf .answer .number ≡ 18)
-      ↔ (Unclosed c store × ((i : ℕ) × (chosen (c .sending .waiting) (c .sending .turn) ≡ Instance i) × (length buf < headerLength + much c i)))
-  pub n0 : (nextOf c store time buf .answer .number ≡ 0)
-      ↔ (Unclosed c store × ((i : ℕ) × (chosen (c .sending .waiting) (c .sending .turn) ≡ Instance i) × (headerLength + much c i ≤ length buf)))
+-- T2: when each number is answered, in document 01's order
+pub data When (c : Connection) (store : List ℕ) (buf : List ℕ) : ℕ → Type 0 where
+  out-of-range : sends c (length store) ≡ false → When c store buf 23
+  closed : sends c (length store) ≡ true → isOpen (c .gate) ≡ false → When c store buf 20
+  all-empty : Unclosed c store → ((i : ℕ) → i < instances → getD (c .sending .waiting) i 0 ≡ 0) → When c store buf 4
+  -- the buffer is shorter than header and payload
+  no-room : {i : ℕ} → Unclosed c store → chosen (c .sending .waiting) (c .sending .turn) ≡ Instance i → length buf < headerLength + much c i
+      → When c store buf 18
+  done : {i : ℕ} → Unclosed c store → chosen (c .sending .waiting) (c .sending .turn) ≡ Instance i → headerLength + much c i ≤ length buf
+      → When c store buf 0
 
 abbrev pub Exactly : Type 0
-Exactly = (c : Connection) (store : List ℕ) (time : ℕ) (buf : List ℕ) → Shaped c → Numbers c store time buf
+Exactly = (c : Connection) (store : List ℕ) (time : ℕ) (buf : List ℕ) → Shaped c → (n : ℕ)
+    → (nextOf c store time buf .answer .number ≡ n) ↔ When c store buf n
 
 -- T3: with any number but 0, record and buffer are as they were
 abbrev pub Untouched : Type 0
 Untouched =
     (c : Connection) (store : List ℕ) (time : ℕ) (buf : List ℕ) (m : Made) (after : List ℕ) → told m after ≡ nextOf c store time buf
     → (m .number ≡ 0 → ⊥) → (m .connection ≡ c) × (m .len ≡ 0) × (after ≡ buf)
-
--- T1: the contract leaves one answer, one record and one buffer
-abbrev pub Once : Type 0
-Once =
-    (c : Connection) (store : List ℕ) (time : ℕ) (buf : List ℕ) (m m′ : Made) (after after′ : List ℕ)
-    → told m after ≡ nextOf c store time buf → told m′ after′ ≡ nextOf c store time buf → (m ≡ m′) × (after ≡ after′)
 
 -- a record in range stays in range (for T10)
 abbrev pub Keeps : Type 0

@@ -1,10 +1,13 @@
 // Next segment: the next instance with bytes to send, in its turn, has the first of them put behind a header.
 //
 // One equation says the answer, the whole next record and every byte of the lent buffer, on every input.
+use base::smaller;
 use connection::Connection;
 use connection::Sending;
+use connection::areas::fewer;
+use connection::areas::past;
+use connection::areas::read;
 use connection::parts::at;
-use connection::parts::changed;
 use connection::parts::is_open;
 use connection::parts::with_sending;
 use connection::range::sends;
@@ -15,15 +18,14 @@ use wire::instances::Side;
 use wire::segment::HEADER;
 use wire::segment::Segment;
 ghost use mathlib.Core.Path.{_≡_};
-ghost use Prim.Native.Nat.{_+_, _<_, _≤_, _^_, min};
+ghost use Prim.Native.Nat.{_+_, _<_, _≤_, _^_};
 ghost use lib.ListN.{length, getD};
 ghost use lib.Seq.{sets};
-ghost use Rattle.ring.specs.Ring.{baseOf, stream};
 ghost use Rattle.wire.specs.Segments.{headerLength, encoded};
 ghost use Rattle.wire.specs.Instances.{instances};
 ghost use Rattle.connection.specs.Parts.{InSend};
 ghost use Rattle.sending.specs.NextSegment.{told, refused, headed, sentOf, serve, byChoice, nextOf};
-ghost use Rattle.sending.specs.Inside.{Area, Chosen};
+ghost use Rattle.sending.specs.Inside.{Chosen};
 
 // The number; where it is 0, how long header and payload are together; and the record.
 pub struct Made {
@@ -43,14 +45,8 @@ fn refused(c: Connection, number: u64) -> Made
     }
 }
 
-fn smaller(a: u64, b: u64) -> u64
-    ensures { λ r. ⌜ r ≡ min a b ⌝ }
-{
-    if a < b { a } else { b }
-}
-
 // The header of n bytes of instance i.
-fn put_header(buf: &mut [u8], side: Side, time: u32, i: usize, n: u64)
+fn put_header(buf: &mut [u8], side: Side, time: u32, i: usize, n: usize)
     requires { ⌜ (i < instances) × (n ≤ 65535) × (headerLength ≤ length (now buf)) ⌝ }
     ensures { λ _. ⌜ now (buf .exit) ≡ sets (now (buf .entry)) 0 (encoded (headed side time i n)) ⌝ }
 {
@@ -63,29 +59,16 @@ fn put_header(buf: &mut [u8], side: Side, time: u32, i: usize, n: u64)
     wire::segment::write(buf, header);
 }
 
-// Behind it, n bytes of instance i from the place of its first waiting byte on.
-fn put_payload(buf: &mut [u8], store: &[u8], caps: [u64; INSTANCES], i: usize, start: u64, n: u64)
-    requires { ⌜ Area caps (now store) i n × (headerLength + n ≤ length (now buf)) ⌝ }
-    ensures { λ _. ⌜ now (buf .exit) ≡ sets (now (buf .entry)) headerLength (stream (now (store .entry)) (baseOf caps i) (getD caps i 0) start n) ⌝ }
-{
-    let cap = at(caps, i) as usize;
-    let base = ring::base_of(&caps, i);
-    ring::read(buf, HEADER, store, base, cap, start as usize, n as usize);
-}
-
-// n bytes of instance i are sent: their room is used again, and the turn moves. Place and bytes are small, so that
-// their sum fits.
+// n bytes of instance i are sent, and the turn moves.
 fn sent(w: Sending, caps: [u64; INSTANCES], i: usize, n: u64) -> Sending
     requires { ⌜ (i < instances) × (0 < getD caps i 0) × (getD (w .starts) i 0 + n < 2 ^ 32) × (n ≤ getD (w .waiting) i 0) ⌝ }
     ensures { λ r. ⌜ r ≡ sentOf w caps i n ⌝ }
 {
     let starts = w.starts;
     let waiting = w.waiting;
-    let start = (at(starts, i) + n) % at(caps, i);
-    let left = at(waiting, i) - n;
     Sending {
-        starts: changed(starts, i, start),
-        waiting: changed(waiting, i, left),
+        starts: past(caps, starts, i, n),
+        waiting: fewer(waiting, i, n),
         turn: turn_after(i, w.turn),
     }
 }
@@ -100,18 +83,18 @@ fn serve(c: Connection, store: &[u8], time: u32, buf: &mut [u8], i: usize) -> Ma
     let sending = c.sending;
     let starts = sending.starts;
     let waiting = sending.waiting;
-    let n = smaller(settings.limit, at(waiting, i));
-    let len = HEADER + n as usize;
+    let n = smaller(settings.limit as usize, at(waiting, i) as usize);
+    let len = HEADER + n;
     if buf.len() < len {
         return refused(c, 18);
     }
     let side = settings.side;
     put_header(buf, side, time, i, n);
-    put_payload(buf, store, caps, i, at(starts, i), n);
+    read(buf, HEADER, store, &caps, i, at(starts, i), n);
     Made {
         number: 0,
         len,
-        connection: with_sending(c, sent(sending, caps, i, n)),
+        connection: with_sending(c, sent(sending, caps, i, n as u64)),
     }
 }
 

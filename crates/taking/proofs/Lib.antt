@@ -1,2 +1,3 @@
 pub mod TakingLaws
 pub mod NumberLaws
+pub mod Once

@@ -1,16 +1,15 @@
--- Which number take answers and what it leaves: `exactly`, `leaves`, `hands-out`, `once`, `keeps`. One walk through the tests finds a "when" that
+-- Which number take answers and what it leaves: `exactly`, `leaves`, `hands-out`, `keeps`. One walk through the tests finds a "when" that
 -- holds; each "when" makes the call go one of three ways; and the ways say what is answered and left.
 -- Assumes nothing.
 use mathlib.Core.Path.{_≡_, refl, sym, ap, subst, _∙_}
-use mathlib.Core.Bool.{true, false, true≢false, _&&_}
+use mathlib.Core.Bool.{true, false, true≢false}
 use mathlib.Core.List.{List}
 use mathlib.Core.Logic.{_≢_}
-use Prim.Native.Nat.{ℕ, _+_, _-_, _%_, _≤_, _<_}
+use Prim.Native.Nat.{ℕ, _+_, _≤_, _<_}
 use native.Mathlib.Omega.{arith}
-use native.Mathlib.Nat.{mod-lt}
 use lib.Dec.{eqb, leb, ltb}
 use lib.ListN.{length, getD, length-set}
-use lib.Seq.{sets, getD-set-same, getD-set-other}
+use lib.Seq.{sets}
 use borrow.Author.Tests.{eq-eqb, ne-eqb, eqb-true, eqb-false, lt-ltb, ltb-true, ltb-false, le-leb, leb-true}
 use Rattle.base.proofs.Conds.{by-test, both-true, exactly-when}
 use Rattle.wire.specs.Instances.{instances}
@@ -28,27 +27,28 @@ use Rattle.connection.specs.declared.Gate.{Gate}
 use Rattle.connection.specs.declared.Gate.the-variants.{Open, Closed}
 use Rattle.connection.specs.declared.Closing.the-variants.{Of}
 use Rattle.connection.specs.Shapes.{Shaped}
-use Rattle.connection.specs.Closings.{isOpen, closedBy, gateOk}
+use Rattle.connection.specs.Closings.{isOpen, closedBy, takeFault, gateOk}
 use Rattle.connection.specs.Ranges.{inRange, restFor, receives}
 use Rattle.connection.specs.Parts.{withReceiving, withGate, InReceive, firstHeld, heldOf}
+use Rattle.connection.proofs.StoreLaws.{leaves-front}
 use Rattle.connection.proofs.RangeLaws.{Ranged, ranged, in-range, receives-both}
 use Rattle.judging.specs.declared.Judged.{Judged}
 use Rattle.judging.specs.Judging.{stateOf, ours, barred, leadsTo, unjudged, byRow}
 use Rattle.judging.proofs.JudgingLaws.{judged-wrong, judged-read, led, Judges, not-read, not-led, message, judges}
 use Rattle.judging.proofs.Moving.{moved-ranged, moved-shaped}
-use Rattle.taking.specs.Taking.{Told, told, earlyOf, byVerdict, judgeOf, faulty, refused, undone, freedOf, handed, hand, takeOf}
-use Rattle.taking.specs.Numbers.{Admitted, Awaited, Spells, When, out-of-range, no-instance, no-accept, finished, after-done, our-turn, waiting, closed, bytes-bad, no-message, no-row, no-room, done, Exactly, Leaves, LeavesAll, HandsOut, Once, Keeps}
+use Rattle.taking.specs.Taking.{Told, told, earlyOf, byVerdict, judgeOf, refused, undone, freedOf, handed, hand, takeOf}
+use Rattle.taking.specs.Numbers.{Admitted, Awaited, Spells, When, out-of-range, no-instance, no-accept, finished, after-done, our-turn, waiting, closed, bytes-bad, no-message, no-row, no-room, done, Exactly, Leaves, LeavesAll, HandsOut, Keeps}
 use Rattle.taking.proofs.TakingLaws.{first-long, judge-early, judge-bytes, hand-short, hand-made, take-range, take-instance, take-refused, take-handed}
 
 -- a refusal has its number, fault or not
 undone-number : (c : Connection) (i n : ℕ) → undone c i n .number ≡ n
-undone-number c i n = by-test (faulty n) (λ t. rw t) (λ t. rw t)
+undone-number c i n = by-test (takeFault n) (λ t. rw t) (λ t. rw t)
 
 -- 14 to 17
-between : (n : ℕ) → 14 ≤ n → n ≤ 17 → faulty n ≡ true
+between : (n : ℕ) → 14 ≤ n → n ≤ 17 → takeFault n ≡ true
 between n l h = rw (le-leb 14 n l, le-leb n 17 h)
 
-pub among : (n : ℕ) → faulty n ≡ true → (14 ≤ n) × (n ≤ 17)
+pub among : (n : ℕ) → takeFault n ≡ true → (14 ≤ n) × (n ≤ 17)
 among n t = let p = both-true (leb 14 n) (leb n 17) t in (leb-true 14 n (p .0), leb-true n 17 (p .1))
 
 module _ (c : Connection) (store : List ℕ) (i : ℕ) (buf : List ℕ) where
@@ -64,7 +64,7 @@ module _ (c : Connection) (store : List ℕ) (i : ℕ) (buf : List ℕ) where
   -- the ways of a call: 23; another refusal, which is a fault only of an instance; or a message
   pub data Way : ℕ → Type 0 where
     unfit : receives c (length store) ≡ false → told (refused c 23) buf ≡ out → Way 23
-    stays : (n : ℕ) → n ≢ 0 → n ≢ 23 → (faulty n ≡ true → i < instances) → told (undone c i n) buf ≡ out → Way n
+    stays : (n : ℕ) → n ≢ 0 → n ≢ 23 → (takeFault n ≡ true → i < instances) → told (undone c i n) buf ≡ out → Way n
     gone : (n : ℕ) (m : Message) (next : ℕ) → Spells c store i n m → leadsTo c i m ≡ To next → n ≤ length buf
         → told (record { number = 0; len = n; message = m; connection = handed c i (led n m next) }) (sets buf 0 (firstHeld c store i n)) ≡ out
         → Way 0
@@ -187,7 +187,7 @@ module _ (c : Connection) (store : List ℕ) (i : ℕ) (buf : List ℕ) where
       (record { kept = λ q. refl; fault = λ l h. absurd (omega arith); other = λ q away. refl; front = λ z. absurd (omega arith) })
   leaves-by (stays n ne k inside e) =
       rw (← e)
-      (by-test (faulty n)
+      (by-test (takeFault n)
       (λ t.
       rw t
       (record {
@@ -230,9 +230,6 @@ exactly c store i buf n =
     let is : (n : ℕ) → When c store i buf n → takeOf c store i buf .answer .number ≡ n = λ n v. answered c store i buf (goes c store i buf v) in
     exactly-when (When c store i buf) (is k w) w (is n)
 
-pub once : Once
-once c store i buf t t′ after after′ e e′ = let q = e ∙ sym e′ in (ap (λ (x : Told). x .answer) q, ap (λ (x : Told). x .buffer) q)
-
 pub leaves : LeavesAll
 leaves c store i buf = let (n, w) = way c store i buf in leaves-by c store i buf w
 
@@ -242,10 +239,10 @@ hands-out c store i buf z = let (n, w) = way c store i buf in given c store i bu
 -- ---- the range
 
 -- a fault of an instance leaves a closing that a fault leaves
-closed-ok : (g : Gate) (n i : ℕ) → faulty n ≡ true → i < instances → gateOk g ≡ true → gateOk (closedBy g (Of n i)) ≡ true
+closed-ok : (g : Gate) (n i : ℕ) → takeFault n ≡ true → i < instances → gateOk g ≡ true → gateOk (closedBy g (Of n i)) ≡ true
 closed-ok Open n i f h o =
     let k = among n f in
-    rw (le-leb 13 n (omega (arith, k .0)), le-leb n 17 (k .1), lt-ltb i instances h) (by-test (eqb n 12 && eqb i 0) (λ q. rw q) (λ q. rw q))
+    rw (ne-eqb n 12 (λ z. omega (arith, k .0)), ne-eqb n 13 (λ z. omega (arith, k .0)), f, lt-ltb i instances h)
 closed-ok (Closed y) n i f h o = o
 
 gated : (c : Connection) (g : Gate) → Ranged c → gateOk g ≡ true → Ranged (withGate c g)
@@ -287,23 +284,12 @@ module _ (c : Connection) (s : Shaped c) (r : Ranged c) (i : ℕ) (inside : i < 
       → (getD (after .receiving .starts) j 0 < getD caps j 0)
       × (getD (after .receiving .held) j 0 + restFor (c .receiving .instance) (c .receiving .rest) j ≤ getD caps j 0)
   areas j h =
-      by-test (eqb j i)
-      (λ t.
-      let q = r .receiving i inside in
       let cap = r .set .receive i inside in
-      rw (
-        eqb-true j i t,
-        getD-set-same (c .receiving .starts) i ((getD (c .receiving .starts) i 0 + n) % getD caps i 0) 0 (omega (arith, s .receive-starts)),
-        getD-set-same (c .receiving .held) i (getD (c .receiving .held) i 0 - n) 0 (omega (arith, s .held)),
-      )
-      (mod-lt (getD (c .receiving .starts) i 0 + n) (omega arith), omega (arith, q .1)))
-      (λ t.
-      let ne = eqb-false j i t in
-      rw (
-        getD-set-other (c .receiving .starts) i j ((getD (c .receiving .starts) i 0 + n) % getD caps i 0) 0 ne,
-        getD-set-other (c .receiving .held) i j (getD (c .receiving .held) i 0 - n) 0 ne,
-      )
-      (r .receiving j h))
+      let q = r .receiving j h in
+      let (low, less) =
+      leaves-front caps (c .receiving .starts) (c .receiving .held) i n (omega arith) (omega (arith, s .receive-starts)) (omega (arith, s .held)) j
+      (q .0) in
+      (low, omega (arith, less, q .1))
 
   freed-ranged : Ranged after
   freed-ranged =
@@ -337,7 +323,7 @@ keeps-by : (c : Connection) (store : List ℕ) (i : ℕ) (buf : List ℕ) → Sh
 keeps-by c store i buf s r (unfit q e) = rw (← e) (in-range c r, s)
 keeps-by c store i buf s r (stays n ne k inside e) =
     rw (← e)
-    (by-test (faulty n)
+    (by-test (takeFault n)
     (λ t.
     let g = closedBy (c .gate) (Of n i) in
     rw t (in-range (withGate c g) (gated c g r (closed-ok (c .gate) n i t (inside t) (r .closing))), gated-shaped c g s))

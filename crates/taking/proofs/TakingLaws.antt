@@ -7,15 +7,13 @@ use mathlib.Core.List.{List}
 use mathlib.Core.Logic.{_≢_}
 use Prim.Native.Nat.{ℕ, _+_, _-_, _≤_, _<_}
 use native.Mathlib.Omega.{arith}
-use native.Mathlib.Decide.{decLt}
 use native.Mathlib.Nat.{mod-eq-of-lt}
 use lib.Dec.{eqb}
-use lib.ListN.{length, getD, take, drop, List·getD-eq-default}
+use lib.ListN.{length, getD, take, drop}
 use lib.Seq.{sets, take-take, length-take-le}
 use borrow.Author.Tests.{eq-eqb, ne-eqb, lt-ltb, le-ltb}
 use Rattle.base.proofs.Conds.{by-test}
 use Rattle.ring.specs.Ring.{baseOf, run, around}
-use Rattle.ring.proofs.Areas.{area-in-store}
 use Rattle.ring.proofs.Around.{around-length, around-take, stream-around}
 use Rattle.ring.proofs.Runs.{run-length}
 use Rattle.ring.proofs.Stores.{stream-length}
@@ -31,6 +29,7 @@ use Rattle.connection.specs.declared.Connection.{Connection}
 use Rattle.connection.specs.Closings.{isOpen}
 use Rattle.connection.specs.Ranges.{receives}
 use Rattle.connection.specs.Parts.{InReceive, firstHeld, heldOf}
+use Rattle.connection.proofs.StoreLaws.{area-in, receive-area}
 use Rattle.connection.proofs.RangeLaws.{ranged, receives-both}
 use Rattle.judging.specs.declared.Judged.{Judged}
 use Rattle.judging.specs.Judging.{stateOf, unjudged, judgedOf}
@@ -45,32 +44,14 @@ pub record Area (c : Connection) (store : List ℕ) (i : ℕ) : Type 0 where
   pub listed : i < length (c .settings .receive)
   pub stored : baseOf (c .settings .receive) i + getD (c .settings .receive) i 0 ≤ length store
   pub some : 0 < getD (c .settings .receive) i 0
-  pub small : getD (c .settings .receive) i 0 ≤ 131072
   pub start : getD (c .receiving .starts) i 0 < getD (c .settings .receive) i 0
   pub held : getD (c .receiving .held) i 0 ≤ getD (c .settings .receive) i 0
 
 pub area : (c : Connection) (store : List ℕ) (i : ℕ) → InReceive c store i → Area c store i
 area c store i (ok, h) =
-    let p = receives-both c (length store) ok in
-    let r = ranged c (p .0) in
-    let cap = r .set .receive i h in
-    let q = r .receiving i h in
-    let listed : i < length (c .settings .receive) = inside (c .settings .receive) i (omega arith) in
-    record {
-      listed = listed;
-      stored = area-in-store store (c .settings .receive) i (p .1) listed;
-      some = omega arith;
-      small = cap .1;
-      start = q .0;
-      held = omega arith;
-    }
-  where
-    -- what is not 0 is an entry
-    inside : (l : List ℕ) (i : ℕ) → 0 < getD l i 0 → i < length l
-    inside l i h = elim (decLt i (length l)) [
-      | yes y ↦ y
-      | no x ↦ absurd (omega (arith, List·getD-eq-default l 0 {n = i} (omega arith)))
-    ]
+    let k = receive-area c (length store) i ok h in
+    let q = ranged c (receives-both c (length store) ok .0) .receiving i h in
+    record { listed = k .listed; stored = area-in _ _ i k; some = k .some; start = q .0; held = omega (arith, q .1) }
 
 -- the first n bytes held lie around the area, from the start place on
 pub held-around : (c : Connection) (store : List ℕ) (i n : ℕ) → Area c store i → n ≤ getD (c .settings .receive) i 0

@@ -21,8 +21,7 @@ use Rattle.connection.specs.Closings.{isOpen, closedBy}
 use Rattle.connection.specs.Ranges.{inRange, receives}
 use Rattle.connection.specs.Parts.{withGate, InReceive, firstHeld, heldOf}
 use Rattle.judging.specs.Judging.{stateOf, ours, barred, leadsTo}
-use Rattle.taking.specs.declared.Taken.{Taken}
-use Rattle.taking.specs.Taking.{Told, told, refused, handed, takeOf}
+use Rattle.taking.specs.Taking.{Told, refused, handed, takeOf}
 
 -- Take asks in an order: each of these supposes that nothing before it was refused. First a record in range with its receive store, and an
 -- instance: `InReceive`.
@@ -83,12 +82,6 @@ HandsOut =
     → (n : ℕ) × (m : message.Message) × (next : ℕ) × Spells c store i n m × (leadsTo c i m ≡ To next)
     × (takeOf c store i buf .answer
     ≡ record { number = 0; len = n; message = m; connection = handed c i (record { number = 0; len = n; message = m; next = next }) })
-
--- T1: the contract leaves one answer, one record and one buffer
-abbrev pub Once : Type 0
-Once =
-    (c : Connection) (store : List ℕ) (i : ℕ) (buf : List ℕ) (t t′ : Taken) (after after′ : List ℕ)
-    → told t after ≡ takeOf c store i buf → told t′ after′ ≡ takeOf c store i buf → (t ≡ t′) × (after ≡ after′)
 
 -- a record in range stays in range (for T10)
 abbrev pub Keeps : Type 0

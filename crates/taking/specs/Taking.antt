@@ -1,10 +1,10 @@
 -- Take (document 01, "Numbers and their order": 10; 19; at Done, notice 3 with nothing held, else 17; our agency, notice 2; incomplete,
 -- notice 1, or 20 if closed; 14; 15; 16; 18; 23 before all others).
-use Prim.Native.Nat.{ℕ, _+_, _-_, _%_}
-use mathlib.Core.Bool.{Bool, cond, _&&_}
+use Prim.Native.Nat.{ℕ}
+use mathlib.Core.Bool.{cond}
 use mathlib.Core.List.{List}
-use lib.Dec.{eqb, leb, ltb}
-use lib.ListN.{length, getD, set}
+use lib.Dec.{eqb, ltb}
+use lib.ListN.{length, getD}
 use lib.Seq.{sets}
 use Rattle.wire.specs.Instances.{instances}
 use Rattle.item.specs.declared.Verdict.{Verdict}
@@ -16,8 +16,9 @@ use Rattle.messages.specs.Matching.{begun}
 use Rattle.connection.specs.declared.Receiving.{Receiving}
 use Rattle.connection.specs.declared.Connection.{Connection}
 use Rattle.connection.specs.declared.Closing.the-variants.{Of}
-use Rattle.connection.specs.Closings.{isOpen, closedBy}
+use Rattle.connection.specs.Closings.{isOpen, closedBy, takeFault}
 use Rattle.connection.specs.Ranges.{receives}
+use Rattle.connection.specs.Areas.{startsPast, countsLess}
 use Rattle.connection.specs.Parts.{withReceiving, withTalk, withGate, firstHeld, heldOf}
 use Rattle.judging.specs.declared.Judged.{Judged}
 use Rattle.judging.specs.Judging.{stateOf, ours, barred, movedBy, unjudged, judgedOf}
@@ -52,25 +53,22 @@ judgeOf c store i = cond (eqb (earlyOf c i) 0) (byVerdict c store i (verdict (he
 
 -- ---- refusals
 
--- 14 to 17 from take are faults: they close
-abbrev pub faulty : ℕ → Bool
-faulty n = leb 14 n && leb n 17
-
--- a refusal otherwise changes nothing
+-- a refusal changes nothing
 abbrev pub refused : Connection → ℕ → Taken
 refused c n = record { number = n; len = 0; message = begun 0; connection = c }
 
+-- but a fault closes
 abbrev pub undone : Connection → ℕ → ℕ → Taken
-undone c i n = cond (faulty n) (refused (withGate c (closedBy (c .gate) (Of n i))) n) (refused c n)
+undone c i n = cond (takeFault n) (refused (withGate c (closedBy (c .gate) (Of n i))) n) (refused c n)
 
 -- ---- handing out
 
--- n bytes of instance i are freed: their room is used again
+-- n bytes of instance i are freed
 abbrev pub freedOf : Receiving → List ℕ → ℕ → ℕ → Receiving
 freedOf r caps i n =
     record {
-      starts = set (r .starts) i ((getD (r .starts) i 0 + n) % getD caps i 0);
-      held = set (r .held) i (getD (r .held) i 0 - n);
+      starts = startsPast caps (r .starts) i n;
+      held = countsLess (r .held) i n;
       header = r .header;
       instance = r .instance;
       rest = r .rest;

@@ -5,19 +5,22 @@
 use connection::Closing;
 use connection::Connection;
 use connection::Receiving;
+use connection::areas::fewer;
+use connection::areas::past;
+use connection::areas::read;
 use connection::parts::at;
-use connection::parts::changed;
 use connection::parts::close;
 use connection::parts::is_open;
 use connection::parts::with_gate;
 use connection::parts::with_receiving;
 use connection::parts::with_talk;
-use connection::range::done;
 use connection::range::receives;
+use connection::range::take_fault;
 use item::Verdict;
 use judging::Judged;
 use messages::Message;
 use rows::Protocol;
+use rows::spoken::done;
 use wire::instances::INSTANCES;
 ghost use mathlib.Core.Path.{_≡_};
 ghost use mathlib.Core.Bool.{true};
@@ -29,7 +32,7 @@ ghost use Rattle.wire.specs.Instances.{instances};
 ghost use Rattle.item.specs.Verdict.{verdict};
 ghost use Rattle.connection.specs.Parts.{InReceive, firstHeld, heldOf};
 ghost use Rattle.connection.specs.Ranges.{inRange};
-ghost use Rattle.taking.specs.Taking.{told, earlyOf, byVerdict, judgeOf, faulty, refused, undone, freedOf, handed, hand, takeOf};
+ghost use Rattle.taking.specs.Taking.{told, earlyOf, byVerdict, judgeOf, refused, undone, freedOf, handed, hand, takeOf};
 ghost use Rattle.taking.specs.Inside.{heardAs};
 
 // The number; where it is 0, the message's length and what it says; and the record.
@@ -107,13 +110,6 @@ pub fn judge(c: Connection, store: &[u8], i: usize) -> Judged
     judge_held(c, store, i)
 }
 
-// 14 to 17 are faults: they close.
-fn faulty(number: u64) -> bool
-    ensures { λ r. ⌜ r ≡ faulty number ⌝ }
-{
-    base::and(14 <= number, number <= 17)
-}
-
 // A refusal or a notice that changes nothing.
 fn refused(c: Connection, number: u64) -> Taken
     ensures { λ r. ⌜ r ≡ refused c number ⌝ }
@@ -130,7 +126,7 @@ fn refused(c: Connection, number: u64) -> Taken
 fn undone(c: Connection, instance: u64, number: u64) -> Taken
     ensures { λ r. ⌜ r ≡ undone c instance number ⌝ }
 {
-    if faulty(number) {
+    if take_fault(number) {
         let gate = c.gate;
         let closed = with_gate(c, close(gate, Closing::Of(number, instance)));
         return refused(closed, number);
@@ -138,7 +134,7 @@ fn undone(c: Connection, instance: u64, number: u64) -> Taken
     refused(c, number)
 }
 
-// n bytes of instance i are freed: their room is used again. Place and bytes are small, so that their sum fits.
+// n bytes of instance i are freed.
 fn freed(r: Receiving, caps: [u64; INSTANCES], i: usize, n: u64) -> Receiving
     requires { ⌜ (i < instances) × (0 < getD caps i 0) × (getD (r .starts) i 0 + n < 2 ^ 32) × (n ≤ getD (r .held) i 0) ⌝ }
     ensures { λ q. ⌜ q ≡ freedOf r caps i n ⌝ }
@@ -146,11 +142,9 @@ fn freed(r: Receiving, caps: [u64; INSTANCES], i: usize, n: u64) -> Receiving
     let starts = r.starts;
     let held = r.held;
     let header = r.header;
-    let start = (at(starts, i) + n) % at(caps, i);
-    let rest = at(held, i) - n;
     Receiving {
-        starts: changed(starts, i, start),
-        held: changed(held, i, rest),
+        starts: past(caps, starts, i, n),
+        held: fewer(held, i, n),
         header,
         instance: r.instance,
         rest: r.rest,
@@ -181,16 +175,7 @@ fn copy(c: Connection, store: &[u8], i: usize, buf: &mut [u8], n: usize)
     let caps = settings.receive;
     let receiving = c.receiving;
     let starts = receiving.starts;
-    let base = ring::base_of(&caps, i);
-    ring::read(
-        buf,
-        0,
-        store,
-        base,
-        at(caps, i) as usize,
-        at(starts, i) as usize,
-        n,
-    );
+    read(buf, 0, store, &caps, i, at(starts, i), n);
 }
 
 // The message that was judged is handed out, if there is room for it.

@@ -150,3 +150,26 @@ once (whole h p {bs} e n d) (whole h′ p′ {bs = bs′} e′ n′ d′) q =
 
 pub divided-once : DividedOnce
 divided-once xs left left′ cs cs′ d d′ = once d d′ refl
+
+-- ---- a division with more behind it, and its end
+
+-- bytes more are divided with those that were left
+pub divided-on : {bs left left′ : List ℕ} {cs cs′ : List Carried} (zs : List ℕ) → Divided bs cs left → Divided (left ++ zs) cs′ left′
+    → Divided (bs ++ zs) (cs ++ cs′) left′
+divided-on zs (in-header h) d = d
+divided-on zs (in-payload h p e n) d = d
+divided-on zs (whole h p {bs = bs} e n k) d = rw (append-assoc h (p ++ bs) zs, append-assoc p bs zs) (whole h p e n (divided-on zs k d))
+
+-- a header with its payload, and nothing behind it
+pub divided-whole : (h p : List ℕ) → length h ≡ headerLength → length p ≡ decoded h .len
+    → Divided (h ++ p) (record { header = decoded h; payload = p } ∷ []) []
+divided-whole h p e n = rw append-nil at (whole h p {bs = []} e n (in-header {bs = []} (omega arith)))
+
+-- what is left stands at the end of the bytes
+pub divided-ends : {bs left : List ℕ} {cs : List Carried} → Divided bs cs left → (front : List ℕ) × (bs ≡ front ++ left)
+divided-ends (in-header h) = ([], refl)
+divided-ends (in-payload h p e n) = ([], refl)
+divided-ends (whole h p {left = left} e n d) =
+    let q = divided-ends d in
+    let inner : (p ++ q .0) ++ left ≡ p ++ (q .0 ++ left) = append-assoc p (q .0) left in
+    (h ++ (p ++ q .0), ap (λ (l : List ℕ). h ++ (p ++ l)) (q .1) ∙ sym (append-assoc h (p ++ q .0) left ∙ ap (λ (l : List ℕ). h ++ l) inner))

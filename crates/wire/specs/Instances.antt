@@ -31,6 +31,10 @@ bundle = record { protocol = 0; role = ofSide } ∷ (pair 2 ++ (pair 3 ++ (pair 
 abbrev pub instances : ℕ
 instances = length bundle
 
+-- Handshake's
+abbrev pub handshake : ℕ
+handshake = 0
+
 -- what instance i is
 abbrev pub at : ℕ → Instance
 at i = getD bundle i (record { protocol = 0; role = ofSide })

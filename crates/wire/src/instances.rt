@@ -7,6 +7,9 @@ ghost use Rattle.wire.specs.Inside.{columnOf, byMode};
 // How many instances a connection has.
 pub const INSTANCES: usize = 9;
 
+// Handshake's.
+pub const HANDSHAKE: usize = 0;
+
 // Our side of the connection. The dialler is initiator of Handshake.
 pub enum Side {
     Dialler,

@@ -1,12 +1,13 @@
 -- `cbor::any` meets its contract: each arm does what its initial byte says.
 -- Assumes nothing.
-use mathlib.Core.Path.{sym, ap, _∙_}
+use mathlib.Core.Path.{refl, sym, ap, _∙_}
 use native.Mathlib.Omega.{arith}
 use borrow.Author.Needs.{needs}
 use Rattle.head.specs.Initial.{initial}
+use Rattle.head.proofs.ReadLaws.{long-small}
 use Rattle.ring.specs.Ring.{around}
 use Rattle.ring.proofs.Around.{around-length}
-use Rattle.cbor.proofs.AnyHead.{lacks, no-reserved, long-most}
+use Rattle.cbor.proofs.AnyHead.{lacks, no-reserved}
 use Rattle.cbor.proofs.any.Statement.{statement}
 use Rattle.cbor.proofs.any.Tie as tie
 
@@ -26,7 +27,8 @@ long-requires : tie.Need-long-requires
 long-requires c κs =
     let p = c .before .before .before .before .before .before .before .pre in
     let e = ap initial (sym (c .before .before .before .before .byte-at .ensures)) ∙ sym (c .before .before .before .initial-of .ensures) ∙ c .before .i2 .given .1 in
-    ((p .0, p .1, omega arith, long-most _ _ _ e, p .3, p .4), e)
+    let small = long-small _ refl e in
+    ((p .0, p .1, omega arith, omega arith, p .3, p .4), e)
 
 indefinite-requires : tie.Need-indefinite-requires
 indefinite-requires c κs =

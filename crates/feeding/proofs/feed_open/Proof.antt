@@ -17,9 +17,8 @@ steps-requires c κs =
     let s = c .before .before .before .before .before .before .before .before .before .before .before .before in
     let k = s .args .c in
     let st = now (s .args .store) in
-    let wide : length (k .settings .receive) ≡ instances = simp length-map at (s .good .0 .1 .1 .0 .1 .1 .1 .1 .0 .1 .0 .1) in
     let many : length (k .receiving .held) ≡ instances = simp length-map at (s .good .0 .1 .1 .1 .0 .1 .1 .1 .0 .1 .0 .1) in
-    subst (Sound (k .settings .receive)) (sym (open-parts k st (s .pre .1))) (sound-given k st (s .pre .0) wide many)
+    subst (Sound (k .settings .receive)) (sym (open-parts k st (s .pre .1))) (sound-given k st (s .pre .0) many)
 
 returns : tie.Need-returns
 returns c =

@@ -17,7 +17,7 @@ returns c =
     (omega arith)
     (omega arith)
     (omega arith)
-    (c .before .before .before .before .before .before .lay .ensures)
+    (c .before .before .before .before .before .before .write .ensures)
     (c .instance-for .ensures)
 
 pub kept-spec : {M : Type 1} → statement M

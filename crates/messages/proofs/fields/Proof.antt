@@ -13,7 +13,8 @@ use Rattle.ring.proofs.Around.{around-length}
 use Rattle.messages.specs.declared.Message.{Message}
 use Rattle.messages.specs.Matching.{ItemsAt, inMessage, begun}
 use Rattle.messages.specs.Reading.{fieldsOf}
-use Rattle.messages.specs.Inside.{formsUpTo, formAt}
+use Rattle.rows.specs.Inside.{entries}
+use Rattle.messages.specs.Inside.{formAt}
 use Rattle.messages.proofs.FieldLaws.{with-count, one-more, one-wrong, none-left, items-after, part-item, last-ends}
 use borrow.Author.Needs.{needs}
 use Rattle.messages.proofs.fields.Statement.{statement}
@@ -132,7 +133,7 @@ returns-2 c =
     none-left (around (now (a .s)) (a .from) (a .n)) (formAt (a .row) .fields) (l .i) (l .at) (l .message) (omega (arith, c .before .before .before .fields .ensures .0)) ∙ l .inv .1 .gives
 
 pub fields-spec : {M : Type 1} → statement M
-unfolding formsUpTo
+unfolding entries
 fields-spec =
     tie.close
     (tie.spec

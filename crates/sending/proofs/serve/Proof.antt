@@ -5,8 +5,9 @@ use Prim.Native.Nat.{min}
 use native.Mathlib.Omega.{arith}
 use lib.ListN.{length}
 use Rattle.connection.proofs.RangeLaws.{ranged, sends-both}
+use Rattle.connection.proofs.StoreLaws.{send-area}
 use Rattle.sending.specs.NextSegment.{much}
-use Rattle.sending.proofs.SendingLaws.{waits-area, much-small, serve-short, serve-made}
+use Rattle.sending.proofs.SendingLaws.{much-small, serve-short, serve-made}
 use borrow.Author.Needs.{needs}
 use Rattle.sending.proofs.serve.Statement.{statement}
 use Rattle.sending.proofs.serve.Tie as tie
@@ -39,15 +40,19 @@ put-header-requires c κs =
     let m = much-small (a .c) (a .store .now) (a .i) (start b .pre) in
     (start b .pre .1, omega arith, omega arith)
 
-put-payload-requires : tie.Need-put-payload-requires
-put-payload-requires c κs =
-    let b = c .before .before .before .before .before .before .before in
+read-requires : tie.Need-read-requires
+read-requires c κs =
+    let b = c .before .before .before .before .before .before .before .before in
     let a = start b .args in
-    (rw (sends-much b) (waits-area (a .c) (a .store .now) (a .i) (start b .pre)), search needs)
+    let (ok, h) = start b .pre in
+    let e = sends-much b in
+    let m = much-small (a .c) (a .store .now) (a .i) (ok, h) in
+    let q = ranged (a .c) (sends-both (a .c) (length (a .store .now)) ok .0) .sending (a .i) h in
+    (send-area (a .c) (length (a .store .now)) (a .i) ok h, omega arith, search needs)
 
 sent-requires : tie.Need-sent-requires
 sent-requires c κs =
-    let b = c .before .before .before .before .before .before .before .before .before .before in
+    let b = c .before .before .before .before .before .before .before .before .before .before .before in
     let a = start b .args in
     let (ok, h) = start b .pre in
     let e = sends-much b in
@@ -59,13 +64,13 @@ sent-requires c κs =
 
 returns-2 : tie.Need-returns-2
 returns-2 c =
-    let past = c .before .before .before .before .before .before .before .before .before .before .before in
+    let past = c .before .before .before .before .before .before .before .before .before .before .before .before in
     let b = past .before in
     let a = start b .args in
     let laid = c .before .before .before .before in
     serve-made (a .c) (a .store .now) (a .time) (a .buf .now) (a .i) (b .smaller .result) (sends-much b)
     (c .with-sending .result) (c .before .sent .result) _ (past .if1 .left) (c .before .sent .ensures) (c .with-sending .ensures)
-    (laid .put-payload .ensures ∙ rw (laid .before .at2 .ensures, laid .before .before .before .before .before .put-header .ensures))
+    (laid .read .ensures ∙ rw (laid .before .at2 .ensures, laid .before .before .before .before .before .before .put-header .ensures))
 
 pub serve-spec : {M : Type 1} → statement M
 serve-spec =
@@ -78,7 +83,7 @@ serve-spec =
     returns
     put-header-requires
     (λ c κs. search needs)
-    put-payload-requires
+    read-requires
     sent-requires
     (λ c κs. search needs)
     (λ c. search needs)

@@ -5,25 +5,12 @@ use Rattle.taking.proofs.freed.Statement.{statement}
 use Rattle.taking.proofs.freed.Tie as tie
 
 returns : tie.Need-returns
-returns c =
-    rw (
-      c .changed2 .ensures,
-      c .before .changed .ensures,
-      c .before .before .at3 .ensures,
-      c .before .before .before .at2 .ensures,
-      c .before .before .before .before .at .ensures,
-    )
+returns c = rw (c .fewer .ensures, c .before .past .ensures)
 
 pub freed-spec : {M : Type 1} → statement M
 freed-spec =
     tie.close
     (tie.spec
-    (λ c κs. search needs)
-    (λ c. search needs)
-    (λ c κs. search needs)
-    (λ c. search needs)
-    (λ c κs. search needs)
-    (λ c. search needs)
     (λ c κs. search needs)
     (λ c κs. search needs)
     returns)

@@ -1,8 +1,8 @@
--- `connection::range::done` meets its contract: it is that of the instance's protocol.
+-- `rows::spoken::done` meets its contract: it is that of the instance's protocol.
 -- Assumes nothing.
 use borrow.Author.Needs.{needs}
-use Rattle.connection.proofs.range.done.Statement.{statement}
-use Rattle.connection.proofs.range.done.Tie as tie
+use Rattle.rows.proofs.spoken.done.Statement.{statement}
+use Rattle.rows.proofs.spoken.done.Tie as tie
 
 returns : tie.Need-returns
 returns c = cc
