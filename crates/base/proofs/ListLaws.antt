@@ -46,3 +46,9 @@ pub at-set : (P : ℕ → ℕ → Type 0) (l : List ℕ) (i v : ℕ) → i < len
 at-set P l i v h here there j =
     by-test (eqb j i) (λ q. rw (eqb-true j i q, getD-set-same l i v 0 h) here)
     (λ q. rw (getD-set-other l i j v 0 (eqb-false j i q)) (there j (eqb-false j i q)))
+
+-- past the end nothing is set
+pub set-past : (l : List ℕ) (i v : ℕ) → length l ≤ i → set l i v ≡ l
+set-past [] i v h = refl
+set-past (x ∷ l) zero v h = absurd (omega arith)
+set-past (x ∷ l) (suc i) v h = ap (λ (t : List ℕ). x ∷ t) (set-past l i v (omega arith))

@@ -15,7 +15,7 @@ use connection::parts::with_sending;
 use connection::parts::with_talk;
 use feeding::feed;
 use putting::put;
-use rows::spoken::done;
+use rows::Protocol;
 use sending::Made;
 use sending::next_segment;
 use taking::take;
@@ -43,6 +43,7 @@ const ANSWERS: u64 = 8;
 fn talking(side: Side, limit: u64, receive: &[u8], send: &[u8]) -> Connection {
     let caps = [CAPACITY; INSTANCES];
     let settings = Settings {
+        bundle: 0,
         side,
         limit,
         receive: caps,
@@ -50,7 +51,7 @@ fn talking(side: Side, limit: u64, receive: &[u8], send: &[u8]) -> Connection {
     };
     let opened = open(settings, receive, send);
     let mut states = [0; INSTANCES];
-    states[HANDSHAKE] = done(HANDSHAKE);
+    states[HANDSHAKE] = rows::done(Protocol::Handshake);
     states[FETCHES] = STREAMING;
     states[SERVES] = STREAMING;
     let talk = Talk {

@@ -11,7 +11,7 @@ use lib.ListN.{length}
 use lib.Seq.{sets}
 use borrow.Author.Tests.{lt-ltb, le-ltb, leb-true, leb-false}
 use Rattle.base.proofs.Conds.{so, is, and-left}
-use Rattle.wire.specs.Instances.{instances}
+use Rattle.wire.specs.Instances.{known, instances}
 use Rattle.head.specs.Write.{shortest}
 use Rattle.rows.specs.declared.Protocol.{Protocol}
 use Rattle.rows.specs.Spoken.{speaks}
@@ -102,30 +102,47 @@ module _ (ns : List ℕ) (runs : ℕ) (first second : List ℕ) (kind : ℕ) (fs
   unfolding madeBy
   planned-so t g = rw (plan-is t) g
 
--- ---- build
+-- ---- a kind, and its row
 
-module _ (instance kind : ℕ) (ns : List ℕ) (runs : ℕ) (first second buf : List ℕ) where
-  pub build-above : instances ≤ instance → told (refusal 10) buf ≡ buildOf instance kind ns runs first second buf
+module _ (p : Protocol) (kind : ℕ) (ns : List ℕ) (runs : ℕ) (first second buf : List ℕ) where
+  abbrev message : Told
+  message = handed buf (bytesOf p kind ns runs first second)
+
+  pub kind-not-given : allGiven runs first second ≡ false → told (refusal 15) buf ≡ message
+  unfolding bytesOf given
+  kind-not-given g = rw g
+
+  module _ (g : allGiven runs first second ≡ true) {w : Listed} (found : Finds p kind w) where
+    pub kind-unknown : w ≡ Unknown → told (refusal 15) buf ≡ message
+    unfolding bytesOf given encoded
+    kind-unknown e = rw (g, subst (Finds p kind) e found)
+
+    pub kind-known : (row : ℕ) {x : Told} → w ≡ Row row → x ≡ handed buf (madeBy ns runs first second (formAt row .fields) kind) → x ≡ message
+    unfolding bytesOf given encoded
+    kind-known row e h =
+        let row-found : Finds p kind (Row row) = subst (Finds p kind) e found in
+        h
+        ∙ sym
+        (rw (g, row-found .1)
+        (ap (handed buf) (plan-whole ns runs first second kind (formAt row .fields) (at-most-two runs first second g)
+        (at-most row (row-found .0)))))
+
+-- ---- the bundle, and its instance
+
+module _ (bundle instance kind : ℕ) (ns : List ℕ) (runs : ℕ) (first second buf : List ℕ) where
+  abbrev out : Told
+  out = buildOf bundle instance kind ns runs first second buf
+
+  pub build-no-bundle : known bundle ≡ false → told (refusal 23) buf ≡ out
   unfolding buildOf
-  build-above h = rw (le-ltb instance instances h)
+  build-no-bundle k = rw k
 
-  module _ (low : instance < instances) where
-    pub build-not-given : allGiven runs first second ≡ false → told (refusal 15) buf ≡ buildOf instance kind ns runs first second buf
-    unfolding buildOf bytesOf given
-    build-not-given g = rw (lt-ltb instance instances low, g)
+  pub build-above : known bundle ≡ true → instances bundle ≤ instance → told (refusal 10) buf ≡ out
+  unfolding buildOf
+  build-above k h = rw (k, le-ltb instance (instances bundle) h)
 
-    module _ (g : allGiven runs first second ≡ true) {p : Protocol} (speaks-p : p ≡ speaks instance) {w : Listed} (found : Finds p kind w) where
-      pub build-unknown : w ≡ Unknown → told (refusal 15) buf ≡ buildOf instance kind ns runs first second buf
-      unfolding buildOf bytesOf given encoded
-      build-unknown e = rw (lt-ltb instance instances low, g, ← speaks-p, subst (Finds p kind) e found)
-
-      pub build-known : (row : ℕ) {x : Told} → w ≡ Row row → x ≡ handed buf (madeBy ns runs first second (formAt row .fields) kind)
-          → x ≡ buildOf instance kind ns runs first second buf
-      unfolding buildOf bytesOf given encoded
-      build-known row e h =
-          let row-found : Finds p kind (Row row) = subst (Finds p kind) e found in
-          h
-          ∙ sym
-          (rw (lt-ltb instance instances low, g, ← speaks-p, row-found .1)
-          (ap (handed buf) (plan-whole ns runs first second kind (formAt row .fields) (at-most-two runs first second g)
-          (at-most row (row-found .0)))))
+  pub build-spoken : known bundle ≡ true → instance < instances bundle → {p : Protocol} {x : Told} → p ≡ speaks bundle instance
+      → x ≡ handed buf (bytesOf p kind ns runs first second) → x ≡ out
+  unfolding buildOf
+  build-spoken k low s e =
+      e ∙ ap (λ p. handed buf (bytesOf p kind ns runs first second)) s ∙ sym (rw (k, lt-ltb instance (instances bundle) low))

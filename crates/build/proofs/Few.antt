@@ -1,4 +1,4 @@
--- What is small of a form: its kind is at most 7, and it has no more than three fields, of which no more than two are given by runs.
+-- What is small of a form: its kind is at most 9, and it has no more than three fields, of which no more than two are given by runs.
 -- Each holds of every row of the tables, and so of what is found in one.
 -- Assumes nothing.
 use Prim.Native.Nat.{ℕ, zero, suc, _≤_}
@@ -26,13 +26,13 @@ runsIn [] = zero
 runsIn (f ∷ fs) = cond (numeric f) (runsIn fs) (suc (runsIn fs))
 
 pub record Few (kind : ℕ) (fs : List Field) : Type 0 where
-  pub kinds : kind ≤ 7
+  pub kinds : kind ≤ 9
   pub fields : length fs ≤ 3
   pub runs : runsIn fs ≤ 2
 
 -- the same as a test, and of all rows
 few : ℕ → List Field → Bool
-few k fs = leb k 7 && (leb (length fs) 3 && leb (runsIn fs) 2)
+few k fs = leb k 9 && (leb (length fs) 3 && leb (runsIn fs) 2)
 
 all-few : List Form → Bool
 all-few [] = true
@@ -41,9 +41,9 @@ all-few (f ∷ l) = few (f .kind) (f .fields) && all-few l
 is-few : (k : ℕ) (fs : List Field) → T (few k fs) → Few k fs
 unfolding few
 is-few k fs t =
-    let u = and-right (leb k 7) (leb (length fs) 3 && leb (runsIn fs) 2) t in
+    let u = and-right (leb k 9) (leb (length fs) 3 && leb (runsIn fs) 2) t in
     record {
-      kinds = leb→le k 7 (and-left (leb k 7) (leb (length fs) 3 && leb (runsIn fs) 2) t);
+      kinds = leb→le k 9 (and-left (leb k 9) (leb (length fs) 3 && leb (runsIn fs) 2) t);
       fields = leb→le (length fs) 3 (and-left (leb (length fs) 3) (leb (runsIn fs) 2) u);
       runs = leb→le (runsIn fs) 2 (and-right (leb (length fs) 3) (leb (runsIn fs) 2) u);
     }
@@ -79,6 +79,7 @@ one-more bs fs xs (matching.word u l) e = e
 one-more bs fs xs (matching.false b) e = e
 one-more bs fs xs (matching.true b) e = e
 one-more bs fs xs (matching.a-version u l) e = e
+one-more bs fs xs (matching.failure u l) e = e
 
 pub runs-counted : (bs : List ℕ) {fs : List Field} {p q : ℕ} {xs : List Value} → FieldsAt bs fs p xs q → length (runsOf bs xs) ≡ runsIn fs
 unfolding runsIn

@@ -18,7 +18,7 @@ use Rattle.messages.specs.declared.forms.Field.the-variants as field
 use Rattle.messages.specs.declared.elements.End.{End}
 use Rattle.messages.specs.declared.elements.End.the-variants.{At, Nowhere}
 use Rattle.messages.specs.Forms.{formOf}
-use Rattle.messages.specs.Matching.{array, map, words, versions, inMessage}
+use Rattle.messages.specs.Matching.{array, map, words, versions, failures, inMessage}
 use Rattle.messages.specs.Reading.{onEnd, itemEnd}
 use Rattle.build.specs.Made.{onSome, elementsOf, nextItem, nextPair, nextVersion, headed, limited, truth, oneItem, ofNumber, ofRun, numeric, firstOf, allUsed, made, encoded}
 use Rattle.build.proofs.Counting.{Found, some-cases}
@@ -38,6 +38,7 @@ number-bytes field.Word v = limited-bytes words v
 number-bytes field.Bool v =
     cond-cases (Found Bytes) (eqb v 0) (λ _. (omega arith, tt)) (λ _. cond-cases (Found Bytes) (eqb v 1) (λ _. (omega arith, tt)) (λ _. tt))
 number-bytes field.Version v = limited-bytes versions v
+number-bytes field.Failure v = limited-bytes failures v
 
 item-bytes : (r : List ℕ) (e : End) → Bytes r → Found Bytes (onEnd none e (λ q. cond (eqb q (length r)) (some r) none))
 item-bytes r (At q) b = cond-cases (Found Bytes) (eqb q (length r)) (λ _. b) (λ _. tt)
@@ -55,6 +56,7 @@ run-bytes field.Versions r b = headed-bytes map r (elementsOf (nextVersion r) r)
 run-bytes field.Word r b = tt
 run-bytes field.Bool r b = tt
 run-bytes field.Version r b = tt
+run-bytes field.Failure r b = tt
 
 -- ---- messages
 

@@ -173,6 +173,7 @@ module _ (bs : List ℕ) where
   field-made bytes (matching.false e) = (False ∷ [], refl, byte-piece False e (field-item bs (matching.false e) .inside))
   field-made bytes (matching.true e) = (True ∷ [], refl, byte-piece True e (field-item bs (matching.true e) .inside))
   field-made bytes (matching.a-version u l) = number-made bytes u l
+  field-made bytes (matching.failure u l) = number-made bytes u l
 
   -- the first field takes what it says
   first-made : {f : Field} {p q : ℕ} {x : Value} → FieldAt bs f p x q → (fs : List Field) (xs : List Value)
@@ -187,6 +188,7 @@ module _ (bs : List ℕ) where
   first-made (matching.false e) fs xs = refl
   first-made (matching.true e) fs xs = refl
   first-made (matching.a-version u l) fs xs = refl
+  first-made (matching.failure u l) fs xs = refl
 
   fields-made : {fs : List Field} {p q : ℕ} {xs : List Value} → Bytes bs → p ≤ length bs → (s : FieldsAt bs fs p xs q)
       → Gives (made fs (numbersOf xs) (runsOf bs xs)) p q (FieldsLeast s)

@@ -19,7 +19,7 @@ use Rattle.messages.specs.declared.forms.Field.{Field}
 use Rattle.messages.specs.declared.forms.Field.the-variants as field
 use Rattle.messages.specs.declared.elements.End.{End}
 use Rattle.messages.specs.declared.elements.End.the-variants.{At, Nowhere}
-use Rattle.messages.specs.Matching.{words, versions, inMessage}
+use Rattle.messages.specs.Matching.{words, versions, failures, inMessage}
 use Rattle.messages.specs.Reading.{onEnd, itemEnd}
 use Rattle.build.specs.Made.{onSome, numeric, ofNumber, ofRun, allUsed, made}
 use Rattle.build.specs.Building.{allGiven, empty}
@@ -45,6 +45,7 @@ number-piece field.Bool (suc zero) run t = refl
 number-piece field.Bool (suc (suc v)) run t =
     rw (ne-eqb (suc (suc v)) 0 (λ e. omega arith), ne-eqb (suc (suc v)) 1 (λ e. omega arith), le-ltb (suc (suc v)) 2 (omega arith))
 number-piece field.Version v run t = limited-piece versions v (λ a. pieceOf field.Version a run) (λ a. append-nil (shortest 0 a))
+number-piece field.Failure v run t = limited-piece failures v (λ a. pieceOf field.Failure a run) (λ a. append-nil (shortest 0 a))
 
 one-piece : (run : List ℕ) (e : End) → onEnd none e (λ q. cond (eqb q (length run)) (some run) none)
     ≡ onSome (onEnd none e (λ q. cond (eqb q (length run)) (some 0) none)) (λ a. some (pieceOf field.Item a run))
@@ -61,6 +62,7 @@ run-piece field.Versions run t = refl
 run-piece field.Word run t = absurd (true≢false t)
 run-piece field.Bool run t = absurd (true≢false t)
 run-piece field.Version run t = absurd (true≢false t)
+run-piece field.Failure run t = absurd (true≢false t)
 
 -- ---- a field in front of others: its argument stays where it was set
 

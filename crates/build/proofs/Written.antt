@@ -20,7 +20,7 @@ use Rattle.item.specs.Grammar.{Frame}
 use Rattle.messages.specs.declared.forms.Field.{Field}
 use Rattle.messages.specs.declared.forms.Field.the-variants as field
 use Rattle.messages.specs.declared.elements.Number.the-variants.{Is}
-use Rattle.messages.specs.Matching.{Value, number, place, Stands, ItemAt, ItemsAt, Opens, UnsignedAt, array, map, versions, words, False, True, inMessage, inList, PairsAt, no-pair, pair, VersionsAt, no-version, version, FieldAt}
+use Rattle.messages.specs.Matching.{Value, number, place, Stands, ItemAt, ItemsAt, Opens, UnsignedAt, array, map, versions, words, failures, False, True, inMessage, inList, PairsAt, no-pair, pair, VersionsAt, no-version, version, FieldAt}
 use Rattle.messages.specs.Matching as matching
 use Rattle.messages.specs.Reading.{itemEnd, pairEnd, versionAt}
 use Rattle.messages.proofs.ElementLaws.{end-cases, number-cases, Numbers, item-sound, pair-sound, version-sound, none-at, item-then, number-item}
@@ -76,6 +76,7 @@ number-says field.Versions v = tt
 number-says field.Word v = limited-says field.Word words v (omega arith) (λ bs p q u l s. (matching.word u l, s))
 number-says field.Bool v = truth-says v
 number-says field.Version v = limited-says field.Version versions v (omega arith) (λ bs p q u l s. (matching.a-version u l, s))
+number-says field.Failure v = limited-says field.Failure failures v (omega arith) (λ bs p q u l s. (matching.failure u l, s))
 
 -- ---- runs
 
@@ -193,3 +194,4 @@ run-holds field.Versions r small =
 run-holds field.Word r small = tt
 run-holds field.Bool r small = tt
 run-holds field.Version r small = tt
+run-holds field.Failure r small = tt

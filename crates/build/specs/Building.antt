@@ -1,4 +1,4 @@
--- Build (document 01, "CBOR" and "Numbers and their order": 10; 15; 18).
+-- Build (document 01, "CBOR" and "Numbers and their order": 10; 15; 18; document 02, K1: 23 for an unknown bundle).
 use Prim.Native.Nat.{ℕ}
 use mathlib.Core.Bool.{Bool, cond, _&&_, _||_}
 use mathlib.Core.List.{List, [], _∷_}
@@ -6,7 +6,8 @@ use mathlib.Core.Option.{Option, none, some}
 use lib.Dec.{eqb, ltb, leb}
 use lib.ListN.{length, take}
 use lib.Seq.{sets}
-use Rattle.wire.specs.Instances.{instances}
+use Rattle.wire.specs.Instances.{known, instances}
+use Rattle.rows.specs.declared.Protocol.{Protocol}
 use Rattle.rows.specs.Spoken.{speaks}
 use Rattle.build.specs.declared.Built.{Built}
 use Rattle.build.specs.Made.{onSome, encoded}
@@ -35,9 +36,9 @@ allGiven runs first second = leb runs 2 && ((leb 1 runs || empty first) && (leb 
 unfoldable pub given : ℕ → List ℕ → List ℕ → Option (List (List ℕ))
 given runs first second = cond (allGiven runs first second) (some (take runs (first ∷ second ∷ []))) none
 
--- the message that the parts make, of the protocol that the instance speaks
-unfoldable pub bytesOf : ℕ → ℕ → List ℕ → ℕ → List ℕ → List ℕ → Option (List ℕ)
-bytesOf instance kind ns runs first second = onSome (given runs first second) (λ rs. encoded (speaks instance) kind ns rs)
+-- the message of the protocol that the parts make
+unfoldable pub bytesOf : Protocol → ℕ → List ℕ → ℕ → List ℕ → List ℕ → Option (List ℕ)
+bytesOf p kind ns runs first second = onSome (given runs first second) (λ rs. encoded p kind ns rs)
 
 -- 15 where they make none; 18 where the lent buffer is shorter than the message; else it stands at the buffer's front
 abbrev pub handed : List ℕ → Option (List ℕ) → Told
@@ -45,7 +46,9 @@ handed buf none = refused buf 15
 handed buf (some bs) =
     cond (ltb (length buf) (length bs)) (refused buf 18) (told (record { number = 0; len = length bs }) (sets buf 0 bs))
 
--- 10 above the last instance, before all else
-unfoldable pub buildOf : ℕ → ℕ → List ℕ → ℕ → List ℕ → List ℕ → List ℕ → Told
-buildOf instance kind ns runs first second buf =
-    cond (ltb instance instances) (handed buf (bytesOf instance kind ns runs first second)) (refused buf 10)
+-- 23 for an unknown bundle, before all else; 10 above its last instance; else the message is of the protocol that the instance speaks
+unfoldable pub buildOf : ℕ → ℕ → ℕ → List ℕ → ℕ → List ℕ → List ℕ → List ℕ → Told
+buildOf bundle instance kind ns runs first second buf =
+    cond (known bundle)
+    (cond (ltb instance (instances bundle)) (handed buf (bytesOf (speaks bundle instance) kind ns runs first second)) (refused buf 10))
+    (refused buf 23)

@@ -11,7 +11,7 @@ use Rattle.head.specs.Write.{lengthOf, shortest}
 use Rattle.messages.specs.declared.forms.Field.{Field}
 use Rattle.messages.specs.declared.forms.Field.the-variants as field
 use Rattle.messages.specs.declared.elements.Number.{Number}
-use Rattle.messages.specs.Matching.{array, map, versions, words, inMessage}
+use Rattle.messages.specs.Matching.{array, map, versions, words, failures, inMessage}
 use Rattle.messages.specs.Reading.{onEnd, itemEnd}
 use Rattle.build.specs.declared.Built.{Built}
 use Rattle.build.specs.declared.parts.Argument.{Argument}
@@ -42,6 +42,7 @@ headless field.Versions = false
 headless field.Word = false
 headless field.Bool = false
 headless field.Version = false
+headless field.Failure = false
 
 -- the major type of its head
 abbrev pub majorOf : Field → ℕ
@@ -52,6 +53,7 @@ majorOf field.Versions = map
 majorOf field.Word = 0
 majorOf field.Bool = simple
 majorOf field.Version = 0
+majorOf field.Failure = 0
 
 -- what was found of an argument
 abbrev pub argued : Argument → Option ℕ
@@ -71,6 +73,7 @@ numberArgument field.Versions v = none
 numberArgument field.Word v = limitedBy words v
 numberArgument field.Bool v = cond (ltb v 2) (some (simpleFalse + v)) none
 numberArgument field.Version v = limitedBy versions v
+numberArgument field.Failure v = limitedBy failures v
 
 -- the next element of a list or a map
 abbrev pub nextOf : Element → List ℕ → ℕ → ℕ → Number
@@ -95,6 +98,7 @@ runArgument field.Versions run = countOf element.Version run
 runArgument field.Word run = none
 runArgument field.Bool run = none
 runArgument field.Version run = none
+runArgument field.Failure run = none
 
 -- ---- all fields
 

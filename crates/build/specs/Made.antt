@@ -12,7 +12,7 @@ use Rattle.messages.specs.declared.forms.Field.the-variants as field
 use Rattle.messages.specs.declared.elements.Number.{Number}
 use Rattle.messages.specs.declared.elements.Number.the-variants.{Is, Not}
 use Rattle.messages.specs.Forms.{formOf}
-use Rattle.messages.specs.Matching.{array, map, versions, words, False, True, inMessage, inList}
+use Rattle.messages.specs.Matching.{array, map, versions, words, failures, False, True, inMessage, inList}
 use Rattle.messages.specs.Reading.{onNumber, onEnd, itemEnd, pairEnd, versionAt}
 
 abbrev pub onSome : {A B : Type 0} → Option A → (A → Option B) → Option B
@@ -63,6 +63,7 @@ ofNumber field.Versions v = none
 ofNumber field.Word v = limited words v
 ofNumber field.Bool v = truth v
 ofNumber field.Version v = limited versions v
+ofNumber field.Failure v = limited failures v
 
 abbrev pub ofRun : Field → List ℕ → Option (List ℕ)
 ofRun field.Item run = oneItem run
@@ -72,6 +73,7 @@ ofRun field.Versions run = headed map run (elementsOf (nextVersion run) run)
 ofRun field.Word run = none
 ofRun field.Bool run = none
 ofRun field.Version run = none
+ofRun field.Failure run = none
 
 -- A field is given by a number, or by a run.
 abbrev pub numeric : Field → Bool
@@ -82,6 +84,7 @@ numeric field.Versions = false
 numeric field.Word = true
 numeric field.Bool = true
 numeric field.Version = true
+numeric field.Failure = true
 
 -- The bytes of the fields, each from the next number or the next run; nothing is left over.
 abbrev pub firstOf : {A : Type 0} → List A → (A → List A → Option (List ℕ)) → Option (List ℕ)

@@ -45,6 +45,7 @@ FieldLeast {bs} (matching.word {p = p} {v = v} {q = q} u l) = Least bs 0 v p q
 FieldLeast (matching.false e) = Unit {0}
 FieldLeast (matching.true e) = Unit {0}
 FieldLeast {bs} (matching.a-version {p = p} {v = v} {q = q} u l) = Least bs 0 v p q
+FieldLeast {bs} (matching.failure {p = p} {v = v} {q = q} u l) = Least bs 0 v p q
 
 abbrev pub FieldsLeast : {bs : List ℕ} {fs : List Field} {p q : ℕ} {xs : List Value} → FieldsAt bs fs p xs q → Type 0
 FieldsLeast no-field = Unit {0}

@@ -29,6 +29,7 @@ fn is_headless(f: Field) -> bool
         Field::Word => false,
         Field::Bool => false,
         Field::Version => false,
+        Field::Failure => false,
     }
 }
 
@@ -44,6 +45,7 @@ fn major(f: Field) -> u8
         Field::Word => UNSIGNED,
         Field::Bool => SIMPLE,
         Field::Version => UNSIGNED,
+        Field::Failure => UNSIGNED,
     }
 }
 

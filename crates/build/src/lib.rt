@@ -7,13 +7,13 @@ mod parts;
 
 use messages::forms::Listed;
 use messages::forms::MOST_FIELDS;
-use wire::instances::INSTANCES;
+use rows::Protocol;
 ghost use mathlib.Core.Path.{_≡_};
 ghost use mathlib.Core.Bool.{true};
 ghost use mathlib.Core.Option.{some};
 ghost use Prim.Native.Nat.{_<_};
 ghost use Rattle.messages.specs.Inside.{formCount, formAt};
-ghost use Rattle.build.specs.Building.{told, allGiven, handed, buildOf};
+ghost use Rattle.build.specs.Building.{told, allGiven, bytesOf, handed, buildOf};
 ghost use Rattle.build.specs.Inside.{refusal, wholeOf, HeadsAndRuns, madeBy};
 
 // The number; where it is 0, how long the message is.
@@ -73,9 +73,32 @@ fn build_form(
     hand(row, kind, arguments, first, second, buf)
 }
 
-// Makes a message at the front of the lent buffer, from its kind, its numbers and so many runs: none, the first, or both.
-// A run that is not given is empty.
+// A message of the protocol, by its kind.
+fn build_kind(
+    p: Protocol,
+    kind: u64,
+    numbers: &[u64],
+    runs: u64,
+    first: &[u8],
+    second: &[u8],
+    buf: &mut [u8],
+) -> Built
+    ensures { λ r. ⌜ told r (now (buf .exit)) ≡ handed (now (buf .entry)) (bytesOf p kind (now (numbers .entry)) runs (now (first .entry)) (now (second .entry))) ⌝ }
+{
+    if !parts::are_given(runs, first, second) {
+        return refused(15);
+    }
+    let form = messages::forms::find(p, kind);
+    match form {
+        Listed::Row(row) => build_form(row, kind, numbers, runs, first, second, buf),
+        Listed::Unknown => refused(15),
+    }
+}
+
+// Makes a message of the protocol that an instance of the bundle speaks, at the front of the lent buffer, from its kind, its
+// numbers and so many runs: none, the first, or both. A run that is not given is empty.
 pub fn build(
+    bundle: u64,
     instance: u64,
     kind: u64,
     numbers: &[u64],
@@ -84,17 +107,14 @@ pub fn build(
     second: &[u8],
     buf: &mut [u8],
 ) -> Built
-    ensures { λ r. ⌜ told r (now (buf .exit)) ≡ buildOf instance kind (now (numbers .entry)) runs (now (first .entry)) (now (second .entry)) (now (buf .entry)) ⌝ }
+    ensures { λ r. ⌜ told r (now (buf .exit)) ≡ buildOf bundle instance kind (now (numbers .entry)) runs (now (first .entry)) (now (second .entry)) (now (buf .entry)) ⌝ }
 {
-    if INSTANCES as u64 <= instance {
+    if !wire::instances::known(bundle) {
+        return refused(23);
+    }
+    if wire::instances::count(bundle) as u64 <= instance {
         return refused(10);
     }
-    if !parts::are_given(runs, first, second) {
-        return refused(15);
-    }
-    let form = messages::forms::find(rows::spoken::protocol(instance as usize), kind);
-    match form {
-        Listed::Row(row) => build_form(row, kind, numbers, runs, first, second, buf),
-        Listed::Unknown => refused(15),
-    }
+    let p = rows::spoken::protocol(bundle, instance as usize);
+    build_kind(p, kind, numbers, runs, first, second, buf)
 }

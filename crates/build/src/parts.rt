@@ -2,6 +2,7 @@
 //
 // Each run is walked once. A list's or a map's head counts its elements; a number's and a bool's head says it.
 use messages::elements::End;
+use messages::elements::FAILURE_LIMIT;
 use messages::elements::IN_LIST;
 use messages::elements::IN_MESSAGE;
 use messages::elements::Number;
@@ -63,6 +64,7 @@ pub fn is_number(f: Field) -> bool
         Field::Word => true,
         Field::Bool => true,
         Field::Version => true,
+        Field::Failure => true,
     }
 }
 
@@ -98,6 +100,7 @@ fn of_number(f: Field, v: u64) -> Argument
         Field::Word => argument_if(v < WORD_LIMIT, v),
         Field::Bool => bool_argument(v),
         Field::Version => argument_if(v < VERSION_LIMIT, v),
+        Field::Failure => argument_if(v < FAILURE_LIMIT, v),
     }
 }
 
@@ -188,6 +191,7 @@ fn of_run(f: Field, run: &[u8]) -> Argument
         Field::Word => Argument::Wrong,
         Field::Bool => Argument::Wrong,
         Field::Version => Argument::Wrong,
+        Field::Failure => Argument::Wrong,
     }
 }
 

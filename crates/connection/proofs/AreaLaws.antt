@@ -11,7 +11,8 @@ use lib.ListN.{getD}
 use borrow.Author.Tests.{eq-eqb, eqb-true, eqb-false, ltb-true, ltb-false, lt-ltb, le-ltb, leb-true, leb-false, le-leb, lt-leb, not-true, not-false}
 use Rattle.base.specs.Below.{allBelow}
 use Rattle.base.proofs.Conds.{by-test, so, is, and-left, and-right, below-at, below-next, below-all}
-use Rattle.wire.specs.Instances.{instances}
+use Rattle.wire.specs.Instances.{known, instances}
+use Rattle.wire.proofs.InstanceLaws.{at-least}
 use Rattle.connection.specs.declared.Connection.{Connection}
 use Rattle.connection.specs.Closings.{gateOk}
 use Rattle.connection.specs.Inside.{areaIn, receivingIn, sendingIn}
@@ -30,6 +31,18 @@ stop {r} x e t = rw (sym e ∙ not-true r t)
 
 pub on : {r a x y : Bool} → r ≡ a → not r ≡ false → y ≡ x → y ≡ (a && x)
 on {r} e t f = rw (sym e ∙ not-false r t) f
+
+-- a test of two, each by what it means
+pub two : {r a b a′ b′ : Bool} → r ≡ (a && b) → a ≡ a′ → b ≡ b′ → r ≡ (a′ && b′)
+two e f g = rw (← f, ← g) e
+
+-- the first of two that hold
+pub and-first : (a b : Bool) → (a && b) ≡ true → a ≡ true
+and-first a b e = is a (and-left a b (so (a && b) e))
+
+-- a known bundle has an instance 0
+pub has-first : (b : ℕ) → known b ≡ true → 0 < instances b
+has-first b e = omega (arith, at-least b e)
 
 -- ---- tests of each number below another
 
@@ -58,47 +71,52 @@ below-both f g (suc n) = rw (below-both f g n) (crossed (allBelow f n) (allBelow
 -- the states and the marks
 abbrev talking : Connection → Bool
 talking c =
-    allBelow (stateOk (c .talk)) instances
-    && (turnOk (c .sending .turn) && (headerOk (c .receiving) && (acceptOk (c .talk) && gateOk (c .gate))))
+    let b = c .settings .bundle in
+    allBelow (stateOk b (c .talk)) (instances b)
+    && (turnOk (instances b) (c .sending .turn) && (headerOk (instances b) (c .receiving) && (acceptOk b (c .talk) && gateOk b (c .gate))))
 
--- the limit; the areas for receiving, and for sending, each with its capacity; states and marks
+-- the bundle and the limit; the areas for receiving, and for sending, each with its capacity; states and marks
 abbrev pub parts : Connection → Bool
 parts c =
     let s = c .settings in
     let r = c .receiving in
     let w = c .sending in
-    limitOk (s .limit)
-    && (allBelow (receivingIn (s .receive) (r .starts) (r .held) (r .instance) (r .rest)) instances
-    && (allBelow (sendingIn (s .send) (w .starts) (w .waiting)) instances && talking c))
+    let n = instances (s .bundle) in
+    (known (s .bundle) && limitOk (s .limit))
+    && (allBelow (receivingIn (s .receive) (r .starts) (r .held) (r .instance) (r .rest)) n
+    && (allBelow (sendingIn (s .send) (w .starts) (w .waiting)) n && talking c))
 
-grouped : (l p q r s x : Bool) → ((l && (p && q)) && (r && (s && x))) ≡ (l && ((p && r) && ((q && s) && x)))
-grouped true true true r s x = refl
-grouped true true false r s x = sym (and-false r)
-grouped true false q r s x = refl
-grouped false p q r s x = refl
+grouped : (k l p q r s x : Bool) → ((k && (l && (p && q))) && (r && (s && x))) ≡ ((k && l) && ((p && r) && ((q && s) && x)))
+grouped true true true true r s x = refl
+grouped true true true false r s x = sym (and-false r)
+grouped true true false q r s x = refl
+grouped true false p q r s x = refl
+grouped false l p q r s x = refl
 
-regrouped : (l a p q r s x b d : Bool) → a ≡ (p && q) → b ≡ (p && r) → d ≡ (q && s)
-    → ((l && a) && (r && (s && x))) ≡ (l && (b && (d && x)))
-regrouped l a p q r s x b d e f g = rw (e, f, g) (grouped l p q r s x)
+regrouped : (k l a p q r s x b d : Bool) → a ≡ (p && q) → b ≡ (p && r) → d ≡ (q && s)
+    → ((k && (l && a)) && (r && (s && x))) ≡ ((k && l) && (b && (d && x)))
+regrouped k l a p q r s x b d e f g = rw (e, f, g) (grouped k l p q r s x)
 
 in-parts : (c : Connection) → inRange c ≡ parts c
 unfolding inRange settingsOk
 in-parts c =
     let receive : ℕ → Bool = λ i. capacityOk (getD (c .settings .receive) i 0) in
     let send : ℕ → Bool = λ i. capacityOk (getD (c .settings .send) i 0) in
+    let n = instances (c .settings .bundle) in
     regrouped
+    (known (c .settings .bundle))
     (limitOk (c .settings .limit))
     _
-    (allBelow receive instances)
-    (allBelow send instances)
+    (allBelow receive n)
+    (allBelow send n)
     _
     _
     (talking c)
     _
     _
-    (below-both receive send instances)
-    (below-both receive (receivingOk (c .settings) (c .receiving)) instances)
-    (below-both send (sendingOk (c .settings) (c .sending)) instances)
+    (below-both receive send n)
+    (below-both receive (receivingOk (c .settings) (c .receiving)) n)
+    (below-both send (sendingOk (c .settings) (c .sending)) n)
 
 pub by-parts : (c : Connection) (y : Bool) → y ≡ parts c → y ≡ inRange c
 by-parts c y e = e ∙ sym (in-parts c)
@@ -181,41 +199,41 @@ with-rest caps starts held instance rest i e h =
     (λ q. rw q (area-within (getD caps i 0) (getD starts i 0) (getD held i 0) (getD held i 0 + 0) e (omega arith)))
 
 -- where every area passes, the rest decides
-pub rest-decides : (caps starts held : List ℕ) (instance rest : ℕ) → allBelow (sendingIn caps starts held) instances ≡ true
-    → leb rest (roomOf caps held instance rest instances) ≡ allBelow (receivingIn caps starts held instance rest) instances
-rest-decides caps starts held instance rest e =
-    by-test (ltb instance instances) (λ q. rw q (inside (ltb-true instance instances q)))
+pub rest-decides : (n : ℕ) (caps starts held : List ℕ) (instance rest : ℕ) → allBelow (sendingIn caps starts held) n ≡ true
+    → leb rest (roomOf caps held instance rest n) ≡ allBelow (receivingIn caps starts held instance rest) n
+rest-decides n caps starts held instance rest e =
+    by-test (ltb instance n) (λ q. rw q (inside (ltb-true instance n q)))
     (λ q.
-    let h : instances ≤ instance = ltb-false instance instances q in
+    let h : n ≤ instance = ltb-false instance n q in
     rw (q, le-leb rest rest (le-refl rest)) (sym (all (λ i l z. absurd (omega arith)))))
   where
-    each : (i : ℕ) → i < instances → sendingIn caps starts held i ≡ true
+    each : (i : ℕ) → i < n → sendingIn caps starts held i ≡ true
     each i l =
         let f = sendingIn caps starts held in
-        is (f i) (below-at f instances (so (allBelow f instances) e) i l)
+        is (f i) (below-at f n (so (allBelow f n) e) i l)
 
-    all : ((i : ℕ) → i < instances → instance ≡ i → getD held i 0 + rest ≤ getD caps i 0)
-        → allBelow (receivingIn caps starts held instance rest) instances ≡ true
-    all h = below-all (receivingIn caps starts held instance rest) instances (λ i l. with-rest caps starts held instance rest i (each i l) (h i l))
+    all : ((i : ℕ) → i < n → instance ≡ i → getD held i 0 + rest ≤ getD caps i 0)
+        → allBelow (receivingIn caps starts held instance rest) n ≡ true
+    all h = below-all (receivingIn caps starts held instance rest) n (λ i l. with-rest caps starts held instance rest i (each i l) (h i l))
 
-    inside : instance < instances
-        → leb rest (getD caps instance 0 - getD held instance 0) ≡ allBelow (receivingIn caps starts held instance rest) instances
+    inside : instance < n
+        → leb rest (getD caps instance 0 - getD held instance 0) ≡ allBelow (receivingIn caps starts held instance rest) n
     inside l =
         let cap = getD caps instance 0 in
-        let n = getD held instance 0 in
-        let k : n ≤ cap = area-count cap (getD starts instance 0) n (each instance l) in
-        by-test (leb rest (cap - n))
+        let count = getD held instance 0 in
+        let k : count ≤ cap = area-count cap (getD starts instance 0) count (each instance l) in
+        by-test (leb rest (cap - count))
         (λ q.
-        let fit : rest ≤ cap - n = leb-true rest (cap - n) q in
-        let sum : n + rest ≤ cap = omega arith in
+        let fit : rest ≤ cap - count = leb-true rest (cap - count) q in
+        let sum : count + rest ≤ cap = omega arith in
         q ∙ sym (all (λ i b z. subst (λ (j : ℕ). getD held j 0 + rest ≤ getD caps j 0) z sum)))
         (λ q.
-        let over : cap - n < rest = leb-false rest (cap - n) q in
-        let sum : cap < n + rest = omega arith in
+        let over : cap - count < rest = leb-false rest (cap - count) q in
+        let sum : cap < count + rest = omega arith in
         q
         ∙ sym (below-not
         (receivingIn caps starts held instance rest)
-        instances
+        n
         instance
         l
-        (rw (eq-eqb instance instance refl) (area-over cap (getD starts instance 0) (n + rest) sum))))
+        (rw (eq-eqb instance instance refl) (area-over cap (getD starts instance 0) (count + rest) sum))))

@@ -4,3 +4,4 @@ pub mod NumberLaws
 pub mod StoreLaws
 pub mod ClosingLaws
 pub mod Once
+pub mod ShownLaws

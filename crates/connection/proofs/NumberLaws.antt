@@ -9,16 +9,16 @@ use lib.Dec.{eqb, eqb→eq}
 use lib.ListN.{getD, getD-replicate}
 use borrow.Author.Tests.{eq-eqb, lt-ltb, le-leb}
 use Rattle.base.proofs.Conds.{cond-cases, so, is, and-left, and-right, below-all}
-use Rattle.ring.specs.Ring.{together}
 use Rattle.rows.specs.Rows.{doneOf}
-use Rattle.wire.specs.Instances.{instances}
+use Rattle.wire.specs.Instances.{instances, most}
 use Rattle.connection.specs.declared.Settings.{Settings}
 use Rattle.connection.specs.declared.Connection.{Connection}
 use Rattle.rows.specs.Spoken.{speaks}
-use Rattle.connection.specs.Ranges.{settingsOk, restFor, receiveStoreOk, sendStoreOk, receivingOk, sendingOk, stateOk, inRange}
+use Rattle.connection.specs.Ranges.{settingsOk, restFor, receiveLength, sendLength, receiveStoreOk, sendStoreOk, receivingOk, sendingOk, stateOk, inRange}
 use Rattle.connection.specs.Openings.{zeros, fresh, openOf}
 use Rattle.connection.specs.Statuses.{statusOf}
 use Rattle.connection.specs.Numbers.{Opens, OpenNumbers, OpenExactly, Opening, StatusExactly}
+use Rattle.wire.proofs.InstanceLaws.{at-most, at-least}
 use Rattle.connection.proofs.RangeLaws.{settings-set}
 
 -- ---- open
@@ -32,12 +32,12 @@ opens s n m e =
     let t = so (tested s n m) e in
     let u = and-right (settingsOk s) stores t in (
       is (settingsOk s) (and-left (settingsOk s) stores t),
-      eqb→eq n (together (s .receive)) (and-left (receiveStoreOk s n) (sendStoreOk s m) u),
-      eqb→eq m (together (s .send)) (and-right (receiveStoreOk s n) (sendStoreOk s m) u),
+      eqb→eq n (receiveLength s) (and-left (receiveStoreOk s n) (sendStoreOk s m) u),
+      eqb→eq m (sendLength s) (and-right (receiveStoreOk s n) (sendStoreOk s m) u),
     )
 
 passes : (s : Settings) (n m : ℕ) → Opens s n m → tested s n m ≡ true
-passes s n m (a, b, c) = rw (a, eq-eqb n (together (s .receive)) b, eq-eqb m (together (s .send)) c)
+passes s n m (a, b, c) = rw (a, eq-eqb n (receiveLength s) b, eq-eqb m (sendLength s) c)
 
 by-tested : (s : Settings) (n m : ℕ) (t : Bool) → tested s n m ≡ t → OpenNumbers s n m
 unfolding openOf
@@ -64,31 +64,36 @@ status-exactly c = by-range c (inRange c) refl
 -- ---- what open leaves
 
 -- an array of zeros has zeros
-zero-at : (i : ℕ) → i < instances → getD zeros i 0 ≡ 0
-zero-at i h = getD-replicate instances i 0 0 h
+zero-at : (i : ℕ) → i < most → getD zeros i 0 ≡ 0
+zero-at i h = getD-replicate most i 0 0 h
 
-fresh-receives : (s : Settings) (i : ℕ) → settingsOk s ≡ true → i < instances → receivingOk s (fresh s 1 .receiving) i ≡ true
+-- an instance of the bundle has a place in the array
+low : (s : Settings) (i : ℕ) → i < instances (s .bundle) → i < most
+low s i h = omega (arith, at-most (s .bundle))
+
+fresh-receives : (s : Settings) (i : ℕ) → settingsOk s ≡ true → i < instances (s .bundle) → receivingOk s (fresh s 1 .receiving) i ≡ true
 fresh-receives s i e h =
     let c = settings-set s e .receive i h in
     let r : restFor 0 0 i ≡ 0 = cond-cases (λ (k : ℕ). k ≡ 0) (eqb 0 i) (λ t. refl) (λ t. refl) in
-    rw (zero-at i h, r, lt-ltb 0 (getD (s .receive) i 0) (omega arith), le-leb (0 + 0) (getD (s .receive) i 0) (omega arith))
+    rw (zero-at i (low s i h), r, lt-ltb 0 (getD (s .receive) i 0) (omega arith), le-leb (0 + 0) (getD (s .receive) i 0) (omega arith))
 
-fresh-sends : (s : Settings) (i : ℕ) → settingsOk s ≡ true → i < instances → sendingOk s (fresh s 1 .sending) i ≡ true
+fresh-sends : (s : Settings) (i : ℕ) → settingsOk s ≡ true → i < instances (s .bundle) → sendingOk s (fresh s 1 .sending) i ≡ true
 fresh-sends s i e h =
     let c = settings-set s e .send i h in
-    rw (zero-at i h, lt-ltb 0 (getD (s .send) i 0) (omega arith), le-leb 0 (getD (s .send) i 0) (omega arith))
+    rw (zero-at i (low s i h), lt-ltb 0 (getD (s .send) i 0) (omega arith), le-leb 0 (getD (s .send) i 0) (omega arith))
 
-fresh-speaks : (s : Settings) (i : ℕ) → i < instances → stateOk (fresh s 1 .talk) i ≡ true
-fresh-speaks s i h = rw (zero-at i h) (le-leb 0 (doneOf (speaks i)) (omega arith))
+fresh-speaks : (s : Settings) (i : ℕ) → i < instances (s .bundle) → stateOk (s .bundle) (fresh s 1 .talk) i ≡ true
+fresh-speaks s i h = rw (zero-at i (low s i h)) (le-leb 0 (doneOf (speaks (s .bundle) i)) (omega arith))
 
 fresh-ranged : (s : Settings) → settingsOk s ≡ true → inRange (fresh s 1) ≡ true
 unfolding inRange
 fresh-ranged s e =
     rw (
       e,
-      below-all (receivingOk s (fresh s 1 .receiving)) instances (λ i h. fresh-receives s i e h),
-      below-all (sendingOk s (fresh s 1 .sending)) instances (λ i h. fresh-sends s i e h),
-      below-all (stateOk (fresh s 1 .talk)) instances (λ i h. fresh-speaks s i h),
+      below-all (receivingOk s (fresh s 1 .receiving)) (instances (s .bundle)) (λ i h. fresh-receives s i e h),
+      below-all (sendingOk s (fresh s 1 .sending)) (instances (s .bundle)) (λ i h. fresh-sends s i e h),
+      below-all (stateOk (s .bundle) (fresh s 1 .talk)) (instances (s .bundle)) (λ i h. fresh-speaks s i h),
+      lt-ltb 1 (instances (s .bundle)) (at-least (s .bundle) (settings-set s e .bundle)),
     )
 
 pub opening : Opening

@@ -12,7 +12,7 @@ use lib.ListN.{length, getD, List·getD-eq-default}
 use lib.Seq.{getD-set-same, getD-set-other}
 use borrow.Author.Tests.{eqb-true, eqb-false}
 use Rattle.base.proofs.Conds.{by-test}
-use Rattle.ring.specs.Ring.{baseOf, together}
+use Rattle.ring.specs.Ring.{baseOf}
 use Rattle.ring.proofs.Areas.{area-within}
 use Rattle.wire.specs.Instances.{instances}
 use Rattle.connection.specs.declared.Connection.{Connection}
@@ -22,28 +22,24 @@ use Rattle.connection.specs.Ranges.{receives, sends}
 use Rattle.connection.proofs.RangeLaws.{ranged, receives-both, sends-both}
 
 -- what is not 0 is an entry: an area that is not empty is one of those that there are
-pub area-of : (caps : List ℕ) (n i : ℕ) → 0 < getD caps i 0 → n ≡ together caps → Area caps n i
-area-of caps n i some stored = elim (decLt i (length caps)) [
-  | yes y ↦ record { listed = y; some = some; stored = stored }
+pub area-of : (caps : List ℕ) (n i : ℕ) → 0 < getD caps i 0 → baseOf caps i + getD caps i 0 ≤ n → Area caps n i
+area-of caps n i some inside = elim (decLt i (length caps)) [
+  | yes y ↦ record { listed = y; some = some; inside = inside }
   | no x ↦ absurd (omega (arith, List·getD-eq-default caps 0 {n = i} (omega arith)))
 ]
 
--- it lies in the store
-pub area-in : (caps : List ℕ) (n i : ℕ) → Area caps n i → baseOf caps i + getD caps i 0 ≤ n
-area-in caps n i a = omega (arith, area-within caps i (length caps) (a .listed), a .stored)
-
 -- each instance of a record in range with its store has its area
-pub receive-area : (c : Connection) (n i : ℕ) → receives c n ≡ true → i < instances → Area (c .settings .receive) n i
+pub receive-area : (c : Connection) (n i : ℕ) → receives c n ≡ true → i < instances (c .settings .bundle) → Area (c .settings .receive) n i
 receive-area c n i ok h =
     let p = receives-both c n ok in
     let cap = ranged c (p .0) .set .receive i h in
-    area-of (c .settings .receive) n i (omega arith) (p .1)
+    area-of (c .settings .receive) n i (omega arith) (omega (arith, area-within (c .settings .receive) i (instances (c .settings .bundle)) h, p .1))
 
-pub send-area : (c : Connection) (n i : ℕ) → sends c n ≡ true → i < instances → Area (c .settings .send) n i
+pub send-area : (c : Connection) (n i : ℕ) → sends c n ≡ true → i < instances (c .settings .bundle) → Area (c .settings .send) n i
 send-area c n i ok h =
     let p = sends-both c n ok in
     let cap = ranged c (p .0) .set .send i h in
-    area-of (c .settings .send) n i (omega arith) (p .1)
+    area-of (c .settings .send) n i (omega arith) (omega (arith, area-within (c .settings .send) i (instances (c .settings .bundle)) h, p .1))
 
 -- where n bytes leave the front of the area of instance i, each start place stays below its capacity, and no count is more
 pub leaves-front : (caps starts counts : List ℕ) (i n : ℕ) → 0 < getD caps i 0 → i < length starts → i < length counts

@@ -1,9 +1,9 @@
--- The closing (document 01, "Segments": status).
+-- The closing (document 01, "Segments": status; document 02, K1).
 use Prim.Native.Nat.{ℕ}
 use mathlib.Core.Bool.{Bool, true, false, _&&_, _||_}
 use mathlib.Core.Option.{Option, none, some}
 use lib.Dec.{eqb, leb, ltb}
-use Rattle.wire.specs.Instances.{instances, handshake}
+use Rattle.wire.specs.Instances.{instances, roleOf, sided}
 use Rattle.connection.specs.declared.Closing.{Closing}
 use Rattle.connection.specs.declared.Closing.the-variants.{Bare, Of}
 use Rattle.connection.specs.declared.Gate.{Gate}
@@ -36,11 +36,12 @@ isOpen (Closed x) = false
 abbrev pub takeFault : ℕ → Bool
 takeFault n = leb 14 n && leb n 17
 
--- a closing that a fault leaves: no instance for 11; 0 for 12; any for 13 and for those of take
-abbrev pub faultLeaves : Closing → Bool
-faultLeaves (Bare n) = eqb n 11
-faultLeaves (Of n i) = (eqb n 12 && eqb i handshake) || ((eqb n 13 || takeFault n) && ltb i instances)
+-- a closing that a fault leaves, in a bundle: no instance for 11; for 12 one of those in which our role is our side's, node to node 0 alone;
+-- any for 13 and for those of take
+abbrev pub faultLeaves : ℕ → Closing → Bool
+faultLeaves b (Bare n) = eqb n 11
+faultLeaves b (Of n i) = ltb i (instances b) && ((eqb n 12 && sided (roleOf b i)) || (eqb n 13 || takeFault n))
 
-abbrev pub gateOk : Gate → Bool
-gateOk Open = true
-gateOk (Closed x) = faultLeaves x
+abbrev pub gateOk : ℕ → Gate → Bool
+gateOk b Open = true
+gateOk b (Closed x) = faultLeaves b x

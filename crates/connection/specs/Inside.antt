@@ -5,8 +5,8 @@ use mathlib.Core.Bool.{Bool, not, _&&_, _||_}
 use mathlib.Core.List.{List}
 use lib.Dec.{eqb, leb, ltb}
 use lib.ListN.{length, getD}
-use Rattle.ring.specs.Ring.{together}
-use Rattle.wire.specs.Instances.{instances, handshake}
+use Rattle.ring.specs.Ring.{baseOf}
+use Rattle.wire.specs.Instances.{handshake}
 use Rattle.rows.specs.Rows.{doneOf}
 use Rattle.rows.specs.Spoken.{speaks}
 use Rattle.connection.specs.Ranges.{capacityOk, restFor}
@@ -24,18 +24,18 @@ receivingIn caps starts held instance rest i = areaIn (getD caps i 0) (getD star
 abbrev pub sendingIn : List ℕ → List ℕ → List ℕ → ℕ → Bool
 sendingIn caps starts waiting i = areaIn (getD caps i 0) (getD starts i 0) (getD waiting i 0)
 
-abbrev pub statesIn : List ℕ → ℕ → Bool
-statesIn states i = leb (getD states i 0) (doneOf (speaks i))
+abbrev pub statesIn : ℕ → List ℕ → ℕ → Bool
+statesIn b states i = leb (getD states i 0) (doneOf (speaks b i))
 
-abbrev pub acceptIn : Bool → List ℕ → Bool
-acceptIn accepted states = not accepted || eqb (getD states handshake 0) (doneOf (speaks handshake))
+abbrev pub acceptIn : ℕ → Bool → List ℕ → Bool
+acceptIn b accepted states = not accepted || eqb (getD states handshake 0) (doneOf (speaks b handshake))
 
--- capacities that can be summed
-abbrev pub Small : List ℕ → Type 0
-Small caps = (i : ℕ) → i < instances → getD caps i 0 ≤ 131072
+-- n capacities that can be summed
+abbrev pub Small : ℕ → List ℕ → Type 0
+Small n caps = (i : ℕ) → i < n → getD caps i 0 ≤ 131072
 
 -- the area of instance i in a store of n bytes
 pub record Area (caps : List ℕ) (n i : ℕ) : Type 0 where
   pub listed : i < length caps
   pub some : 0 < getD caps i 0
-  pub stored : n ≡ together caps
+  pub inside : baseOf caps i + getD caps i 0 ≤ n

@@ -3,16 +3,15 @@ use Prim.Native.Nat.{ℕ}
 use mathlib.Core.Path.{_≡_}
 use mathlib.Core.Bool.{true, false}
 use mathlib.Core.Logic.{_↔_}
-use Rattle.ring.specs.Ring.{together}
 use Rattle.connection.specs.declared.Settings.{Settings}
 use Rattle.connection.specs.declared.Connection.{Connection}
-use Rattle.connection.specs.Ranges.{settingsOk, inRange}
+use Rattle.connection.specs.Ranges.{settingsOk, receiveLength, sendLength, inRange}
 use Rattle.connection.specs.Openings.{refusedOpen, openOf}
 use Rattle.connection.specs.Statuses.{statusOf}
 
 -- settings in range, and both stores as long as they say
 abbrev pub Opens : Settings → ℕ → ℕ → Type 0
-Opens s n m = (settingsOk s ≡ true) × (n ≡ together (s .receive)) × (m ≡ together (s .send))
+Opens s n m = (settingsOk s ≡ true) × (n ≡ receiveLength s) × (m ≡ sendLength s)
 
 -- T2 for open: 23 otherwise, with all numbers 0 and no closing
 pub record OpenNumbers (s : Settings) (n m : ℕ) : Type 0 where

@@ -1,19 +1,20 @@
--- Open (document 01, "What the front holds").
+-- Open (document 01, "What the front holds"; document 02, K1: a bundle is chosen at open).
 use Prim.Native.Nat.{ℕ}
 use mathlib.Core.Bool.{Bool, false, cond, _&&_}
 use mathlib.Core.List.{List}
 use lib.ListN.{replicate}
 use Rattle.wire.specs.declared.instances.Side.the-variants.{Dialler}
 use Rattle.wire.specs.Segments.{empty}
-use Rattle.wire.specs.Instances.{instances}
+use Rattle.wire.specs.Instances.{most}
 use Rattle.connection.specs.declared.Settings.{Settings}
 use Rattle.connection.specs.declared.Connection.{Connection}
 use Rattle.connection.specs.declared.Gate.the-variants.{Open}
 use Rattle.connection.specs.declared.opening.Opened.{Opened}
 use Rattle.connection.specs.Ranges.{settingsOk, receiveStoreOk, sendStoreOk}
 
+-- an array by instance, with room for the largest bundle
 abbrev pub zeros : List ℕ
-zeros = replicate instances 0
+zeros = replicate most 0
 
 -- nothing received, nothing sent, every protocol in its first state: a record with these settings and this turn
 abbrev pub fresh : Settings → ℕ → Connection
@@ -28,7 +29,7 @@ fresh s turn =
 
 -- a refused open hands back all numbers 0 and no closing
 abbrev pub refusedOpen : Opened
-refusedOpen = record { number = 23; connection = fresh (record { side = Dialler; limit = 0; receive = zeros; send = zeros }) 0 }
+refusedOpen = record { number = 23; connection = fresh (record { bundle = 0; side = Dialler; limit = 0; receive = zeros; send = zeros }) 0 }
 
 -- Settings in range and stores as long as they say, or 23; the turn starts at 1.
 unfoldable pub openOf : Settings → ℕ → ℕ → Opened

@@ -29,10 +29,10 @@ withGate c g = record { settings = c .settings; receiving = c .receiving; sendin
 
 -- an instance of a record in range with its receive store, and with its send store
 abbrev pub InReceive : Connection → List ℕ → ℕ → Type 0
-InReceive c store i = (receives c (length store) ≡ true) × (i < instances)
+InReceive c store i = (receives c (length store) ≡ true) × (i < instances (c .settings .bundle))
 
 abbrev pub InSend : Connection → List ℕ → ℕ → Type 0
-InSend c store i = (sends c (length store) ≡ true) × (i < instances)
+InSend c store i = (sends c (length store) ≡ true) × (i < instances (c .settings .bundle))
 
 -- the first n bytes held of instance i, and all of them
 abbrev pub firstHeld : Connection → List ℕ → ℕ → ℕ → List ℕ

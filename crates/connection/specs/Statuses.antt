@@ -1,6 +1,9 @@
--- Status (document 01, "Segments").
-use Prim.Native.Nat.{ℕ}
+-- Status (document 01, "Segments"; document 02, K1).
+use Prim.Native.Nat.{ℕ, zero, suc}
 use mathlib.Core.Bool.{cond}
+use mathlib.Core.List.{List, [], _∷_}
+use lib.ListN.{take}
+use Rattle.wire.specs.Instances.{instances}
 use Rattle.ready.specs.Ready.{readyOf}
 use Rattle.connection.specs.declared.Connection.{Connection}
 use Rattle.connection.specs.declared.Gate.the-variants.{Open}
@@ -8,9 +11,22 @@ use Rattle.connection.specs.declared.telling.Report.{Report}
 use Rattle.connection.specs.Ranges.{inRange}
 use Rattle.connection.specs.Openings.{zeros}
 
+-- the first n entries of an array, and 0 above
+unfoldable pub upTo : ℕ → List ℕ → List ℕ
+upTo n [] = []
+upTo zero (x ∷ a) = 0 ∷ upTo zero a
+upTo (suc n) (x ∷ a) = x ∷ upTo n a
+
 -- the held and waiting counts of each instance, the ready word, how many are ready and which is lowest, and the closing
 unfoldable pub statusOf : Connection → Report
 statusOf c =
+    let n = instances (c .settings .bundle) in
     cond (inRange c)
-    (record { number = 0; held = c .receiving .held; waiting = c .sending .waiting; ready = readyOf (c .sending .waiting); gate = c .gate })
+    (record {
+      number = 0;
+      held = upTo n (c .receiving .held);
+      waiting = upTo n (c .sending .waiting);
+      ready = readyOf (take n (c .sending .waiting));
+      gate = c .gate;
+    })
     (record { number = 23; held = zeros; waiting = zeros; ready = record { word = 0; count = 0; lowest = 0 }; gate = Open })

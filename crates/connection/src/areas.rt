@@ -8,7 +8,6 @@ ghost use Prim.Native.Nat.{_+_, _≤_, _<_, _^_};
 ghost use lib.ListN.{length, getD};
 ghost use lib.Seq.{sets};
 ghost use Rattle.ring.specs.Ring.{run};
-ghost use Rattle.wire.specs.Instances.{instances};
 ghost use Rattle.connection.specs.Areas.{bytesOf, laidIn, startsPast, countsLess};
 ghost use Rattle.connection.specs.Inside.{Area};
 
@@ -51,7 +50,7 @@ pub fn write(
 // n bytes leave the front of the area of instance i: where its first byte then is, and how many bytes are left. Place and
 // bytes are small, so that their sum fits.
 pub fn past(caps: [u64; INSTANCES], starts: [u64; INSTANCES], i: usize, n: u64) -> [u64; INSTANCES]
-    requires { ⌜ (i < instances) × (0 < getD caps i 0) × (getD starts i 0 + n < 2 ^ 32) ⌝ }
+    requires { ⌜ (0 < getD caps i 0) × (getD starts i 0 + n < 2 ^ 32) ⌝ }
     ensures { λ r. ⌜ r ≡ startsPast caps starts i n ⌝ }
 {
     let start = (at(starts, i) + n) % at(caps, i);
@@ -59,7 +58,7 @@ pub fn past(caps: [u64; INSTANCES], starts: [u64; INSTANCES], i: usize, n: u64) 
 }
 
 pub fn fewer(counts: [u64; INSTANCES], i: usize, n: u64) -> [u64; INSTANCES]
-    requires { ⌜ (i < instances) × (n ≤ getD counts i 0) ⌝ }
+    requires { ⌜ n ≤ getD counts i 0 ⌝ }
     ensures { λ r. ⌜ r ≡ countsLess counts i n ⌝ }
 {
     let left = at(counts, i) - n;

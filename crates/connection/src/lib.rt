@@ -12,8 +12,10 @@ pub mod parts;
 pub mod range;
 pub mod telling;
 
-// Set at open: our side, the payload limit S, and the capacities by instance.
+// Set at open: the bundle, by number, our side, the payload limit S, and the capacities by instance. Arrays by instance
+// have room for the largest bundle.
 pub struct Settings {
+    pub bundle: u64,
     pub side: Side,
     pub limit: u64,
     pub receive: [u64; INSTANCES],

@@ -56,6 +56,7 @@ fn refused() -> Opened
 {
     let none = [0; INSTANCES];
     let settings = Settings {
+        bundle: 0,
         side: Side::Dialler,
         limit: 0,
         receive: none,
@@ -77,8 +78,8 @@ pub fn open(settings: Settings, receive: &[u8], send: &[u8]) -> Opened
     let receives = settings.receive;
     let sends = settings.send;
     let stores = base::and(
-        receive.len() == together(receives),
-        send.len() == together(sends),
+        receive.len() == together(settings.bundle, receives),
+        send.len() == together(settings.bundle, sends),
     );
     if stores {
         return Opened {

@@ -6,9 +6,7 @@ use crate::Receiving;
 use crate::Sending;
 use crate::Talk;
 use wire::instances::INSTANCES;
-ghost use Prim.Native.Nat.{_<_};
 ghost use lib.ListN.{getD, set};
-ghost use Rattle.wire.specs.Instances.{instances};
 ghost use mathlib.Core.Path.{_≡_};
 ghost use Rattle.connection.specs.Closings.{closedBy, isOpen, numberOf};
 ghost use Rattle.connection.specs.Parts.{withReceiving, withSending, withTalk, withGate};
@@ -108,20 +106,20 @@ pub fn number_of(x: Closing) -> u64
     }
 }
 
-// What stands at a place of an array by instance.
+// What stands at a place of an array by instance; 0 above its end.
 pub fn at(a: [u64; INSTANCES], i: usize) -> u64
-    requires { ⌜ i < instances ⌝ }
     ensures { λ r. ⌜ r ≡ getD a i 0 ⌝ }
 {
-    a[i]
+    if i < INSTANCES { a[i] } else { 0 }
 }
 
-// The array with another number there.
+// The array with another number there, if it has such a place.
 pub fn changed(a: [u64; INSTANCES], i: usize, n: u64) -> [u64; INSTANCES]
-    requires { ⌜ i < instances ⌝ }
     ensures { λ r. ⌜ r ≡ set a i n ⌝ }
 {
     let mut b = a;
-    b[i] = n;
+    if i < INSTANCES {
+        b[i] = n;
+    }
     b
 }

@@ -1,4 +1,4 @@
-// What of settings and record is in range: exactly document 01's list.
+// What of settings and record is in range: exactly document 01's list, of the bundle's instances.
 //
 // A test is a value, and tests together are one. What every call asks, the range of a record and the walks over its areas,
 // ends at the first test that fails. Capacities are tested before anything is summed.
@@ -12,12 +12,15 @@ use crate::Talk;
 use rows::spoken::done;
 use wire::instances::HANDSHAKE;
 use wire::instances::INSTANCES;
+use wire::instances::count;
+use wire::instances::known;
+use wire::instances::of_side;
 ghost use mathlib.Core.Path.{_≡_};
 ghost use mathlib.Core.Bool.{_&&_};
 ghost use Prim.Native.Nat.{_+_, _<_};
 ghost use lib.Dec.{leb};
 ghost use Rattle.base.specs.Below.{allBelow};
-ghost use Rattle.ring.specs.Ring.{together};
+ghost use Rattle.ring.specs.Ring.{baseOf};
 ghost use Rattle.wire.specs.Instances.{instances};
 ghost use Rattle.connection.specs.Closings.{takeFault, faultLeaves, gateOk};
 ghost use Rattle.connection.specs.Ranges.{limitOk, capacityOk, settingsOk, turnOk, headerOk, acceptOk, inRange, receives, sends};
@@ -47,33 +50,35 @@ fn capacity_ok(c: u64) -> bool
 }
 
 // All capacities, receiving and sending.
-fn capacities_ok(receive: [u64; INSTANCES], send: [u64; INSTANCES]) -> bool
-    ensures { λ r. ⌜ r ≡ allBelow (capacitiesIn receive send) instances ⌝ }
+fn capacities_ok(bundle: u64, receive: [u64; INSTANCES], send: [u64; INSTANCES]) -> bool
+    ensures { λ r. ⌜ r ≡ allBelow (capacitiesIn receive send) (instances bundle) ⌝ }
 {
+    let n = count(bundle);
     let mut ok = true;
     let mut i: usize = 0;
-    while i < INSTANCES {
+    while i < n {
         ok = base::and(ok, base::and(capacity_ok(receive[i]), capacity_ok(send[i])));
         i += 1;
     }
     ok
 }
 
-// Settings: the payload limit and the capacities.
+// Settings: the bundle, the payload limit and the capacities.
 pub fn settings_ok(s: Settings) -> bool
     ensures { λ r. ⌜ r ≡ settingsOk s ⌝ }
 {
     let receive = s.receive;
     let send = s.send;
-    base::and(limit_ok(s.limit), capacities_ok(receive, send))
+    let numbers = base::and(limit_ok(s.limit), capacities_ok(s.bundle, receive, send));
+    base::and(known(s.bundle), numbers)
 }
 
 // How long a store is: as its capacities together.
-pub fn together(caps: [u64; INSTANCES]) -> usize
-    requires { ⌜ Small caps ⌝ }
-    ensures { λ r. ⌜ r ≡ together caps ⌝ }
+pub fn together(bundle: u64, caps: [u64; INSTANCES]) -> usize
+    requires { ⌜ Small (instances bundle) caps ⌝ }
+    ensures { λ r. ⌜ r ≡ baseOf caps (instances bundle) ⌝ }
 {
-    ring::base_of(&caps, INSTANCES)
+    ring::base_of(&caps, count(bundle))
 }
 
 // Whether a count and more of it are within a capacity, whatever the numbers.
@@ -95,17 +100,19 @@ fn area_ok(cap: u64, start: u64, count: u64) -> bool
 
 // The areas for receiving. The rest of a payload under way is tested once, against the room in its instance's area.
 fn receiving_ok(
+    bundle: u64,
     caps: [u64; INSTANCES],
     starts: [u64; INSTANCES],
     held: [u64; INSTANCES],
     instance: u64,
     rest: u64,
 ) -> bool
-    ensures { λ r. ⌜ r ≡ allBelow (receivingIn caps starts held instance rest) instances ⌝ }
+    ensures { λ r. ⌜ r ≡ allBelow (receivingIn caps starts held instance rest) (instances bundle) ⌝ }
 {
+    let n = count(bundle);
     let mut room = rest;
     let mut i: usize = 0;
-    while i < INSTANCES {
+    while i < n {
         if !area_ok(caps[i], starts[i], held[i]) {
             return false;
         }
@@ -116,11 +123,17 @@ fn receiving_ok(
 }
 
 // The areas for sending.
-fn sending_ok(caps: [u64; INSTANCES], starts: [u64; INSTANCES], waiting: [u64; INSTANCES]) -> bool
-    ensures { λ r. ⌜ r ≡ allBelow (sendingIn caps starts waiting) instances ⌝ }
+fn sending_ok(
+    bundle: u64,
+    caps: [u64; INSTANCES],
+    starts: [u64; INSTANCES],
+    waiting: [u64; INSTANCES],
+) -> bool
+    ensures { λ r. ⌜ r ≡ allBelow (sendingIn caps starts waiting) (instances bundle) ⌝ }
 {
+    let n = count(bundle);
     let mut i: usize = 0;
-    while i < INSTANCES {
+    while i < n {
         if !area_ok(caps[i], starts[i], waiting[i]) {
             return false;
         }
@@ -130,24 +143,25 @@ fn sending_ok(caps: [u64; INSTANCES], starts: [u64; INSTANCES], waiting: [u64; I
 }
 
 // States are the protocol's: none is above its last.
-fn states_ok(states: [u64; INSTANCES]) -> bool
-    ensures { λ r. ⌜ r ≡ allBelow (statesIn states) instances ⌝ }
+fn states_ok(bundle: u64, states: [u64; INSTANCES]) -> bool
+    ensures { λ r. ⌜ r ≡ allBelow (statesIn bundle states) (instances bundle) ⌝ }
 {
+    let n = count(bundle);
     let mut ok = true;
     let mut i: usize = 0;
-    while i < INSTANCES {
-        ok = base::and(ok, states[i] <= done(i));
+    while i < n {
+        ok = base::and(ok, states[i] <= done(bundle, i));
         i += 1;
     }
     ok
 }
 
 // The header record has fewer than eight bytes, none with a payload under way, whose instance is one.
-fn header_ok(r: Receiving) -> bool
-    ensures { λ b. ⌜ b ≡ headerOk r ⌝ }
+fn header_ok(bundle: u64, r: Receiving) -> bool
+    ensures { λ b. ⌜ b ≡ headerOk (instances bundle) r ⌝ }
 {
     let h = r.header;
-    let under_way = base::and(h.count == 0, r.instance < INSTANCES as u64);
+    let under_way = base::and(h.count == 0, r.instance < count(bundle) as u64);
     base::and(
         h.count < wire::segment::HEADER,
         base::or(r.rest == 0, under_way),
@@ -155,19 +169,23 @@ fn header_ok(r: Receiving) -> bool
 }
 
 // Accept is marked only with Handshake at Done.
-fn accept_ok(accepted: bool, states: [u64; INSTANCES]) -> bool
-    ensures { λ r. ⌜ r ≡ acceptIn accepted states ⌝ }
+fn accept_ok(bundle: u64, accepted: bool, states: [u64; INSTANCES]) -> bool
+    requires { ⌜ 0 < instances bundle ⌝ }
+    ensures { λ r. ⌜ r ≡ acceptIn bundle accepted states ⌝ }
 {
-    base::or(base::not(accepted), states[HANDSHAKE] == done(HANDSHAKE))
+    base::or(
+        base::not(accepted),
+        states[HANDSHAKE] == done(bundle, HANDSHAKE),
+    )
 }
 
 // A closing that a fault leaves.
-fn fault_leaves(x: Closing) -> bool
-    ensures { λ r. ⌜ r ≡ faultLeaves x ⌝ }
+fn fault_leaves(bundle: u64, x: Closing) -> bool
+    ensures { λ r. ⌜ r ≡ faultLeaves bundle x ⌝ }
 {
     match x {
         Closing::Bare(n) => n == 11,
-        Closing::Of(n, i) => named(n, i),
+        Closing::Of(n, i) => named(bundle, n, i),
     }
 }
 
@@ -178,32 +196,36 @@ pub fn take_fault(n: u64) -> bool
     base::and(14 <= n, n <= 17)
 }
 
-// A closing with its instance: 12 is Handshake's, 13 and those of take may be anyone's.
-fn named(n: u64, i: u64) -> bool
-    ensures { λ r. ⌜ r ≡ faultLeaves (Of n i) ⌝ }
+// A closing with its instance: 12 is of one in which our role is our side's, 13 and those of take may be anyone's.
+fn named(bundle: u64, n: u64, i: u64) -> bool
+    ensures { λ r. ⌜ r ≡ faultLeaves bundle (Of n i) ⌝ }
 {
-    let late = base::and(base::or(n == 13, take_fault(n)), i < INSTANCES as u64);
-    base::or(base::and(n == 12, i == HANDSHAKE as u64), late)
+    if count(bundle) as u64 <= i {
+        return false;
+    }
+    let wrong = base::and(n == 12, of_side(bundle, i as usize));
+    base::or(wrong, base::or(n == 13, take_fault(n)))
 }
 
 // Open, or closed by a closing that a fault leaves.
-fn gate_ok(g: Gate) -> bool
-    ensures { λ r. ⌜ r ≡ gateOk g ⌝ }
+fn gate_ok(bundle: u64, g: Gate) -> bool
+    ensures { λ r. ⌜ r ≡ gateOk bundle g ⌝ }
 {
     match g {
         Gate::Open => true,
-        Gate::Closed(x) => fault_leaves(x),
+        Gate::Closed(x) => fault_leaves(bundle, x),
     }
 }
 
 // The turn, the header record, the Accept mark and the closing.
-fn marks_ok(r: Receiving, w: Sending, t: Talk, g: Gate) -> bool
-    ensures { λ b. ⌜ b ≡ (turnOk (w .turn) && (headerOk r && (acceptOk t && gateOk g))) ⌝ }
+fn marks_ok(bundle: u64, r: Receiving, w: Sending, t: Talk, g: Gate) -> bool
+    requires { ⌜ 0 < instances bundle ⌝ }
+    ensures { λ b. ⌜ b ≡ (turnOk (instances bundle) (w .turn) && (headerOk (instances bundle) r && (acceptOk bundle t && gateOk bundle g))) ⌝ }
 {
     let states = t.states;
-    let turn = base::and(1 <= w.turn, w.turn < INSTANCES as u64);
-    let accept = base::and(accept_ok(t.accepted, states), gate_ok(g));
-    base::and(turn, base::and(header_ok(r), accept))
+    let turn = base::and(1 <= w.turn, w.turn < count(bundle) as u64);
+    let accept = base::and(accept_ok(bundle, t.accepted, states), gate_ok(bundle, g));
+    base::and(turn, base::and(header_ok(bundle, r), accept))
 }
 
 // Whether a record is in range.
@@ -222,19 +244,19 @@ pub fn in_range(c: Connection) -> bool
     let firsts = w.starts;
     let waiting = w.waiting;
     let states = t.states;
-    if !limit_ok(s.limit) {
+    if !base::and(known(s.bundle), limit_ok(s.limit)) {
         return false;
     }
-    if !receiving_ok(receive, starts, held, r.instance, r.rest) {
+    if !receiving_ok(s.bundle, receive, starts, held, r.instance, r.rest) {
         return false;
     }
-    if !sending_ok(send, firsts, waiting) {
+    if !sending_ok(s.bundle, send, firsts, waiting) {
         return false;
     }
-    if !states_ok(states) {
+    if !states_ok(s.bundle, states) {
         return false;
     }
-    marks_ok(r, w, t, gate)
+    marks_ok(s.bundle, r, w, t, gate)
 }
 
 // Whether a record is in range, and the store that is lent, of n bytes, as long as it says: the receive store, and the
@@ -247,7 +269,7 @@ pub fn receives(c: Connection, n: usize) -> bool
     }
     let settings = c.settings;
     let caps = settings.receive;
-    n == together(caps)
+    n == together(settings.bundle, caps)
 }
 
 pub fn sends(c: Connection, n: usize) -> bool
@@ -258,5 +280,5 @@ pub fn sends(c: Connection, n: usize) -> bool
     }
     let settings = c.settings;
     let caps = settings.send;
-    n == together(caps)
+    n == together(settings.bundle, caps)
 }

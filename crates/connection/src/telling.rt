@@ -4,8 +4,11 @@ use crate::Gate;
 use crate::range::in_range;
 use ready::Ready;
 use wire::instances::INSTANCES;
+use wire::instances::count;
 ghost use mathlib.Core.Path.{_≡_};
-ghost use Rattle.connection.specs.Statuses.{statusOf};
+ghost use Prim.Native.Nat.{_≤_};
+ghost use Rattle.wire.specs.Instances.{most};
+ghost use Rattle.connection.specs.Statuses.{upTo, statusOf};
 
 // The number, 0 or 23; the held and waiting counts; the ready word, how many are ready and which is lowest; and the
 // gate, which holds the closing.
@@ -15,6 +18,20 @@ pub struct Report {
     pub waiting: [u64; INSTANCES],
     pub ready: Ready,
     pub gate: Gate,
+}
+
+// The first n entries of an array, and 0 above.
+fn up_to(n: usize, a: [u64; INSTANCES]) -> [u64; INSTANCES]
+    requires { ⌜ n ≤ most ⌝ }
+    ensures { λ r. ⌜ r ≡ upTo n a ⌝ }
+{
+    let mut shown = [0; INSTANCES];
+    let mut i: usize = 0;
+    while i < n {
+        shown[i] = a[i];
+        i += 1;
+    }
+    shown
 }
 
 // Tells of a record in range; of one that is not, 23 and nothing else.
@@ -36,16 +53,18 @@ pub fn status(c: Connection) -> Report
             gate: Gate::Open,
         };
     }
+    let settings = c.settings;
+    let n = count(settings.bundle);
     let r = c.receiving;
     let w = c.sending;
     let held = r.held;
     let waiting = w.waiting;
-    let ready = ready::ready_of(waiting);
+    let ready = ready::ready_of(waiting, n);
     let gate = c.gate;
     Report {
         number: 0,
-        held,
-        waiting,
+        held: up_to(n, held),
+        waiting: up_to(n, waiting),
         ready,
         gate,
     }

@@ -62,16 +62,16 @@ cause-number (overflow i h) = (omega arith, omega arith)
 
 -- ---- which byte
 
-module _ {side : Side} {caps : List ℕ} {s : Reception} {xs : List ℕ} {P : List ℕ → ℕ → Route → Type 0} where
+module _ {b : ℕ} {side : Side} {caps : List ℕ} {s : Reception} {xs : List ℕ} {P : List ℕ → ℕ → Route → Type 0} where
   -- Q holds of the counts, the length and the route of an eighth byte
-  abbrev pub Holds : Eighth side caps s xs P → (List ℕ → ℕ → Route → Type 0) → Type 0
+  abbrev pub Holds : Eighth b side caps s xs P → (List ℕ → ℕ → Route → Type 0) → Type 0
   Holds k Q =
-      let m = fed side caps s (k .front) .receiving in
+      let m = fed b side caps s (k .front) .receiving in
       let d = decoded (added (m .header) (k .byte) .bytes) in
-      Q (m .held) (d .len) (routeOf side (d .protocol) (d .mode))
+      Q (m .held) (d .len) (routeOf b side (d .protocol) (d .mode))
 
   -- the same byte, of which more is known
-  pub eighth-with : {Q : List ℕ → ℕ → Route → Type 0} (k : Eighth side caps s xs P) → Holds k Q → Eighth side caps s xs Q
+  pub eighth-with : {Q : List ℕ → ℕ → Route → Type 0} (k : Eighth b side caps s xs P) → Holds k Q → Eighth b side caps s xs Q
   eighth-with k q =
       record {
         front = k .front;
@@ -86,97 +86,97 @@ module _ {side : Side} {caps : List ℕ} {s : Reception} {xs : List ℕ} {P : Li
 
   -- what follows from what it says
   pub eighth-so : {Q : List ℕ → ℕ → Route → Type 0} → ((held : List ℕ) (n : ℕ) (to : Route) → P held n to → Q held n to)
-      → Eighth side caps s xs P → Eighth side caps s xs Q
+      → Eighth b side caps s xs P → Eighth b side caps s xs Q
   eighth-so {Q} f k = eighth-with {Q = Q} k (f _ _ _ (k .says))
 
-module _ (side : Side) (caps : List ℕ) where
-  -- what an eighth byte says
-  abbrev pub Refuses : Closing → List ℕ → ℕ → Route → Type 0
-  Refuses x held n to = admitted caps held n to ≡ Fault x
+-- what an eighth byte says
+abbrev pub Refuses : List ℕ → Closing → List ℕ → ℕ → Route → Type 0
+Refuses caps x held n to = admitted caps held n to ≡ Fault x
 
+module _ (b : ℕ) (side : Side) (caps : List ℕ) where
   settled-closes : (s : Reception) (a : Admission) (x : Closing) → isOpen (s .gate) ≡ true → settled s a .gate ≡ Closed x → a ≡ Fault x
   settled-closes s (Fault y) x o e = let q : y ≡ x = cc in ap Fault q
   settled-closes s (Payload i n) x o e = never (s .gate) x o e
 
   -- a byte that closes is the eighth of a header that is a fault
-  step-closes : (s : Reception) (b : ℕ) (x : Closing) → isOpen (s .gate) ≡ true → step side caps s b .gate ≡ Closed x
-      → (s .receiving .rest ≡ 0) × (headerLength ≤ added (s .receiving .header) b .count)
-      × (admission side caps (s .receiving .held) (added (s .receiving .header) b) ≡ Fault x)
+  step-closes : (s : Reception) (y : ℕ) (x : Closing) → isOpen (s .gate) ≡ true → step b side caps s y .gate ≡ Closed x
+      → (s .receiving .rest ≡ 0) × (headerLength ≤ added (s .receiving .header) y .count)
+      × (admission b side caps (s .receiving .held) (added (s .receiving .header) y) ≡ Fault x)
   unfolding step headed kept
-  step-closes s b x o e =
-      let h : Header = added (s .receiving .header) b in
+  step-closes s y x o e =
+      let h : Header = added (s .receiving .header) y in
       by-test (eqb (s .receiving .rest) 0)
       (λ t.
       by-test (leb headerLength (h .count))
       (λ q. (
         eqb-true (s .receiving .rest) 0 t,
         leb-true headerLength (h .count) q,
-        settled-closes s (admission side caps (s .receiving .held) h) x o (rw (o, t, q) at e),
+        settled-closes s (admission b side caps (s .receiving .held) h) x o (rw (o, t, q) at e),
       ))
       (λ q. never (s .gate) x o (rw (o, t, q) at e)))
       (λ t. never (s .gate) x o (rw (o, t) at e))
 
-  pub fault-found : (s : Reception) (xs : List ℕ) (x : Closing) → isOpen (s .gate) ≡ true → fed side caps s xs .gate ≡ Closed x
-      → Eighth side caps s xs (Refuses x)
+  pub fault-found : (s : Reception) (xs : List ℕ) (x : Closing) → isOpen (s .gate) ≡ true → fed b side caps s xs .gate ≡ Closed x
+      → Eighth b side caps s xs (Refuses caps x)
   unfolding fed admission
   fault-found s [] x o e = never (s .gate) x o e
-  fault-found s (b ∷ bs) x o e =
-      by-test (isOpen (step side caps s b .gate))
+  fault-found s (y ∷ ys) x o e =
+      by-test (isOpen (step b side caps s y .gate))
       (λ t.
-      let k = fault-found (step side caps s b) bs x t e in
+      let k = fault-found (step b side caps s y) ys x t e in
       record {
-        front = b ∷ k .front;
+        front = y ∷ k .front;
         byte = k .byte;
         back = k .back;
-        run = ap (λ (l : List ℕ). b ∷ l) (k .run);
+        run = ap (λ (l : List ℕ). y ∷ l) (k .run);
         reached = k .reached;
         idle = k .idle;
         whole = k .whole;
         says = k .says;
       })
       (λ t.
-      let k = step-closes s b x o (ap (λ (q : Reception). q .gate) (sym (fed-closed side caps (step side caps s b) bs t)) ∙ e) in
-      record { front = []; byte = b; back = bs; run = refl; reached = o; idle = k .0; whole = k .1; says = k .2 })
+      let k = step-closes s y x o (ap (λ (q : Reception). q .gate) (sym (fed-closed b side caps (step b side caps s y) ys t)) ∙ e) in
+      record { front = []; byte = y; back = ys; run = refl; reached = o; idle = k .0; whole = k .1; says = k .2 })
 
   -- ---- what it leaves
 
   -- while the connection stays open, all bytes are used
-  pub used-all : (s : Reception) (xs : List ℕ) → isOpen (fed side caps s xs .gate) ≡ true → used side caps s xs ≡ length xs
+  pub used-all : (s : Reception) (xs : List ℕ) → isOpen (fed b side caps s xs .gate) ≡ true → used b side caps s xs ≡ length xs
   unfolding fed used
   used-all s [] o = refl
   used-all s (x ∷ xs) o =
-      by-test (isOpen (s .gate)) (λ t. rw t (ap suc (used-all (step side caps s x) xs o)))
+      by-test (isOpen (s .gate)) (λ t. rw t (ap suc (used-all (step b side caps s x) xs o)))
       (λ t.
-      let stays : fed side caps s (x ∷ xs) ≡ s = fed-closed side caps s (x ∷ xs) t in
+      let stays : fed b side caps s (x ∷ xs) ≡ s = fed-closed b side caps s (x ∷ xs) t in
       absurd (true≢false (sym o ∙ ap (λ (q : Reception). isOpen (q .gate)) stays ∙ t)))
 
-  pub fault-leaves : (s : Reception) (xs : List ℕ) (x : Closing) (e : Eighth side caps s xs (Refuses x))
-      → (fed side caps s xs ≡ settled (fed side caps s (e .front)) (Fault x)) × (used side caps s xs ≡ suc (length (e .front)))
+  pub fault-leaves : (s : Reception) (xs : List ℕ) (x : Closing) (e : Eighth b side caps s xs (Refuses caps x))
+      → (fed b side caps s xs ≡ settled (fed b side caps s (e .front)) (Fault x)) × (used b side caps s xs ≡ suc (length (e .front)))
   unfolding fed used headed admission
   fault-leaves s xs x e =
-      let m : Reception = fed side caps s (e .front) in
+      let m : Reception = fed b side caps s (e .front) in
       let n : Reception = settled m (Fault x) in
       let h : Header = added (m .receiving .header) (e .byte) in
-      let leads : step side caps m (e .byte) ≡ n =
-      step-headed side caps m (e .byte) (e .reached) (e .idle)
+      let leads : step b side caps m (e .byte) ≡ n =
+      step-headed b side caps m (e .byte) (e .reached) (e .idle)
       ∙ rw (le-leb headerLength (h .count) (e .whole), e .says) in
-      let on : fed side caps m (e .byte ∷ e .back) ≡ n =
-      ap (λ (q : Reception). fed side caps q (e .back)) leads ∙ fed-closed side caps n (e .back) refl in
-      let last : used side caps (step side caps m (e .byte)) (e .back) ≡ 0 =
-      ap (λ (q : Reception). used side caps q (e .back)) leads ∙ used-closed side caps n (e .back) refl in
-      let some : used side caps m (e .byte ∷ e .back) ≡ 1 = rw (e .reached) (ap suc last) in (
-        ap (λ (l : List ℕ). fed side caps s l) (e .run) ∙ fed-append side caps s (e .front) (e .byte ∷ e .back) ∙ on,
-        ap (λ (l : List ℕ). used side caps s l) (e .run) ∙ used-append side caps s (e .front) (e .byte ∷ e .back)
+      let on : fed b side caps m (e .byte ∷ e .back) ≡ n =
+      ap (λ (q : Reception). fed b side caps q (e .back)) leads ∙ fed-closed b side caps n (e .back) refl in
+      let last : used b side caps (step b side caps m (e .byte)) (e .back) ≡ 0 =
+      ap (λ (q : Reception). used b side caps q (e .back)) leads ∙ used-closed b side caps n (e .back) refl in
+      let some : used b side caps m (e .byte ∷ e .back) ≡ 1 = rw (e .reached) (ap suc last) in (
+        ap (λ (l : List ℕ). fed b side caps s l) (e .run) ∙ fed-append b side caps s (e .front) (e .byte ∷ e .back) ∙ on,
+        ap (λ (l : List ℕ). used b side caps s l) (e .run) ∙ used-append b side caps s (e .front) (e .byte ∷ e .back)
             ∙ omega (arith, used-all s (e .front) (e .reached), some),
       )
 
   -- what was open at a byte was open before
-  pub open-before : (s : Reception) (xs : List ℕ) → isOpen (fed side caps s xs .gate) ≡ true → isOpen (s .gate) ≡ true
+  pub open-before : (s : Reception) (xs : List ℕ) → isOpen (fed b side caps s xs .gate) ≡ true → isOpen (s .gate) ≡ true
   open-before s xs o =
       by-test (isOpen (s .gate)) (λ t. t)
-      (λ t. absurd (true≢false (sym o ∙ ap (λ (q : Reception). isOpen (q .gate)) (fed-closed side caps s xs t) ∙ t)))
+      (λ t. absurd (true≢false (sym o ∙ ap (λ (q : Reception). isOpen (q .gate)) (fed-closed b side caps s xs t) ∙ t)))
 
-  pub fault-why : (s : Reception) (xs : List ℕ) (x : Closing) → isOpen (s .gate) ≡ true → fed side caps s xs .gate ≡ Closed x
-      → Eighth side caps s xs (λ held n to. Cause caps held n to x)
+  pub fault-why : (s : Reception) (xs : List ℕ) (x : Closing) → isOpen (s .gate) ≡ true → fed b side caps s xs .gate ≡ Closed x
+      → Eighth b side caps s xs (λ held n to. Cause caps held n to x)
   fault-why s xs x o e =
-      eighth-so {P = Refuses x} {Q = λ held n to. Cause caps held n to x} (λ held n to f. cause caps held n to x f) (fault-found s xs x o e)
+      eighth-so {P = Refuses caps x} {Q = λ held n to. Cause caps held n to x} (λ held n to f. cause caps held n to x f) (fault-found s xs x o e)

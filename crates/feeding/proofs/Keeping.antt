@@ -32,11 +32,11 @@ use Rattle.feeding.specs.Feeding.{Reception, admitted, admission, instan
 use Rattle.feeding.specs.Numbers.{Spelt}
 
 -- what feeding can change of the range
-pub record Kept (caps starts : List ℕ) (n : ℕ) (s : Reception) : Type 0 where
+pub record Kept (b : ℕ) (caps starts : List ℕ) (n : ℕ) (s : Reception) : Type 0 where
   pub places : s .receiving .starts ≡ starts
-  pub held : (i : ℕ) → i < instances → getD (s .receiving .held) i 0 + restFor (s .receiving .instance) (s .receiving .rest) i ≤ getD caps i 0
+  pub held : (i : ℕ) → i < instances b → getD (s .receiving .held) i 0 + restFor (s .receiving .instance) (s .receiving .rest) i ≤ getD caps i 0
   pub header : s .receiving .header .count < headerLength
-  pub under-way : 0 < s .receiving .rest → (s .receiving .header .count ≡ 0) × (s .receiving .instance < instances)
+  pub under-way : 0 < s .receiving .rest → (s .receiving .header .count ≡ 0) × (s .receiving .instance < instances b)
   pub long : length (s .store) ≡ n
 
 -- of a payload with nothing to come, any instance has nothing to come
@@ -53,15 +53,15 @@ set-most [] i a = omega arith
 set-most (x ∷ l) zero a = omega arith
 set-most (x ∷ l) (suc i) a = set-most l i a
 
-module _ (side : Side) (caps starts : List ℕ) (n : ℕ) where
-  kept-settled : (s : Reception) (m : ℕ) (r : Route) → Within r → Kept caps starts n s → s .receiving .rest ≡ 0
-      → Kept caps starts n (settled s (admitted caps (s .receiving .held) m r))
+module _ (b : ℕ) (side : Side) (caps starts : List ℕ) (n : ℕ) where
+  kept-settled : (s : Reception) (m : ℕ) (r : Route) → Within b r → Kept b caps starts n s → s .receiving .rest ≡ 0
+      → Kept b caps starts n (settled s (admitted caps (s .receiving .held) m r))
   kept-settled s m Unknown w k z =
       record { places = k .places; held = k .held; header = omega arith; under-way = λ more. absurd (omega arith); long = k .long }
   kept-settled s m (Wrong i) w k z =
       record { places = k .places; held = k .held; header = omega arith; under-way = λ more. absurd (omega arith); long = k .long }
   kept-settled s m (To i) w k z =
-      cond-cases (λ (a : Admission). Kept caps starts n (settled s a)) (leb (getD (s .receiving .held) i 0 + m) (getD caps i 0))
+      cond-cases (λ (a : Admission). Kept b caps starts n (settled s a)) (leb (getD (s .receiving .held) i 0 + m) (getD caps i 0))
       (λ t.
       record {
         places = k .places;
@@ -78,13 +78,13 @@ module _ (side : Side) (caps starts : List ℕ) (n : ℕ) where
       })
       (λ t. record { places = k .places; held = k .held; header = omega arith; under-way = λ more. absurd (omega arith); long = k .long })
 
-  kept-headed : (s : Reception) (b : ℕ) → Kept caps starts n s → s .receiving .rest ≡ 0 → Kept caps starts n (headed side caps s b)
+  kept-headed : (s : Reception) (x : ℕ) → Kept b caps starts n s → s .receiving .rest ≡ 0 → Kept b caps starts n (headed b side caps s x)
   unfolding headed admission
-  kept-headed s b k z =
-      let h = added (s .receiving .header) b in
+  kept-headed s x k z =
+      let h = added (s .receiving .header) x in
       let d = decoded (h .bytes) in
-      cond-cases (Kept caps starts n) (leb headerLength (h .count))
-      (λ t. kept-settled s (d .len) (routeOf side (d .protocol) (d .mode)) (route-within side (d .protocol) (d .mode)) k z)
+      cond-cases (Kept b caps starts n) (leb headerLength (h .count))
+      (λ t. kept-settled s (d .len) (routeOf b side (d .protocol) (d .mode)) (route-within b side (d .protocol) (d .mode)) k z)
       (λ t.
       record {
         places = k .places;
@@ -94,9 +94,9 @@ module _ (side : Side) (caps starts : List ℕ) (n : ℕ) where
         long = k .long;
       })
 
-  kept-payload : (s : Reception) (b : ℕ) → Kept caps starts n s → 0 < s .receiving .rest → Kept caps starts n (kept caps s (b ∷ []))
+  kept-payload : (s : Reception) (x : ℕ) → Kept b caps starts n s → 0 < s .receiving .rest → Kept b caps starts n (kept caps s (x ∷ []))
   unfolding kept
-  kept-payload s b k more =
+  kept-payload s x k more =
       let r = s .receiving in
       let i = r .instance in
       let held = r .held in
@@ -114,33 +114,35 @@ module _ (side : Side) (caps starts : List ℕ) (n : ℕ) where
             rw (q, getD-set-other held i j (getD held i 0 + 1) 0 (λ e. eqb-false i j q (sym e))) was));
         header = k .header;
         under-way = λ still. (k .under-way more .0, rw (ne-eqb (r .rest - 1) 0 (λ e. omega arith)) (k .under-way more .1));
-        long = laid-length (s .store) (baseOf caps i) (getD caps i 0) (getD (r .starts) i 0 + getD held i 0) (b ∷ []) ∙ k .long;
+        long = laid-length (s .store) (baseOf caps i) (getD caps i 0) (getD (r .starts) i 0 + getD held i 0) (x ∷ []) ∙ k .long;
       }
 
-  kept-step : (s : Reception) (b : ℕ) → Kept caps starts n s → Kept caps starts n (step side caps s b)
+  kept-step : (s : Reception) (x : ℕ) → Kept b caps starts n s → Kept b caps starts n (step b side caps s x)
   unfolding step
-  kept-step s b k =
-      cond-cases (Kept caps starts n) (isOpen (s .gate))
+  kept-step s x k =
+      cond-cases (Kept b caps starts n) (isOpen (s .gate))
       (λ o.
-      cond-cases (Kept caps starts n) (eqb (s .receiving .rest) 0) (λ t. kept-headed s b k (eqb-true (s .receiving .rest) 0 t))
-      (λ t. let z = eqb-false (s .receiving .rest) 0 t in kept-payload s b k (omega arith)))
+      cond-cases (Kept b caps starts n) (eqb (s .receiving .rest) 0) (λ t. kept-headed s x k (eqb-true (s .receiving .rest) 0 t))
+      (λ t. let z = eqb-false (s .receiving .rest) 0 t in kept-payload s x k (omega arith)))
       (λ o. k)
 
-  pub kept-fed : (s : Reception) (xs : List ℕ) → Kept caps starts n s → Kept caps starts n (fed side caps s xs)
+  pub kept-fed : (s : Reception) (xs : List ℕ) → Kept b caps starts n s → Kept b caps starts n (fed b side caps s xs)
   unfolding fed
   kept-fed s [] k = k
-  kept-fed s (x ∷ xs) k = kept-fed (step side caps s x) xs (kept-step s x k)
+  kept-fed s (x ∷ xs) k = kept-fed (step b side caps s x) xs (kept-step s x k)
 
 -- ---- the range of the whole record
 
-pub kept-given : (c : Connection) (st : List ℕ) → inRange c ≡ true → Kept (c .settings .receive) (c .receiving .starts) (length st) (given c st)
+pub kept-given : (c : Connection) (st : List ℕ) → inRange c ≡ true
+    → Kept (c .settings .bundle) (c .settings .receive) (c .receiving .starts) (length st) (given c st)
 kept-given c st e =
     let k : Ranged c = ranged c e in
     record { places = refl; held = λ i l. k .receiving i l .1; header = k .header; under-way = k .under-way; long = refl }
 
 -- a record in range stays so with what feeding leaves and a closing that a fault leaves
-pub range-with : (c : Connection) (n : ℕ) (s : Reception) → inRange c ≡ true → Kept (c .settings .receive) (c .receiving .starts) n s
-    → gateOk (s .gate) ≡ true → inRange (withReceiving c (s .receiving) (s .gate)) ≡ true
+pub range-with : (c : Connection) (n : ℕ) (s : Reception) → inRange c ≡ true
+    → Kept (c .settings .bundle) (c .settings .receive) (c .receiving .starts) n s
+    → gateOk (c .settings .bundle) (s .gate) ≡ true → inRange (withReceiving c (s .receiving) (s .gate)) ≡ true
 range-with c n s e k g =
     let was : Ranged c = ranged c e in
     in-range (withReceiving c (s .receiving) (s .gate))
@@ -158,36 +160,36 @@ range-with c n s e k g =
 
 -- ---- bytes
 
-spelt-added : (h : Header) (b : ℕ) → Spelt h → b < 256 → Spelt (added h b)
+spelt-added : (h : Header) (x : ℕ) → Spelt h → x < 256 → Spelt (added h x)
 unfolding added
-spelt-added h b (l, s) t =
+spelt-added h x (l, s) t =
     cond-cases Spelt (ltb (h .count) headerLength)
-    (λ q. (length-set (h .bytes) (h .count) b ∙ l, bytes-set (h .bytes) (h .count) b s t))
+    (λ q. (length-set (h .bytes) (h .count) x ∙ l, bytes-set (h .bytes) (h .count) x s t))
     (λ q. (l, s))
 
 pub spelt-empty : Spelt empty
 spelt-empty = (refl, bytes-zeros headerLength)
 
-module _ (side : Side) (caps : List ℕ) where
+module _ (b : ℕ) (side : Side) (caps : List ℕ) where
   -- the closing is one that a fault leaves
   abbrev Proper : Reception → Type 0
-  Proper s = Spelt (s .receiving .header) × (gateOk (s .gate) ≡ true)
+  Proper s = Spelt (s .receiving .header) × (gateOk b (s .gate) ≡ true)
 
-  proper-settled : (s : Reception) (p m n : ℕ) → m < 2 → Proper s → Proper (settled s (admitted caps (s .receiving .held) n (routeOf side p m)))
-  proper-settled s p m n two k = go (routeOf side p m) refl
+  proper-settled : (s : Reception) (p m n : ℕ) → m < 2 → Proper s → Proper (settled s (admitted caps (s .receiving .held) n (routeOf b side p m)))
+  proper-settled s p m n two k = go (routeOf b side p m) refl
     where
-      go : (r : Route) → routeOf side p m ≡ r → Proper (settled s (admitted caps (s .receiving .held) n r))
+      go : (r : Route) → routeOf b side p m ≡ r → Proper (settled s (admitted caps (s .receiving .held) n r))
       go Unknown e = (spelt-empty, refl)
-      go (Wrong i) e = let z : i ≡ 0 = (one-way .wrong side p m i two .0 e) .0 in (spelt-empty, rw z refl)
+      go (Wrong i) e = let q = one-way b .wrong side p m i two .0 e in (spelt-empty, rw (lt-ltb i (instances b) (q .0), q .1))
       go (To i) e =
           cond-cases (λ (a : Admission). Proper (settled s a)) (leb (getD (s .receiving .held) i 0 + n) (getD caps i 0)) (λ t. (spelt-empty, k .1))
-          (λ t. (spelt-empty, lt-ltb i instances (subst Within e (route-within side p m))))
+          (λ t. (spelt-empty, rw (lt-ltb i (instances b) (subst (Within b) e (route-within b side p m)))))
 
-  proper-step : (s : Reception) (b : ℕ) → Proper s → b < 256 → Proper (step side caps s b)
+  proper-step : (s : Reception) (x : ℕ) → Proper s → x < 256 → Proper (step b side caps s x)
   unfolding step headed admission kept
-  proper-step s b k l =
-      let h : Header = added (s .receiving .header) b in
-      let spelt : Spelt h = spelt-added (s .receiving .header) b (k .0) l in
+  proper-step s x k l =
+      let h : Header = added (s .receiving .header) x in
+      let spelt : Spelt h = spelt-added (s .receiving .header) x (k .0) l in
       let d = decoded (h .bytes) in
       cond-cases Proper (isOpen (s .gate))
       (λ o.
@@ -199,7 +201,7 @@ module _ (side : Side) (caps : List ℕ) where
       (λ t. k))
       (λ o. k)
 
-  pub proper-fed : (s : Reception) (xs : List ℕ) → Proper s → Bytes xs → Proper (fed side caps s xs)
+  pub proper-fed : (s : Reception) (xs : List ℕ) → Proper s → Bytes xs → Proper (fed b side caps s xs)
   unfolding fed Bytes
-  proper-fed s [] k b = k
-  proper-fed s (x ∷ xs) k (l, b) = proper-fed (step side caps s x) xs (proper-step s x k l) b
+  proper-fed s [] k bs = k
+  proper-fed s (x ∷ xs) k (l, bs) = proper-fed (step b side caps s x) xs (proper-step s x k l) bs

@@ -1,4 +1,4 @@
--- Feed (document 01, "Segments", and "Numbers and their order").
+-- Feed (document 01, "Segments", and "Numbers and their order"; document 02, K1).
 use Prim.Native.Nat.{ℕ, suc, _+_, _-_}
 use mathlib.Core.Bool.{cond}
 use mathlib.Core.List.{List, [], _∷_}
@@ -31,18 +31,18 @@ pub record Reception : Type 0 where
 
 -- ---- a header
 
--- At the eighth byte: an unknown number gives 11; a segment with the mode of our own side gives 12; held bytes plus n
--- above the receive capacity gives 13; and else a payload of n bytes begins.
+-- At the eighth byte: an unknown number gives 11; a segment with the mode of our own side gives 12, and names its instance; held bytes
+-- plus n above the receive capacity gives 13; and else a payload of n bytes begins.
 abbrev pub admitted : List ℕ → List ℕ → ℕ → Route → Admission
 admitted caps held n Unknown = Fault (Bare 11)
 admitted caps held n (Wrong i) = Fault (Of 12 i)
 admitted caps held n (To i) = cond (leb (getD held i 0 + n) (getD caps i 0)) (Payload i n) (Fault (Of 13 i))
 
--- what a whole header leads to
-unfoldable pub admission : Side → List ℕ → List ℕ → Header → Admission
-admission side caps held h =
+-- what a whole header leads to, in a bundle
+unfoldable pub admission : ℕ → Side → List ℕ → List ℕ → Header → Admission
+admission b side caps held h =
     let d = decoded (h .bytes) in
-    admitted caps held (d .len) (routeOf side (d .protocol) (d .mode))
+    admitted caps held (d .len) (routeOf b side (d .protocol) (d .mode))
 
 -- a payload's instance while bytes of it are to come, else 0
 abbrev pub instanceFor : ℕ → ℕ → ℕ
@@ -63,10 +63,10 @@ settled s (Payload i n) =
     }
 
 -- one byte of a header
-unfoldable pub headed : Side → List ℕ → Reception → ℕ → Reception
-headed side caps s b =
-    let h = added (s .receiving .header) b in
-    cond (leb headerLength (h .count)) (settled s (admission side caps (s .receiving .held) h))
+unfoldable pub headed : ℕ → Side → List ℕ → Reception → ℕ → Reception
+headed b side caps s x =
+    let h = added (s .receiving .header) x in
+    cond (leb headerLength (h .count)) (settled s (admission b side caps (s .receiving .held) h))
     (record { receiving = withHeader (s .receiving) h; gate = s .gate; store = s .store })
 
 -- ---- a payload
@@ -94,19 +94,19 @@ kept caps s xs =
 -- ---- bytes
 
 -- One byte: of the payload under way, else of a header. A closed connection takes nothing.
-unfoldable pub step : Side → List ℕ → Reception → ℕ → Reception
-step side caps s b =
-    cond (isOpen (s .gate)) (cond (eqb (s .receiving .rest) 0) (headed side caps s b) (kept caps s (b ∷ []))) s
+unfoldable pub step : ℕ → Side → List ℕ → Reception → ℕ → Reception
+step b side caps s x =
+    cond (isOpen (s .gate)) (cond (eqb (s .receiving .rest) 0) (headed b side caps s x) (kept caps s (x ∷ []))) s
 
 -- a run: its bytes one after the other
-unfoldable pub fed : Side → List ℕ → Reception → List ℕ → Reception
-fed side caps s [] = s
-fed side caps s (b ∷ bs) = fed side caps (step side caps s b) bs
+unfoldable pub fed : ℕ → Side → List ℕ → Reception → List ℕ → Reception
+fed b side caps s [] = s
+fed b side caps s (x ∷ xs) = fed b side caps (step b side caps s x) xs
 
 -- how many of them are used: those up to the byte that closes
-unfoldable pub used : Side → List ℕ → Reception → List ℕ → ℕ
-used side caps s [] = 0
-used side caps s (b ∷ bs) = cond (isOpen (s .gate)) (suc (used side caps (step side caps s b) bs)) 0
+unfoldable pub used : ℕ → Side → List ℕ → Reception → List ℕ → ℕ
+used b side caps s [] = 0
+used b side caps s (x ∷ xs) = cond (isOpen (s .gate)) (suc (used b side caps (step b side caps s x) xs)) 0
 
 -- ---- a call
 
@@ -137,10 +137,11 @@ answered c n s =
 -- the bytes fed to an open connection, from record and store as given
 unfoldable pub feedOpen : Connection → List ℕ → List ℕ → Told
 feedOpen c st xs =
+    let b = c .settings .bundle in
     let side = c .settings .side in
     let caps = c .settings .receive in
     let s = given c st in
-    answered c (used side caps s xs) (fed side caps s xs)
+    answered c (used b side caps s xs) (fed b side caps s xs)
 
 -- Feed: 23; 20 (also for no bytes); and else the bytes.
 unfoldable pub feedOf : Connection → List ℕ → List ℕ → Told

@@ -3,11 +3,11 @@ use Prim.Native.Nat.{ℕ, _+_, _≤_, _<_}
 use mathlib.Core.Path.{_≡_}
 use mathlib.Core.List.{List, [], _∷_}
 use lib.ListN.{length, getD, drop}
-use Rattle.ring.specs.Ring.{together, run}
+use Rattle.ring.specs.Ring.{baseOf, run}
 use Rattle.wire.specs.declared.segment.Header.{Header}
 use Rattle.wire.specs.declared.instances.Side.{Side}
 use Rattle.wire.specs.Segments.{headerLength, empty, added}
-use Rattle.wire.specs.Instances.{instances}
+use Rattle.wire.specs.Instances.{instances, most}
 use Rattle.connection.specs.declared.Gate.{Gate}
 use Rattle.connection.specs.declared.Gate.the-variants.{Open}
 use Rattle.connection.specs.Inside.{Area}
@@ -26,17 +26,17 @@ reception starts held w g store =
     }
 
 -- What of the range feeding rests on: the store is its areas, each with its start; and there is room for the payload under way.
-pub record Sound (caps : List ℕ) (s : Reception) : Type 0 where
-  pub areas : length (s .store) ≡ together caps
-  pub many : length (s .receiving .held) ≡ instances
-  pub each : (i : ℕ) → i < instances → (getD (s .receiving .starts) i 0 < getD caps i 0) × (getD caps i 0 ≤ 131072)
+pub record Sound (b : ℕ) (caps : List ℕ) (s : Reception) : Type 0 where
+  pub areas : length (s .store) ≡ baseOf caps (instances b)
+  pub many : length (s .receiving .held) ≡ most
+  pub each : (i : ℕ) → i < instances b → (getD (s .receiving .starts) i 0 < getD caps i 0) × (getD caps i 0 ≤ 131072)
   pub under : 0 < s .receiving .rest
-      → (s .receiving .instance < instances)
+      → (s .receiving .instance < instances b)
       × (getD (s .receiving .held) (s .receiving .instance) 0 + s .receiving .rest ≤ getD caps (s .receiving .instance) 0)
 
 -- the area of a payload under way, which has room for it
 pub record Under (caps starts held : List ℕ) (w : Way) (n : ℕ) : Type 0 where
-  pub inside : w .instance < instances
+  pub inside : w .instance < most
   pub area : Area caps n (w .instance)
   pub start : getD starts (w .instance) 0 < 131072
   pub more : 0 < w .rest
@@ -46,7 +46,7 @@ pub record Under (caps starts held : List ℕ) (w : Way) (n : ℕ) : Type 0 wher
 -- a header record after bytes more, added one after the other
 unfoldable pub filled : Header → List ℕ → Header
 filled h [] = h
-filled h (b ∷ bs) = filled (added h b) bs
+filled h (x ∷ xs) = filled (added h x) xs
 
 -- the header whose eight bytes are those of xs from `at` on
 abbrev pub headerAt : List ℕ → ℕ → Header
@@ -58,9 +58,9 @@ pub record Settles (w : Way) (a : Admission) (n : ℕ) (t : Step) : Type 0 where
   pub leaves : (starts held store : List ℕ) → reception starts held (t .way) (t .gate) store ≡ settled (reception starts held w Open store) a
 
 -- a step uses one byte and leads to what a header byte does
-pub record Heads (side : Side) (caps held : List ℕ) (w : Way) (b : ℕ) (t : Step) : Type 0 where
+pub record Heads (b : ℕ) (side : Side) (caps held : List ℕ) (w : Way) (x : ℕ) (t : Step) : Type 0 where
   pub one : t .used ≡ 1
-  pub leaves : (starts store : List ℕ) → reception starts held (t .way) (t .gate) store ≡ headed side caps (reception starts held w Open store) b
+  pub leaves : (starts store : List ℕ) → reception starts held (t .way) (t .gate) store ≡ headed b side caps (reception starts held w Open store) x
 
 -- a step uses as many bytes of the run xs from `at` on as it says, at least one, and lays them in the store
 pub record Lays (caps starts held held′ : List ℕ) (w : Way) (store store′ xs : List ℕ) (at : ℕ) (t : Step) : Type 0 where
@@ -70,11 +70,11 @@ pub record Lays (caps starts held held′ : List ℕ) (w : Way) (store store′ 
   pub leaves : reception starts held′ (t .way) (t .gate) store′ ≡ kept caps (reception starts held w Open store) (run xs at (t .used))
 
 -- a step leads to a reception from which the bytes that are left to feed leave what they would have left before it
-pub record Steps (side : Side) (caps starts held held′ : List ℕ) (w : Way) (store store′ xs : List ℕ) (at : ℕ) (t : Step) : Type 0 where
+pub record Steps (b : ℕ) (side : Side) (caps starts held held′ : List ℕ) (w : Way) (store store′ xs : List ℕ) (at : ℕ) (t : Step) : Type 0 where
   pub some : 0 < t .used
   pub ends : at + t .used ≤ length xs
-  pub leaves : fed side caps (reception starts held w Open store) (drop at xs)
-      ≡ fed side caps (reception starts held′ (t .way) (t .gate) store′) (drop (at + t .used) xs)
-  pub counts : used side caps (reception starts held w Open store) (drop at xs)
-      ≡ t .used + used side caps (reception starts held′ (t .way) (t .gate) store′) (drop (at + t .used) xs)
-  pub sound : Sound caps (reception starts held′ (t .way) (t .gate) store′)
+  pub leaves : fed b side caps (reception starts held w Open store) (drop at xs)
+      ≡ fed b side caps (reception starts held′ (t .way) (t .gate) store′) (drop (at + t .used) xs)
+  pub counts : used b side caps (reception starts held w Open store) (drop at xs)
+      ≡ t .used + used b side caps (reception starts held′ (t .way) (t .gate) store′) (drop (at + t .used) xs)
+  pub sound : Sound b caps (reception starts held′ (t .way) (t .gate) store′)

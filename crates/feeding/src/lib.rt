@@ -23,7 +23,7 @@ ghost use mathlib.Core.Path.{_≡_};
 ghost use mathlib.Core.Bool.{true};
 ghost use Prim.Native.Nat.{_+_, _-_, _≤_, _<_};
 ghost use lib.ListN.{length};
-ghost use Rattle.wire.specs.Instances.{instances};
+ghost use Rattle.wire.specs.Instances.{most};
 ghost use Rattle.wire.specs.Segments.{headerLength};
 ghost use Rattle.wire.specs.declared.instances.Route.the-variants.{To};
 ghost use Rattle.connection.specs.declared.Gate.the-variants.{Open};
@@ -58,7 +58,7 @@ struct Step {
     used: usize,
 }
 
-// The fault of a segment with the mode of our own side.
+// The fault of a segment with the mode of our own side, which names its instance.
 fn wrong(i: usize) -> Admission
     ensures { λ r. ⌜ r ≡ Admission.Fault (Closing.Of 12 i) ⌝ }
 {
@@ -67,7 +67,7 @@ fn wrong(i: usize) -> Admission
 
 // A payload of n bytes for instance i, if there is room for all of it; asked once for a segment.
 fn room(caps: &[u64; INSTANCES], held: &[u64; INSTANCES], n: u64, i: usize) -> Admission
-    requires { ⌜ i < instances ⌝ }
+    requires { ⌜ i < most ⌝ }
     ensures { λ r. ⌜ r ≡ admitted (now (caps .entry)) (now (held .entry)) n (To i) ⌝ }
 {
     if fits(held[i], n, caps[i]) {
@@ -77,11 +77,17 @@ fn room(caps: &[u64; INSTANCES], held: &[u64; INSTANCES], n: u64, i: usize) -> A
 }
 
 // What a whole header leads to: its route and its length decide.
-fn admit(side: Side, caps: &[u64; INSTANCES], held: &[u64; INSTANCES], h: Header) -> Admission
-    ensures { λ r. ⌜ r ≡ admission side (now (caps .entry)) (now (held .entry)) h ⌝ }
+fn admit(
+    bundle: u64,
+    side: Side,
+    caps: &[u64; INSTANCES],
+    held: &[u64; INSTANCES],
+    h: Header,
+) -> Admission
+    ensures { λ r. ⌜ r ≡ admission bundle side (now (caps .entry)) (now (held .entry)) h ⌝ }
 {
     let d = h.segment();
-    let route = wire::instances::find(side, d.protocol, d.mode);
+    let route = wire::instances::find(bundle, side, d.protocol, d.mode);
     let n = d.len as u64;
     match route {
         Route::Unknown => Admission::Fault(Closing::Bare(11)),
@@ -140,13 +146,20 @@ fn settled(w: Way, a: Admission, used: usize) -> Step
 }
 
 // One byte of a header. At the eighth the header is settled.
-fn headed(side: Side, caps: &[u64; INSTANCES], held: &[u64; INSTANCES], w: Way, b: u8) -> Step
-    ensures { λ r. ⌜ Heads side (now (caps .entry)) (now (held .entry)) w b r ⌝ }
+fn headed(
+    bundle: u64,
+    side: Side,
+    caps: &[u64; INSTANCES],
+    held: &[u64; INSTANCES],
+    w: Way,
+    b: u8,
+) -> Step
+    ensures { λ r. ⌜ Heads bundle side (now (caps .entry)) (now (held .entry)) w b r ⌝ }
 {
     let old = w.header;
     let header = old.add(b);
     if header.whole() {
-        return settled(w, admit(side, caps, held, header), 1);
+        return settled(w, admit(bundle, side, caps, held, header), 1);
     }
     let way = Way {
         header,
@@ -177,6 +190,7 @@ fn header_at(input: &[u8], at: usize) -> Header
 
 // All eight bytes of a header, from place `at` on.
 fn header_whole(
+    bundle: u64,
     side: Side,
     caps: &[u64; INSTANCES],
     held: &[u64; INSTANCES],
@@ -185,9 +199,10 @@ fn header_whole(
     at: usize,
 ) -> Step
     requires { ⌜ at + headerLength ≤ length (now input) ⌝ }
-    ensures { λ r. ⌜ Settles w (admission side (now (caps .entry)) (now (held .entry)) (headerAt (now (input .entry)) at)) headerLength r ⌝ }
+    ensures { λ r. ⌜ Settles w (admission bundle side (now (caps .entry)) (now (held .entry)) (headerAt (now (input .entry)) at)) headerLength r ⌝ }
 {
-    settled(w, admit(side, caps, held, header_at(input, at)), HEADER)
+    let header = header_at(input, at);
+    settled(w, admit(bundle, side, caps, held, header), HEADER)
 }
 
 // As many bytes of the payload under way as there are from place `at` on.
@@ -225,6 +240,7 @@ fn kept(
 // One step: of the payload under way as many bytes as there are; else a header's eight bytes where none has come and all are
 // there, and one byte of it where not.
 fn part(
+    bundle: u64,
     side: Side,
     caps: &[u64; INSTANCES],
     starts: &[u64; INSTANCES],
@@ -234,9 +250,9 @@ fn part(
     input: &[u8],
     at: usize,
 ) -> Step
-    requires { ⌜ Sound (now caps) (reception (now starts) (now held) w Open (now store)) ⌝ }
+    requires { ⌜ Sound bundle (now caps) (reception (now starts) (now held) w Open (now store)) ⌝ }
     requires { ⌜ at < length (now input) ⌝ }
-    ensures { λ r. ⌜ Steps side (now (caps .entry)) (now (starts .entry)) (now (held .entry)) (now (held .exit)) w (now (store .entry))
+    ensures { λ r. ⌜ Steps bundle side (now (caps .entry)) (now (starts .entry)) (now (held .entry)) (now (held .exit)) w (now (store .entry))
         (now (store .exit)) (now (input .entry)) at r ⌝ }
 {
     if 0 < w.rest {
@@ -244,13 +260,14 @@ fn part(
     }
     let header = w.header;
     if base::and(header.count == 0, HEADER <= input.len() - at) {
-        return header_whole(side, caps, held, w, input, at);
+        return header_whole(bundle, side, caps, held, w, input, at);
     }
-    headed(side, caps, held, w, input[at])
+    headed(bundle, side, caps, held, w, input[at])
 }
 
 // All of input, or up to the byte that closes; used counts from its front.
 fn steps(
+    bundle: u64,
     side: Side,
     caps: &[u64; INSTANCES],
     starts: &[u64; INSTANCES],
@@ -259,18 +276,18 @@ fn steps(
     store: &mut [u8],
     input: &[u8],
 ) -> Step
-    requires { ⌜ Sound (now caps) (reception (now starts) (now held) w Open (now store)) ⌝ }
+    requires { ⌜ Sound bundle (now caps) (reception (now starts) (now held) w Open (now store)) ⌝ }
     ensures { λ r. ⌜ reception (now (starts .entry)) (now (held .exit)) (r .way) (r .gate) (now (store .exit))
-        ≡ fed side (now (caps .entry)) (reception (now (starts .entry)) (now (held .entry)) w Open (now (store .entry)))
+        ≡ fed bundle side (now (caps .entry)) (reception (now (starts .entry)) (now (held .entry)) w Open (now (store .entry)))
         (now (input .entry)) ⌝ }
     ensures { λ r. ⌜ r .used
-        ≡ used side (now (caps .entry)) (reception (now (starts .entry)) (now (held .entry)) w Open (now (store .entry)))
+        ≡ used bundle side (now (caps .entry)) (reception (now (starts .entry)) (now (held .entry)) w Open (now (store .entry)))
         (now (input .entry)) ⌝ }
 {
     let mut way = w;
     let mut at: usize = 0;
     while at < input.len() {
-        let t = part(side, caps, starts, held, way, store, input, at);
+        let t = part(bundle, side, caps, starts, held, way, store, input, at);
         way = t.way;
         at += t.used;
         let gate = t.gate;
@@ -327,7 +344,16 @@ fn feed_open(c: Connection, store: &mut [u8], input: &[u8]) -> Fed
         instance: r.instance,
         rest: r.rest,
     };
-    let t = steps(side, &caps, &starts, &mut held, way, store, input);
+    let t = steps(
+        settings.bundle,
+        side,
+        &caps,
+        &starts,
+        &mut held,
+        way,
+        store,
+        input,
+    );
     let gate = t.gate;
     let w = t.way;
     let header = w.header;

@@ -5,7 +5,6 @@ use super::text;
 use libc::STDOUT_FILENO;
 use script::Word;
 use script::lists;
-use script::lists::MOST_NUMBERS;
 use script::lists::Numbers;
 use script::lists::Runs;
 
@@ -15,49 +14,71 @@ const FILL: u8 = 0xee;
 // No lent buffer is longer.
 const ROOM: usize = 32;
 
-// build I,KIND,RUNS,LEN NUMS FIRST,SECOND
+// What a line asks for, besides numbers and runs: the bundle and its instance, the kind, how many runs are counted, and how
+// long a buffer is lent.
+struct Asked {
+    bundle: u64,
+    instance: u64,
+    kind: u64,
+    runs: u64,
+    len: u64,
+}
+
+// build B,I KIND,RUNS,LEN NUMS FIRST,SECOND
 pub fn build(line: &mut [u8], w: Word) {
     let first = script::next(line, w);
     let second = script::next(line, first);
-    let third = script::next(line, second);
-    let given = lists::numbers_of(line, first);
-    let nums = lists::numbers_of(line, second);
-    let parts = lists::runs_of(line, third);
-    let all = base::and(given.count == 4, base::and(nums.ok, parts.count == 2));
-    if !base::and(all, script::last(line, third)) {
+    let place = lists::numbers_of(line, first);
+    let given = lists::numbers_of(line, second);
+    if !base::and(place.count == 2, given.count == 3) {
         bad();
         return;
     }
-    let numbers = given.numbers;
-    made(numbers, nums, parts, line);
+    let i = place.numbers;
+    let k = given.numbers;
+    let asked = Asked {
+        bundle: i[0],
+        instance: i[1],
+        kind: k[0],
+        runs: k[1],
+        len: k[2],
+    };
+    of_parts(asked, line, second);
+}
+
+// The rest of the line: NUMS FIRST,SECOND
+fn of_parts(asked: Asked, line: &mut [u8], w: Word) {
+    let first = script::next(line, w);
+    let second = script::next(line, first);
+    let nums = lists::numbers_of(line, first);
+    let parts = lists::runs_of(line, second);
+    let all = base::and(nums.ok, parts.count == 2);
+    if !base::and(all, script::last(line, second)) {
+        bad();
+        return;
+    }
+    made(asked, nums, parts, line);
 }
 
 // Builds into a buffer of its own.
-fn made(given: [u64; MOST_NUMBERS], nums: Numbers, parts: Runs, line: &[u8]) {
+fn made(asked: Asked, nums: Numbers, parts: Runs, line: &[u8]) {
     let mut buf = [FILL; ROOM];
-    into(given, nums, parts, line, &mut buf);
+    into(asked, nums, parts, line, &mut buf);
 }
 
 // Builds into the front of a buffer, and prints the line.
-fn into(given: [u64; MOST_NUMBERS], nums: Numbers, parts: Runs, line: &[u8], buf: &mut [u8]) {
-    let k = given[3] as usize;
+fn into(asked: Asked, nums: Numbers, parts: Runs, line: &[u8], buf: &mut [u8]) {
+    let k = asked.len as usize;
     if buf.len() < k {
         bad();
         return;
     }
     let numbers = nums.numbers;
-    lent(given, &numbers, nums.count, parts, line, &mut buf[0..k]);
+    lent(asked, &numbers, nums.count, parts, line, &mut buf[0..k]);
 }
 
 // Builds into a lent buffer, of the first of some numbers and of runs that are bytes of the line.
-fn lent(
-    given: [u64; MOST_NUMBERS],
-    numbers: &[u64],
-    count: usize,
-    parts: Runs,
-    line: &[u8],
-    buf: &mut [u8],
-) {
+fn lent(asked: Asked, numbers: &[u64], count: usize, parts: Runs, line: &[u8], buf: &mut [u8]) {
     if numbers.len() < count {
         bad();
         return;
@@ -66,9 +87,18 @@ fn lent(
     let lengths = parts.lengths;
     let a = script::text(line, script::within(line, starts[0], lengths[0]));
     let b = script::text(line, script::within(line, starts[1], lengths[1]));
-    let m = build::build(given[0], given[1], &numbers[0..count], given[2], a, b, buf);
-    begun(given[0], given[1], m.number);
-    told(given[0], m.number, buf, m.len);
+    let m = build::build(
+        asked.bundle,
+        asked.instance,
+        asked.kind,
+        &numbers[0..count],
+        asked.runs,
+        a,
+        b,
+        buf,
+    );
+    begun(asked.instance, asked.kind, m.number);
+    told(asked.bundle, asked.instance, m.number, buf, m.len);
 }
 
 // The instance, the kind and the number.
@@ -81,7 +111,7 @@ fn begun(i: u64, kind: u64, number: u64) {
 }
 
 // What is behind the message, or the whole buffer after a refusal, must be as it was.
-fn told(i: u64, number: u64, buf: &[u8], n: usize) {
+fn told(bundle: u64, i: u64, number: u64, buf: &[u8], n: usize) {
     if !kept(buf, n) {
         text(b" changed\n");
         return;
@@ -94,15 +124,15 @@ fn told(i: u64, number: u64, buf: &[u8], n: usize) {
         text(b" too long\n");
         return;
     }
-    read_back(i, &buf[..n]);
+    read_back(bundle, i, &buf[..n]);
 }
 
 // The bytes of the message, and what they are read as.
-fn read_back(i: u64, message: &[u8]) {
+fn read_back(bundle: u64, i: u64, message: &[u8]) {
     text(b" ");
     hex(message);
     text(b": ");
-    spoken(i, message, 0);
+    spoken(bundle, i, message, 0);
 }
 
 // The buffer is as it was from a place on.

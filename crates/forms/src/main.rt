@@ -1,13 +1,13 @@
-// The forms of document 01, each read, built, and broken in each way. The cases are the lines of the script on standard
+// The forms of document 01 and of K1, each read, built, and broken in each way. The cases are the lines of the script on standard
 // input, in the words of the crate `script`; a line that begins with `# ` is a remark. Each case has a line of answer.
 //
-// `read I,FROM RUN` reads a run, as a ring from a place on, as a message of the protocol that instance I speaks. The
-// answer is document 01's number, and then the kind, the numbers and the places, start and length, or what is wrong: the
+// `read B,I,FROM RUN` reads a run, as a ring from a place on, as a message of the protocol that instance I of bundle B
+// speaks. The answer is document 01's number, and then the kind, the numbers and the places, start and length, or what is wrong: the
 // bytes are not one item, no array that an unsigned number opens, of no known kind, of another count, or in the field at
 // this place of the array.
 //
-// `build I,KIND,RUNS,LEN NUMS FIRST,SECOND` builds a message of its kind, numbers and runs, RUNS of which are counted,
-// in a lent buffer of LEN bytes. The answer is the instance and the kind, the number that build answers and, where it is
+// `build B,I KIND,RUNS,LEN NUMS FIRST,SECOND` builds a message for instance I of bundle B, of its kind, numbers and runs,
+// RUNS of which are counted, in a lent buffer of LEN bytes. The answer is the instance and the kind, the number that build answers and, where it is
 // 0, the bytes, and what they are read as.
 mod built;
 
@@ -23,7 +23,6 @@ use script::Word;
 use script::lists;
 use script::runs;
 use script::runs::Run;
-use wire::instances::INSTANCES;
 ghost use Prim.Native.Nat.{_≤_};
 ghost use lib.ListN.{length};
 
@@ -75,12 +74,12 @@ fn text(bytes: &[u8]) {
     io::write_all(STDOUT_FILENO, bytes);
 }
 
-// read I,FROM RUN
+// read B,I,FROM RUN
 fn read(line: &mut [u8], w: Word) {
     let first = script::next(line, w);
     let second = script::next(line, first);
     let given = lists::numbers_of(line, first);
-    if !base::and(given.count == 2, script::last(line, second)) {
+    if !base::and(given.count == 3, script::last(line, second)) {
         bad();
         return;
     }
@@ -90,12 +89,12 @@ fn read(line: &mut [u8], w: Word) {
     };
     let numbers = given.numbers;
     let bytes = script::text(line, script::within(line, second.from, n));
-    spoken(numbers[0], bytes, numbers[1]);
+    spoken(numbers[0], numbers[1], bytes, numbers[2]);
 }
 
-// All bytes of a slice, as a ring from a place on, in the protocol that an instance speaks.
-fn spoken(i: u64, bytes: &[u8], from: u64) {
-    if INSTANCES as u64 <= i {
+// All bytes of a slice, as a ring from a place on, in the protocol that an instance of a bundle speaks.
+fn spoken(bundle: u64, i: u64, bytes: &[u8], from: u64) {
+    if wire::instances::count(bundle) as u64 <= i {
         bad();
         return;
     }
@@ -103,7 +102,11 @@ fn spoken(i: u64, bytes: &[u8], from: u64) {
         bad();
         return;
     }
-    show(rows::spoken::protocol(i as usize), bytes, from as usize);
+    show(
+        rows::spoken::protocol(bundle, i as usize),
+        bytes,
+        from as usize,
+    );
 }
 
 fn show(p: Protocol, bytes: &[u8], from: usize)

@@ -1,11 +1,11 @@
--- What taking and putting ask alike (document 01, "Messages and transitions" and "Numbers and their order").
+-- What taking and putting ask alike (document 01, "Messages and transitions" and "Numbers and their order"; document 02, K1).
 use Prim.Native.Nat.{ℕ}
 use mathlib.Core.Bool.{Bool, false, cond, not, _&&_, _||_}
 use mathlib.Core.List.{List}
 use lib.Dec.{eqb}
 use lib.ListN.{length, getD, set}
 use Rattle.wire.specs.declared.instances.Side.{Side}
-use Rattle.wire.specs.Instances.{handshake, at, initiates}
+use Rattle.wire.specs.Instances.{handshake, roleOf, initiates}
 use Rattle.rows.specs.declared.Protocol.{Protocol}
 use Rattle.rows.specs.declared.Agency.{Agency}
 use Rattle.rows.specs.declared.Agency.the-variants.{Initiator, Responder, Nobody}
@@ -27,15 +27,22 @@ holds initiator Initiator = initiator
 holds initiator Responder = not initiator
 holds initiator Nobody = false
 
--- the present state of instance i
+-- the protocol that instance i speaks, and its present state
+abbrev pub spokenBy : Connection → ℕ → Protocol
+spokenBy c i = speaks (c .settings .bundle) i
+
 abbrev pub stateOf : Connection → ℕ → ℕ
 stateOf c i = getD (c .talk .states) i 0
 
--- whether we have agency in a state of instance i
-unfoldable pub ours : Side → ℕ → ℕ → Bool
-ours side i state = holds (initiates side (at i .role)) (agencyOf (speaks i) state)
+-- whether we have agency in a state of instance i of a bundle
+unfoldable pub ours : ℕ → Side → ℕ → ℕ → Bool
+ours b side i state = holds (initiates side (roleOf b i)) (agencyOf (speaks b i) state)
 
--- 19: instance 1 to 8 and Handshake hasn't ended in Accept
+-- whether we have it in the present state
+abbrev pub oursNow : Connection → ℕ → Bool
+oursNow c i = ours (c .settings .bundle) (c .settings .side) i (stateOf c i)
+
+-- 19: from instance 1 up, if Handshake hasn't ended in Accept
 abbrev pub barred : Talk → ℕ → Bool
 barred t i = not (eqb i handshake) && not (t .accepted)
 
@@ -45,7 +52,7 @@ movedBy t i kind next = record { states = set (t .states) i next; accepted = t .
 
 -- where a message leads in the present state
 abbrev pub leadsTo : Connection → ℕ → Message → Next
-leadsTo c i m = nextOf (speaks i) (stateOf c i) (m .kind) (flagOf (speaks i) m)
+leadsTo c i m = nextOf (spokenBy c i) (stateOf c i) (m .kind) (flagOf (spokenBy c i) m)
 
 -- a refusal or a notice
 abbrev pub unjudged : ℕ → Judged

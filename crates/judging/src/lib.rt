@@ -50,20 +50,19 @@ fn holds(initiator: bool, agency: Agency) -> bool
 
 // The present state of instance i.
 pub fn state(t: Talk, i: usize) -> u64
-    requires { ⌜ i < instances ⌝ }
     ensures { λ r. ⌜ r ≡ getD (t .states) i 0 ⌝ }
 {
     let states = t.states;
     at(states, i)
 }
 
-// Whether we have agency in a state of instance i. At Done nobody has.
-pub fn ours(side: Side, i: usize, state: u64) -> bool
-    requires { ⌜ i < instances ⌝ }
-    ensures { λ r. ⌜ r ≡ ours side i state ⌝ }
+// Whether we have agency in a state of instance i of a bundle. At Done nobody has.
+pub fn ours(bundle: u64, side: Side, i: usize, state: u64) -> bool
+    requires { ⌜ i < instances bundle ⌝ }
+    ensures { λ r. ⌜ r ≡ ours bundle side i state ⌝ }
 {
-    let agency = rows::agent(rows::spoken::protocol(i), state);
-    holds(wire::instances::mode(side, i) == 0, agency)
+    let agency = rows::agent(rows::spoken::protocol(bundle, i), state);
+    holds(wire::instances::mode(bundle, side, i) == 0, agency)
 }
 
 // Whether Handshake, which hasn't ended in Accept, bars instance i.
@@ -75,7 +74,6 @@ pub fn barred(t: Talk, i: usize) -> bool
 
 // The states, and the mark of Accept, once a message of this kind has moved instance i to the next state.
 pub fn moved_by(t: Talk, i: usize, kind: u64, next: u64) -> Talk
-    requires { ⌜ i < instances ⌝ }
     ensures { λ r. ⌜ r ≡ movedBy t i kind next ⌝ }
 {
     let states = t.states;

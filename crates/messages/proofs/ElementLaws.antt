@@ -28,7 +28,7 @@ use Rattle.messages.specs.declared.elements.End.{End}
 use Rattle.messages.specs.declared.elements.End.the-variants.{At, Nowhere}
 use Rattle.messages.specs.declared.elements.Part.{Part}
 use Rattle.messages.specs.declared.elements.Part.the-variants as part
-use Rattle.messages.specs.Matching.{Value, number, place, ItemAt, ItemsAt, UnsignedAt, Opens, array, map, versions, sizes, words, False, True, inMessage, inList, inPair, PairsAt, no-pair, pair, VersionsAt, no-version, version, FieldAt}
+use Rattle.messages.specs.Matching.{Value, number, place, ItemAt, ItemsAt, UnsignedAt, Opens, array, map, versions, sizes, words, failures, False, True, inMessage, inList, inPair, PairsAt, no-pair, pair, VersionsAt, no-version, version, FieldAt}
 use Rattle.messages.specs.Matching as matching
 use Rattle.messages.specs.Reading.{onNumber, onEnd, leads, unsignedAt, opensAt, ended, itemEnd, sizeEnd, sizedEnd, pairEnd, pairsEnd, keyAt, versionAt, versionsEnd, below, upTo, boolOf, partOf}
 use Rattle.messages.proofs.Heads.{into, out}
@@ -338,11 +338,15 @@ module _ (bs : List ℕ) where
   part-sound field.Word p h = below-sound words p (λ x q. FieldAt bs field.Word p x q) (λ v q u l. matching.word u l)
   part-sound field.Bool p h = bool-sound p (getD bs p 0) refl
   part-sound field.Version p h = below-sound versions p (λ x q. FieldAt bs field.Version p x q) (λ v q u l. matching.a-version u l)
+  part-sound field.Failure p h = below-sound failures p (λ x q. FieldAt bs field.Failure p x q) (λ v q u l. matching.failure u l)
 
   -- what a value at a place is in the answer
   abbrev pub got : Value → ℕ → Part
   got (number v) q = part.Number v q
   got (place a l) q = part.Place a l q
+
+  below-found : (limit p : ℕ) {v q : ℕ} → UnsignedAt bs p v q → v < limit → below limit (unsignedAt bs p) ≡ part.Number v q
+  below-found limit p {v} {q} u l = rw (unsigned-found p u, lt-ltb v limit l)
 
   pub part-found : {f : Field} {p q : ℕ} {x : Value} → FieldAt bs f p x q → partOf bs f p ≡ got x q
   unfolding partOf
@@ -350,7 +354,8 @@ module _ (bs : List ℕ) where
   part-found (matching.list {p = p} o s) = rw (opens-found array p o, item-found (array-item o s))
   part-found (matching.pairs {p = p} o r) = rw (opens-found array p o, pairs-found r)
   part-found (matching.version-map {p = p} o r) = rw (opens-found map p o, versions-found r)
-  part-found (matching.word {p = p} {v = v} u l) = rw (unsigned-found p u, lt-ltb v words l)
+  part-found (matching.word {p = p} u l) = below-found words p u l
   part-found (matching.false e) = rw e
   part-found (matching.true e) = rw e
-  part-found (matching.a-version {p = p} {v = v} u l) = rw (unsigned-found p u, lt-ltb v versions l)
+  part-found (matching.a-version {p = p} u l) = below-found versions p u l
+  part-found (matching.failure {p = p} u l) = below-found failures p u l

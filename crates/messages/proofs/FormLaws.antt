@@ -18,7 +18,7 @@ use Rattle.messages.specs.declared.forms.Field.the-variants as field
 use Rattle.messages.specs.Forms.{Form, form, formIn}
 use Rattle.messages.specs.Inside.{allForms, formCount, formAt, markOf, fieldOf, mostFields, columns}
 
--- the table's rows are document 01's forms, column by column
+-- the table's rows are the forms, column by column
 pub row-at : (i : ℕ) → i < formCount → getD (map columns allForms) i [] ≡ columns (formAt i)
 row-at i h = getD-map columns allForms i (form 0 []) [] h
 
@@ -42,6 +42,7 @@ field-mark field.Versions = refl
 field-mark field.Word = refl
 field-mark field.Bool = refl
 field-mark field.Version = refl
+field-mark field.Failure = refl
 
 -- the number in a field's column stands for it
 pub field-cell : (f : Form) (j : ℕ) → length (f .fields) ≤ mostFields → j < length (f .fields)

@@ -66,6 +66,7 @@ module _ (bs : List ℕ) where
   field-item (matching.false {p = p} e) = bool-item inMessage p matching.False e (omega arith) refl
   field-item (matching.true {p = p} e) = bool-item inMessage p matching.True e (omega arith) refl
   field-item (matching.a-version u l) = number-item bs u
+  field-item (matching.failure u l) = number-item bs u
 
   pub fields-items : {fs : List Field} {p q : ℕ} {xs : List Value} → p ≤ length bs → FieldsAt bs fs p xs q → ItemsAt bs inMessage (length fs) p q
   fields-items h no-field = none-at bs h

@@ -9,7 +9,7 @@ use lib.ListN.{length, getD, take, replicate}
 use Rattle.rows.specs.declared.Protocol.{Protocol}
 use Rattle.rows.specs.Inside.{table}
 use Rattle.messages.specs.declared.forms.Field.{Field}
-use Rattle.messages.specs.declared.forms.Field.the-variants.{Item, Items, Pairs, Versions, Word, Bool, Version}
+use Rattle.messages.specs.declared.forms.Field.the-variants.{Item, Items, Pairs, Versions, Word, Bool, Version, Failure}
 use Rattle.messages.specs.declared.forms.Listed.{Listed}
 use Rattle.messages.specs.declared.forms.Listed.the-variants.{Row, Unknown}
 use Rattle.messages.specs.Forms.{Form, form, forms, formOf}
@@ -34,11 +34,12 @@ markOf Versions = 3
 markOf Word = 4
 markOf Bool = 5
 markOf Version = 6
+markOf Failure = 7
 
 abbrev pub fieldOf : ℕ → Field
 fieldOf m =
     cond (eqb m 0) Item
-    (cond (eqb m 1) Items (cond (eqb m 2) Pairs (cond (eqb m 3) Versions (cond (eqb m 4) Word (cond (eqb m 5) Bool Version)))))
+    (cond (eqb m 1) Items (cond (eqb m 2) Pairs (cond (eqb m 3) Versions (cond (eqb m 4) Word (cond (eqb m 5) Bool (cond (eqb m 6) Version Failure))))))
 
 -- no form has more fields
 abbrev pub mostFields : ℕ

@@ -47,7 +47,7 @@ map = 5
 abbrev pub Opens : List ℕ → ℕ → ℕ → ℕ → ℕ → Type 0
 Opens bs m p k a = headAt bs p ≡ Definite m k a
 
--- Versions and sizes are below 2^32, w is 0 to 65,535.
+-- Versions and sizes are below 2^32, w is 0 to 65,535, failure is 0 or 1.
 abbrev pub versions : ℕ
 versions = 2 ^ 32
 
@@ -56,6 +56,9 @@ sizes = 2 ^ 32
 
 abbrev pub words : ℕ
 words = 65536
+
+abbrev pub failures : ℕ
+failures = 2
 
 -- A bool is one byte.
 abbrev pub False : ℕ
@@ -97,6 +100,7 @@ pub data FieldAt (bs : List ℕ) : Field → ℕ → Value → ℕ → Type 0 wh
   false : {p : ℕ} → getD bs p 0 ≡ False → FieldAt bs field.Bool p (number 0) (p + 1)
   true : {p : ℕ} → getD bs p 0 ≡ True → FieldAt bs field.Bool p (number 1) (p + 1)
   a-version : {p v q : ℕ} → UnsignedAt bs p v q → v < versions → FieldAt bs field.Version p (number v) q
+  failure : {p v q : ℕ} → UnsignedAt bs p v q → v < failures → FieldAt bs field.Failure p (number v) q
 
 -- The fields stand one after the other.
 pub data FieldsAt (bs : List ℕ) : List Field → ℕ → List Value → ℕ → Type 0 where

@@ -12,7 +12,7 @@ use Rattle.item.specs.declared.Verdict.{Verdict}
 use Rattle.item.specs.declared.Verdict.the-variants.{Whole, Bad, Incomplete}
 use Rattle.item.specs.Verdict.{judge, start, verdict}
 use Rattle.rows.specs.declared.Protocol.{Protocol}
-use Rattle.rows.specs.declared.Protocol.the-variants.{Handshake, ChainSync, BlockFetch, TxSubmission, KeepAlive}
+use Rattle.rows.specs.declared.Protocol.the-variants.{Handshake, ChainSync, BlockFetch, TxSubmission, KeepAlive, LocalTxSubmission, LocalStateQuery}
 use Rattle.messages.specs.declared.forms.Field.{Field}
 use Rattle.messages.specs.declared.forms.Field.the-variants as field
 use Rattle.messages.specs.declared.elements.Number.{Number}
@@ -26,7 +26,7 @@ use Rattle.messages.specs.declared.Reading.the-variants.{Read, NotArray,
 use Rattle.messages.specs.declared.Message.{Message}
 use Rattle.messages.specs.declared.Answer.{Answer}
 use Rattle.messages.specs.Forms.{formOf}
-use Rattle.messages.specs.Matching.{array, map, versions, sizes, words, False, True, inMessage, inList, inPair, begun, withNumber, withPlace}
+use Rattle.messages.specs.Matching.{array, map, versions, sizes, words, failures, False, True, inMessage, inList, inPair, begun, withNumber, withPlace}
 
 -- ---- numbers and ends, and what is made of them
 
@@ -109,6 +109,7 @@ partOf bs field.Versions p = onNumber part.Wrong (opensAt bs map p) (λ k a. upT
 partOf bs field.Word p = below words (unsignedAt bs p)
 partOf bs field.Bool p = boolOf (getD bs p 0) p
 partOf bs field.Version p = below versions (unsignedAt bs p)
+partOf bs field.Failure p = below failures (unsignedAt bs p)
 
 -- ---- messages
 
@@ -173,3 +174,5 @@ flagOf ChainSync m = 0
 flagOf BlockFetch m = 0
 flagOf TxSubmission m = cond (eqb (m .kind) 0) (getD (m .numbers) 0 0) 0
 flagOf KeepAlive m = 0
+flagOf LocalTxSubmission m = 0
+flagOf LocalStateQuery m = 0

@@ -46,12 +46,14 @@ pub const IN_LIST: usize = NESTING - 2;
 
 const IN_PAIR: usize = NESTING - 3;
 
-// Versions and sizes are below 2^32, w is below 2^16.
+// Versions and sizes are below 2^32, w is below 2^16, failure is 0 or 1.
 pub const VERSION_LIMIT: u64 = 4294967296;
 
 const SIZE_LIMIT: u64 = 4294967296;
 
 pub const WORD_LIMIT: u64 = 65536;
+
+pub const FAILURE_LIMIT: u64 = 2;
 
 // A bool is one byte.
 const FALSE: u8 = 0xf4;
@@ -369,5 +371,6 @@ pub fn part_at(s: &[u8], from: usize, n: usize, f: Field, at: usize, last: bool)
         Field::Word => limited(WORD_LIMIT, unsigned_at(s, from, n, at)),
         Field::Bool => bool_at(s, from, n, at),
         Field::Version => limited(VERSION_LIMIT, unsigned_at(s, from, n, at)),
+        Field::Failure => limited(FAILURE_LIMIT, unsigned_at(s, from, n, at)),
     }
 }

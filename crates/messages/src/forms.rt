@@ -1,6 +1,6 @@
 // The forms as one table, searched by protocol and kind.
 //
-// The table is document 01's: what is found is the form of this kind, and none is found exactly if the protocol has none.
+// The table is that of document 01 and of K1: what is found is the form of this kind, and none is found exactly if the protocol has none.
 use rows::PROTOCOLS;
 use rows::Protocol;
 use rows::number_of;
@@ -13,7 +13,7 @@ ghost use Rattle.messages.specs.Forms.{forms};
 ghost use Rattle.messages.specs.Inside.{formCount, formAt, mostFields, columns, fieldOf, Finds};
 
 // What stands in a message behind its number: an item; a list of items; a list of pairs [item, size]; a version map;
-// w, a number up to 65,535; a bool; a version.
+// w, a number up to 65,535; a bool; a version; failure, 0 or 1.
 pub enum Field {
     Item,
     Items,
@@ -22,6 +22,7 @@ pub enum Field {
     Word,
     Bool,
     Version,
+    Failure,
 }
 
 // A row of the table, or none.
@@ -45,6 +46,8 @@ const BOOL: u8 = 5;
 
 const VERSION: u8 = 6;
 
+const FAILURE: u8 = 7;
+
 // No form has more fields.
 pub const MOST_FIELDS: usize = 3;
 
@@ -55,7 +58,7 @@ const FIELDS: usize = 1;
 
 const FIRST_FIELD: usize = 2;
 
-const FORM_COUNT: usize = 26;
+const FORM_COUNT: usize = 40;
 
 // A row for each form; 0 where there is no field.
 const FORMS: [[u8; FIRST_FIELD + MOST_FIELDS]; FORM_COUNT] = [
@@ -90,12 +93,28 @@ const FORMS: [[u8; FIRST_FIELD + MOST_FIELDS]; FORM_COUNT] = [
     [0, 1, WORD, 0, 0],
     [1, 1, WORD, 0, 0],
     [2, 0, 0, 0, 0],
+    // Local TxSubmission: Submit, Accept, Reject, Done
+    [0, 1, ITEM, 0, 0],
+    [1, 0, 0, 0, 0],
+    [2, 1, ITEM, 0, 0],
+    [3, 0, 0, 0, 0],
+    // Local State Query: Acquire, Acquire of no item, Acquired, Failure, Query, Result, ReAcquire, ReAcquire of no item, Release, Done
+    [0, 1, ITEM, 0, 0],
+    [8, 0, 0, 0, 0],
+    [1, 0, 0, 0, 0],
+    [2, 1, FAILURE, 0, 0],
+    [3, 1, ITEM, 0, 0],
+    [4, 1, ITEM, 0, 0],
+    [6, 1, ITEM, 0, 0],
+    [9, 0, 0, 0, 0],
+    [5, 0, 0, 0, 0],
+    [7, 0, 0, 0, 0],
 ];
 
 // By protocol: its first row, and its number of rows.
-const FIRST: [u8; PROTOCOLS] = [0, 3, 11, 17, 23];
+const FIRST: [u8; PROTOCOLS] = [0, 3, 11, 17, 23, 26, 30];
 
-const COUNT: [u8; PROTOCOLS] = [3, 8, 6, 6, 3];
+const COUNT: [u8; PROTOCOLS] = [3, 8, 6, 6, 3, 4, 10];
 
 fn first(p: Protocol) -> usize
     ensures { λ r. ⌜ r ≡ firstIn forms p ⌝ }
@@ -164,7 +183,10 @@ fn field_of(mark: u8) -> Field
     if mark == BOOL {
         return Field::Bool;
     }
-    Field::Version
+    if mark == VERSION {
+        return Field::Version;
+    }
+    Field::Failure
 }
 
 // Field j of row i.

@@ -1,4 +1,4 @@
-// Messages: the forms of document 01, and reading a message's kind, numbers and places.
+// Messages: the forms of document 01 and of K1, and reading a message's kind, numbers and places.
 //
 // Taking and putting read by the same function. It goes in phases, so that a reader can tell them apart: an array that
 // an unsigned number opens; a known kind; the count of elements; the fields from left to right.
@@ -269,6 +269,8 @@ pub fn flag(p: Protocol, m: Message) -> u64
         Protocol::BlockFetch => 0,
         Protocol::TxSubmission => blocking(m),
         Protocol::KeepAlive => 0,
+        Protocol::LocalTxSubmission => 0,
+        Protocol::LocalStateQuery => 0,
     }
 }
 

@@ -53,28 +53,28 @@ use Rattle.promises.proofs.History.{history}
 -- ---- the function
 
 -- where an act leads in a state of instance i, and acts one after the other
-abbrev led : ℕ → ℕ → Act → ℕ
-led i state a = judgedOf (speaks i) state (messageIn a) .next
+abbrev led : ℕ → ℕ → ℕ → Act → ℕ
+led bundle i state a = judgedOf (speaks bundle i) state (messageIn a) .next
 
-stateAfter : ℕ → ℕ → List Act → ℕ
-stateAfter i state [] = state
-stateAfter i state (a ∷ more) = stateAfter i (led i state a) more
+stateAfter : ℕ → ℕ → ℕ → List Act → ℕ
+stateAfter bundle i state [] = state
+stateAfter bundle i state (a ∷ more) = stateAfter bundle i (led bundle i state a) more
 
 -- what take judges, of the bytes that are unread
-early : Side → ℕ → ℕ → Bool → ℕ → ℕ
-early side i state accepted count =
+early : ℕ → Side → ℕ → ℕ → Bool → ℕ → ℕ
+early bundle side i state accepted count =
     cond (not (eqb i 0) && not accepted) 19
-    (cond (eqb state (doneOf (speaks i))) (cond (eqb count 0) 3 17) (cond (ours side i state) 2 0))
+    (cond (eqb state (doneOf (speaks bundle i))) (cond (eqb count 0) 3 17) (cond (ours bundle side i state) 2 0))
 
-byVerdict : ℕ → ℕ → Bool → List ℕ → Verdict → Judged
-byVerdict i state open′ bs Incomplete = unjudged (cond open′ 1 20)
-byVerdict i state open′ bs (Bad at) = unjudged 14
-byVerdict i state open′ bs (Whole n) = judgedOf (speaks i) state (lists.take n bs)
+byVerdict : ℕ → ℕ → ℕ → Bool → List ℕ → Verdict → Judged
+byVerdict bundle i state open′ bs Incomplete = unjudged (cond open′ 1 20)
+byVerdict bundle i state open′ bs (Bad at) = unjudged 14
+byVerdict bundle i state open′ bs (Whole n) = judgedOf (speaks bundle i) state (lists.take n bs)
 
-judge : Side → ℕ → ℕ → Bool → Bool → List ℕ → Judged
-judge side i state accepted open′ bs =
-    let n = early side i state accepted (length bs) in
-    cond (eqb n 0) (byVerdict i state open′ bs (verdict bs)) (unjudged n)
+judge : ℕ → Side → ℕ → ℕ → Bool → Bool → List ℕ → Judged
+judge bundle side i state accepted open′ bs =
+    let n = early bundle side i state accepted (length bs) in
+    cond (eqb n 0) (byVerdict bundle i state open′ bs (verdict bs)) (unjudged n)
 
 -- what it answers and writes
 give : List ℕ → List ℕ → Judged → Answer
@@ -88,8 +88,8 @@ unread v = lists.drop (length (flatMap handedBy (v .acts))) (v .bytes)
 
 answer : ℕ → Seen → List ℕ → Answer
 answer i v buf =
-    cond (ltb i instances)
-    (give (unread v) buf (judge (v .side) i (stateAfter i 0 (v .acts)) (v .accepted) (not (v .closed)) (unread v)))
+    cond (ltb i (instances (v .bundle)))
+    (give (unread v) buf (judge (v .bundle) (v .side) i (stateAfter (v .bundle) i 0 (v .acts)) (v .accepted) (not (v .closed)) (unread v)))
     (taken 10 0 (begun 0) buf)
 
 -- ---- closed only turns 1 into 20
@@ -111,35 +111,35 @@ give-judged bs buf j (message m to r q) =
     cond-cases (λ (a : Answer). a ≡ twentyForOne a) (ltb (length buf) _) (λ t. refl) (λ t. refl)
 
 -- what take says before it looks at the bytes
-early-number : (side : Side) (i state : ℕ) (accepted : Bool) (count : ℕ) → early side i state accepted count ≢ 1
+early-number : (bundle : ℕ) (side : Side) (i state : ℕ) (accepted : Bool) (count : ℕ) → early bundle side i state accepted count ≢ 1
 unfolding early
-early-number side i state accepted count =
+early-number bundle side i state accepted count =
     cond-cases (λ (n : ℕ). n ≢ 1) (not (eqb i 0) && not accepted) (λ t e. omega arith)
     (λ t.
-    cond-cases (λ (n : ℕ). n ≢ 1) (eqb state (doneOf (speaks i)))
+    cond-cases (λ (n : ℕ). n ≢ 1) (eqb state (doneOf (speaks bundle i)))
     (λ t. cond-cases (λ (n : ℕ). n ≢ 1) (eqb count 0) (λ t e. omega arith) (λ t e. omega arith))
-    (λ t. cond-cases (λ (n : ℕ). n ≢ 1) (ours side i state) (λ t e. omega arith) (λ t e. omega arith)))
+    (λ t. cond-cases (λ (n : ℕ). n ≢ 1) (ours bundle side i state) (λ t e. omega arith) (λ t e. omega arith)))
 
-by-verdict : (i state : ℕ) (bs buf : List ℕ) (v : Verdict)
-    → give bs buf (byVerdict i state false bs v) ≡ twentyForOne (give bs buf (byVerdict i state true bs v))
+by-verdict : (bundle i state : ℕ) (bs buf : List ℕ) (v : Verdict)
+    → give bs buf (byVerdict bundle i state false bs v) ≡ twentyForOne (give bs buf (byVerdict bundle i state true bs v))
 unfolding give byVerdict
-by-verdict i state bs buf Incomplete = refl
-by-verdict i state bs buf (Bad at) = refl
-by-verdict i state bs buf (Whole n) = give-judged bs buf _ (judges (speaks i) state (lists.take n bs))
+by-verdict bundle i state bs buf Incomplete = refl
+by-verdict bundle i state bs buf (Bad at) = refl
+by-verdict bundle i state bs buf (Whole n) = give-judged bs buf _ (judges (speaks bundle i) state (lists.take n bs))
 
-judge-closed : (side : Side) (i state : ℕ) (accepted : Bool) (bs buf : List ℕ)
-    → give bs buf (judge side i state accepted false bs) ≡ twentyForOne (give bs buf (judge side i state accepted true bs))
+judge-closed : (bundle : ℕ) (side : Side) (i state : ℕ) (accepted : Bool) (bs buf : List ℕ)
+    → give bs buf (judge bundle side i state accepted false bs) ≡ twentyForOne (give bs buf (judge bundle side i state accepted true bs))
 unfolding judge
-judge-closed side i state accepted bs buf =
-    let n = early side i state accepted (length bs) in
-    by-test (eqb n 0) (λ t. rw t (by-verdict i state bs buf (verdict bs)))
-    (λ t. rw t (give-refused bs buf n (eqb-false n 0 t) (early-number side i state accepted (length bs))))
+judge-closed bundle side i state accepted bs buf =
+    let n = early bundle side i state accepted (length bs) in
+    by-test (eqb n 0) (λ t. rw t (by-verdict bundle i state bs buf (verdict bs)))
+    (λ t. rw t (give-refused bs buf n (eqb-false n 0 t) (early-number bundle side i state accepted (length bs))))
 
 closes : (i : ℕ) (v : Seen) (buf : List ℕ) → answer i (but v true) buf ≡ twentyForOne (answer i (but v false) buf)
 unfolding answer unread
 closes i v buf =
-    by-test (ltb i instances)
-    (λ t. rw t (judge-closed (v .side) i (stateAfter i 0 (v .acts)) (v .accepted) (unread v) buf)) (λ t. rw t)
+    by-test (ltb i (instances (v .bundle)))
+    (λ t. rw t (judge-closed (v .bundle) (v .side) i (stateAfter (v .bundle) i 0 (v .acts)) (v .accepted) (unread v) buf)) (λ t. rw t)
 
 -- ---- take, by what is held
 
@@ -180,7 +180,7 @@ module _ (w : World) (i : ℕ) (buf : List ℕ) where
 
   verdicts : (v : Verdict) → verdict held ≡ v
       → answerOf (taking.byJudged c (w .receive) i buf (taking.byVerdict c (w .receive) i v))
-      ≡ give held buf (byVerdict i (stateOf c i) (isOpen (c .gate)) held v)
+      ≡ give held buf (byVerdict (c .settings .bundle) i (stateOf c i) (isOpen (c .gate)) held v)
   unfolding byVerdict
   verdicts Incomplete e = gives _ (λ z. absurd (cond-cases (λ (n : ℕ). n ≢ 0) (isOpen (c .gate)) (λ t q. omega arith) (λ t q. omega arith) z))
   verdicts (Bad at) e = gives _ (λ z. absurd (omega arith))
@@ -188,32 +188,32 @@ module _ (w : World) (i : ℕ) (buf : List ℕ) where
       let l : n ≤ count = rw held-long at (exactly 16 held (Whole n) .0 e .0) in
       let xs : List ℕ = firstHeld c (w .receive) i n in
       let long : length xs ≡ n = stream-length (w .receive) _ _ _ n in
-      let j : Judged = judgedOf (speaks i) (stateOf c i) xs in
-      gives j (λ z. omega (arith, judged-short j (judges (speaks i) (stateOf c i) xs) z))
-      ∙ ap (λ (ys : List ℕ). give held buf (judgedOf (speaks i) (stateOf c i) ys)) (held-take n l)
+      let j : Judged = judgedOf (speaks (w .connection .settings .bundle) i) (stateOf c i) xs in
+      gives j (λ z. omega (arith, judged-short j (judges (speaks (w .connection .settings .bundle) i) (stateOf c i) xs) z))
+      ∙ ap (λ (ys : List ℕ). give held buf (judgedOf (speaks (w .connection .settings .bundle) i) (stateOf c i) ys)) (held-take n l)
 
-  take-is : Good w → i < instances
+  take-is : Good w → i < instances (w .connection .settings .bundle)
       → step w (calls.take i buf) .answer
-      ≡ give held buf (judge (c .settings .side) i (stateOf c i) (c .talk .accepted) (isOpen (c .gate)) held)
+      ≡ give held buf (judge (c .settings .bundle) (c .settings .side) i (stateOf c i) (c .talk .accepted) (isOpen (c .gate)) held)
   unfolding step taking.takeOf taking.judgeOf judge early
   take-is g l =
       let n : ℕ = taking.earlyOf c i in
-      rw (reached-receives g, lt-ltb i instances l, held-long)
+      rw (reached-receives g, lt-ltb i (instances (w .connection .settings .bundle)) l, held-long)
       (by-test (eqb n 0) (λ t. rw t (verdicts (verdict held) refl)) (λ t. rw t (gives (unjudged n) (λ z. absurd (eqb-false n 0 t z)))))
 
-  take-beyond : Good w → ltb i instances ≡ false → step w (calls.take i buf) .answer ≡ taken 10 0 (begun 0) buf
+  take-beyond : Good w → ltb i (instances (w .connection .settings .bundle)) ≡ false → step w (calls.take i buf) .answer ≡ taken 10 0 (begun 0) buf
   unfolding step taking.takeOf
   take-beyond g t = rw (reached-receives g, t)
 
 -- ---- by the history
 
-led-is : {side : Side} {i state to : ℕ} {a : Act} → Moves side i state a to → led i state a ≡ to
+led-is : {bundle : ℕ} {side : Side} {i state to : ℕ} {a : Act} → Moves bundle side i state a to → led bundle i state a ≡ to
 unfolding judgedOf
-led-is {side} {i} {state} {to} {a} k =
+led-is {bundle} {side} {i} {state} {to} {a} k =
     let n = length (messageIn a) in
-    ap (λ (x : messages.Answer). byReading (speaks i) state n x .next) (k .reads) ∙ ap (λ (x : Next). byRow n (k .message) x .next) (k .row)
+    ap (λ (x : messages.Answer). byReading (speaks bundle i) state n x .next) (k .reads) ∙ ap (λ (x : Next). byRow n (k .message) x .next) (k .row)
 
-state-is : {side : Side} {i from to : ℕ} {done : List Act} → Walks side i from done to → stateAfter i from done ≡ to
+state-is : {bundle : ℕ} {side : Side} {i from to : ℕ} {done : List Act} → Walks bundle side i from done to → stateAfter bundle i from done ≡ to
 unfolding stateAfter
 state-is rests = refl
 state-is (moves k more) = rw (led-is k) (state-is more)
@@ -223,10 +223,10 @@ unread-is : (v : Seen) (hs : List ℕ) → v .bytes ≡ flatMap handedBy (v .act
 unfolding unread
 unread-is v hs e = rw e (sym (drop-at (flatMap handedBy (v .acts)) hs (length (flatMap handedBy (v .acts))) refl))
 
-give-same : (i : ℕ) (buf : List ℕ) {side side′ : Side} {state state′ : ℕ} {a a′ o o′ : Bool} {hs hs′ : List ℕ}
-    → side ≡ side′ → state ≡ state′ → a ≡ a′ → o ≡ o′ → hs ≡ hs′
-    → give hs buf (judge side i state a o hs) ≡ give hs′ buf (judge side′ i state′ a′ o′ hs′)
-give-same i buf p q r t u = rw (p, q, r, t, u)
+give-same : (i : ℕ) (buf : List ℕ) {bundle bundle′ : ℕ} {side side′ : Side} {state state′ : ℕ} {a a′ o o′ : Bool} {hs hs′ : List ℕ}
+    → bundle ≡ bundle′ → side ≡ side′ → state ≡ state′ → a ≡ a′ → o ≡ o′ → hs ≡ hs′
+    → give hs buf (judge bundle side i state a o hs) ≡ give hs′ buf (judge bundle′ side′ i state′ a′ o′ hs′)
+give-same i buf b p q r t u = rw (b, p, q, r, t, u)
 
 -- open, or there is a closing
 open-or-closed : (g : Gate) → isOpen g ≡ not (anyClosing (closingOf g))
@@ -236,21 +236,21 @@ open-or-closed (Closed x) = refl
 -- a take in a world that the history tells of
 take-seen : (s : Settings) (past : Past) (w : World) → Reached s w → Tells s past w → (segments : List Carried) (left : List ℕ)
     → Divided (bytesIn past) segments left → (i : ℕ) (buf : List ℕ)
-    → step w (calls.take i buf) .answer ≡ answer i (seenBy (s .side) past segments left i) buf
+    → step w (calls.take i buf) .answer ≡ answer i (seenBy (s .bundle) (s .side) past segments left i) buf
 unfolding answer handedFor
 take-seen s past w k t segments left d i buf =
-    by-test (ltb i instances)
+    by-test (ltb i (instances (s .bundle)))
     (λ y.
-    let l : i < instances = ltb-true i instances y in
+    let l : i < instances (s .bundle) = ltb-true i (instances (s .bundle)) y in
     let q = divided-once (bytesIn past) left (t .receives .left) segments (t .receives .carried) d (t .receives .divided) in
-    let came : receivedIn (s .side) i segments left ≡ flatMap handedBy (acts i past) ++ heldOf (w .connection) (w .receive) i =
+    let came : receivedIn (s .bundle) (s .side) i segments left ≡ flatMap handedBy (acts i past) ++ heldOf (w .connection) (w .receive) i =
     rw (q .0, q .1) (t .receives .received i l) in
     rw y
-    (take-is w i buf (good k) l
-    ∙ give-same i buf (ap (λ (u : Settings). u .side) (k .settings)) (sym (state-is (t .talks .states i l))) (t .talks .accepted)
+    (take-is w i buf (good k) (rw (k .settings) l)
+    ∙ give-same i buf (ap (λ (u : Settings). u .bundle) (k .settings)) (ap (λ (u : Settings). u .side) (k .settings)) (sym (state-is (t .talks .states i l))) (t .talks .accepted)
     (rw (← t .closes) (open-or-closed (w .connection .gate)))
-    (unread-is (seenBy (s .side) past segments left i) (heldOf (w .connection) (w .receive) i) came)))
-    (λ y. rw y (take-beyond w i buf (good k) y))
+    (unread-is (seenBy (s .bundle) (s .side) past segments left i) (heldOf (w .connection) (w .receive) i) came)))
+    (λ y. rw y (take-beyond w i buf (good k) (rw (k .settings) y)))
 
 -- T14
 pub alone : Alone
@@ -268,7 +268,7 @@ pub alike : Alike
 alike s s′ receive send receive′ send′ o o′ cs cs′ r r′ segments segments′ left left′ d d′ i buf =
     let a = alone .takes s receive send o cs r segments left d i buf in
     let a′ = alone .takes s′ receive′ send′ o′ cs′ r′ segments′ left′ d′ i buf in
-    let v = seenBy (s .side) (trace step (first s receive send) cs) segments left i in (
+    let v = seenBy (s .bundle) (s .side) (trace step (first s receive send) cs) segments left i in (
       λ e. a ∙ ap (λ (x : Seen). alone .answer i x buf) e ∙ sym a′,
       λ e e′.
           a′ ∙ ap (λ (x : Seen). alone .answer i x buf) e′ ∙ alone .closes i v buf

@@ -1,11 +1,12 @@
 -- What the promises suppose is met: an open answered 0; and two ends, of which the dialler put and sent a Propose of no version and the accepter was
 -- fed it. Each computes.
 -- Assumes nothing.
-use Prim.Native.Nat.{ℕ, _*_}
+use Prim.Native.Nat.{ℕ, zero, suc, _*_, _<_}
 use mathlib.Core.Path.{refl}
 use mathlib.Core.List.{List, [], _∷_, flatMap, flatten}
 use native.Mathlib.Omega.{arith}
-use lib.ListN.{replicate}
+use lib.ListN.{length, replicate}
+use borrow.Author.Tests.{ltb-true}
 use Rattle.base.proofs.NumberLaws.{bytes-zeros}
 use Rattle.base.specs.Below.{allBelow}
 use Rattle.base.specs.Numbers.{Bytes, spelled, octets}
@@ -16,7 +17,7 @@ use Rattle.head.specs.Write.{shortest}
 use Rattle.item.specs.Grammar.{nest, indefinite, enter, alike, enterChunk}
 use Rattle.item.specs.Verdict as item
 use Rattle.wire.specs.Segments.{added, decoded, encoded}
-use Rattle.wire.specs.Instances.{instances, find, routeOf, pairOf}
+use Rattle.wire.specs.Instances.{bundles, bundleOf, instances, most, find, routeOf, pairOf}
 use Rattle.wire.specs.declared.instances.Side.{Side}
 use Rattle.wire.specs.declared.instances.Side.the-variants.{Dialler, Accepter}
 use Rattle.rows.specs.Rows.{placeIn, nextIn, agencyIn}
@@ -40,18 +41,27 @@ use Rattle.promises.specs.History.{bytesIn, acts, handedFor}
 use Rattle.promises.specs.Arrival.{End, Parts, Due, SomeDue}
 
 -- S = 100 and the least capacities, each store of as many bytes as they are together
-least : Side → Settings
-least side = record { side = side; limit = 100; receive = replicate instances 16; send = replicate instances 16 }
+abbrev leastOf : ℕ → Side → Settings
+leastOf b side = record { bundle = b; side = side; limit = 100; receive = replicate most 16; send = replicate most 16 }
 
-abbrev store : List ℕ
-store = replicate (instances * 16) 0
-
-opened-so : (side : Side) → Opened (least side) store store
-unfolding least openOf settingsOk allBelow baseOf
-opened-so side = record { receives = refl; sends = refl; done = refl }
+abbrev storeOf : ℕ → List ℕ
+storeOf b = replicate (instances b * 16) 0
 
 pub opened : SomeOpened
-opened = (least Dialler, store, store, opened-so Dialler)
+unfolding openOf settingsOk allBelow baseOf bundleOf instances
+opened zero k = (leastOf 0 Dialler, refl, (storeOf 0, storeOf 0, record { receives = refl; sends = refl; done = refl }))
+opened (suc zero) k = (leastOf 1 Dialler, refl, (storeOf 1, storeOf 1, record { receives = refl; sends = refl; done = refl }))
+opened (suc (suc b)) k = absurd (let h : suc (suc b) < length bundles = ltb-true (suc (suc b)) (length bundles) k in omega arith)
+
+least : Side → Settings
+least side = leastOf 0 side
+
+abbrev store : List ℕ
+store = replicate (most * 16) 0
+
+opened-so : (side : Side) → Opened (least side) store store
+unfolding least openOf settingsOk allBelow baseOf bundleOf instances
+opened-so side = record { receives = refl; sends = refl; done = refl }
 
 -- ---- a Propose
 
@@ -86,14 +96,14 @@ accepter = end Accepter (feed segment ∷ []) (segment-bytes, tt)
 
 due : Due dialler accepter [] 0 propose message
 unfolding least dialler accepter allBelow spelled octets baseOf laid stream headAt headBy longAt simpleAt initial shortest nest indefinite enter
-    alike enterChunk item.step item.met item.judge added decoded encoded find routeOf pairOf placeIn nextIn agencyIn speaks formIn unsignedAt
+    alike enterChunk item.step item.met item.judge added decoded encoded find bundleOf instances routeOf pairOf placeIn nextIn agencyIn speaks formIn unsignedAt
     opensAt itemEnd versionsEnd partOf fieldsOf numberedOf messageOf flagOf build.howMany build.made build.encoded given bytesOf buildOf
     wordOf countOf lowestFrom seek settingsOk inRange openOf ours judgedOf putting.judgeOf putting.queue putting.putOf serve nextOf
     feeding.feedOf feeding.feedOpen feeding.used feeding.fed feeding.step feeding.kept feeding.headed feeding.admission
     run trace step segments bytesIn acts handedFor flatMap flatten
 due =
     record {
-      joined = record { sides = refl; bytes = refl };
+      joined = record { bundles = refl; sides = refl; bytes = refl };
       within = omega arith;
       built = record { slices = (omega arith, omega arith); lent = replicate 3 0; done = refl; front = refl };
       before = [];

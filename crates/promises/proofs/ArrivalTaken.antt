@@ -119,7 +119,7 @@ spells-once : (c : Connection) (store : List ℕ) (i n n′ : ℕ) (m m′ : Mes
 spells-once c store i n n′ m m′ s s′ =
     let e : Whole n′ ≡ Whole n = sym (s′ .whole) ∙ s .whole in
     let same : n′ ≡ n = cc in
-    let says : read m′ ≡ read m = sym (s′ .read) ∙ ap (λ (k : ℕ). messageOf (speaks i) (firstHeld c store i k)) same ∙ s .read in
+    let says : read m′ ≡ read m = sym (s′ .read) ∙ ap (λ (k : ℕ). messageOf (speaks (c .settings .bundle) i) (firstHeld c store i k)) same ∙ s .read in
     (same, ap (λ (a : Answer). a .message) says)
 
 tells-it : (c : Connection) (store : List ℕ) (i : ℕ) (lent : List ℕ) (n : ℕ) (m : Message) → Spells c store i n m
@@ -132,7 +132,7 @@ tells-it c store i lent n m s z =
 
 -- bytes that are a message, first among those held, with the row: what a take that is awaited answers
 takes-it : (w : World) (i : ℕ) (bs lent : List ℕ) (m : Message) (next : ℕ) → Awaited (w .connection) (w .receive) i
-    → take (length bs) (holding w i) ≡ bs → Item nesting bs → messageOf (speaks i) bs ≡ read m → leadsTo (w .connection) i m ≡ To next
+    → take (length bs) (holding w i) ≡ bs → Item nesting bs → messageOf (speaks (w .connection .settings .bundle) i) bs ≡ read m → leadsTo (w .connection) i m ≡ To next
     → length bs ≤ length lent → step w (calls.take i lent) .answer ≡ calls.taken 0 (length bs) m (bs ++ drop (length bs) lent)
 unfolding step
 takes-it w i bs lent m next awaited held it reads row room =
@@ -157,24 +157,25 @@ takes-it w i bs lent m next awaited held it reads row room =
 
 pub built-is-taken : BuiltIsTaken
 unfolding runsAt
-built-is-taken i p bs b w j same k lent room =
-    let r = buildWith i p (b .lent) in
-    let back = build.reads-back i (p .kind) (p .numbers) (p .runs) (p .one) (p .two) (b .lent) (r .answer) (r .buffer) (b .slices .0)
+built-is-taken bundle i p bs b w j same k lent room =
+    let q : Protocol = speaks (w .connection .settings .bundle) j in
+    let r = buildWith bundle i p (b .lent) in
+    let back = build.reads-back bundle i (p .kind) (p .numbers) (p .runs) (p .one) (p .two) (b .lent) (r .answer) (r .buffer) (b .slices .0)
     (b .slices .1) refl (b .done) in
     let xs : List Value = back .0 in
-    let m : Matches (speaks j) bs (p .kind) xs =
-    subst (λ (q : Protocol). Matches q bs (p .kind) xs) (sym same)
-    (subst (λ (ys : List ℕ). Matches (speaks i) ys (p .kind) xs) (b .front) (back .1)) in
+    let m : Matches q bs (p .kind) xs =
+    subst (λ (x : Protocol). Matches x bs (p .kind) xs) (sym same)
+    (subst (λ (ys : List ℕ). Matches (speaks bundle i) ys (p .kind) xs) (b .front) (back .1)) in
     let runs : given (p .runs) (p .one) (p .two) ≡ some (runsOf bs xs) = back .3 ∙ ap (λ (ys : List ℕ). some (runsOf ys xs)) (b .front) in
-    let small : Few (p .kind) (m .fields) = form-few (speaks j) (p .kind) (m .form) in
+    let small : Few (p .kind) (m .fields) = form-few q (p .kind) (m .form) in
     let few : length (numbersOf xs) ≤ 3 = omega (arith, numbers-few xs, values-many (m .matched), small .fields) in
     let two : length (runsOf bs xs) ≤ 2 = omega (arith, runs-counted bs (m .matched), small .runs) in
-    let reads : messageOf (speaks j) bs ≡ read (messageFrom (p .kind) xs) =
-    reads-forms (speaks j) bs (messageFrom (p .kind) xs) .1 (p .kind, xs, m, refl) in
+    let reads : messageOf q bs ≡ read (messageFrom (p .kind) xs) =
+    reads-forms q bs (messageFrom (p .kind) xs) .1 (p .kind, xs, m, refl) in
     record {
       message = messageFrom (p .kind) xs;
       answer =
-          takes-it w j bs lent (messageFrom (p .kind) xs) (k .next) (k .awaited) (k .held) (message-is-item (speaks j) bs (p .kind) xs m) reads
+          takes-it w j bs lent (messageFrom (p .kind) xs) (k .next) (k .awaited) (k .held) (message-is-item q bs (p .kind) xs m) reads
           (ap (λ (a : Answer). leadsTo (w .connection) j (a .message)) (sym reads) ∙ k .row) room;
       kind = told-kind xs (begun (p .kind));
       numbers = told-numbers xs (begun (p .kind)) (omega arith) ∙ back .2;

@@ -18,28 +18,28 @@ use Rattle.wire.proofs.InstanceLaws.{one-way}
 use Rattle.promises.specs.Fairness.{header, payload, isOf, sentBy, Sent}
 
 -- a segment is of the instance whose mode and protocol number it has, and of no other
-pub of-same : (side : Side) (i : ℕ) (bs : List ℕ) → header bs .mode ≡ modeOf side i → header bs .protocol ≡ protocolOf i → isOf side i bs ≡ true
-of-same side i bs m p = rw (eq-eqb (header bs .mode) (modeOf side i) m, eq-eqb (header bs .protocol) (protocolOf i) p)
+pub of-same : (bundle : ℕ) (side : Side) (i : ℕ) (bs : List ℕ) → header bs .mode ≡ modeOf bundle side i → header bs .protocol ≡ protocolOf bundle i → isOf bundle side i bs ≡ true
+of-same bundle side i bs m p = rw (eq-eqb (header bs .mode) (modeOf bundle side i) m, eq-eqb (header bs .protocol) (protocolOf bundle i) p)
 
-alone : (side : Side) (i j : ℕ) → i < instances → j < instances → modeOf side i ≡ modeOf side j → protocolOf i ≡ protocolOf j → i ≡ j
-alone side i j h l m p =
+alone : (bundle : ℕ) (side : Side) (i j : ℕ) → i < instances bundle → j < instances bundle → modeOf bundle side i ≡ modeOf bundle side j → protocolOf bundle i ≡ protocolOf bundle j → i ≡ j
+alone bundle side i j h l m p =
     let e : To i ≡ To j =
-    sym (one-way .reached side i h) ∙ ap (λ (n : ℕ). routeOf side n (1 - modeOf side i)) p ∙ ap (λ (n : ℕ). routeOf side (protocolOf j) (1 - n)) m
-    ∙ one-way .reached side j l in
+    sym (one-way bundle .reached side i h) ∙ ap (λ (n : ℕ). routeOf bundle side n (1 - modeOf bundle side i)) p ∙ ap (λ (n : ℕ). routeOf bundle side (protocolOf bundle j) (1 - n)) m
+    ∙ one-way bundle .reached side j l in
     cc
 
-pub of-other : (side : Side) (i j : ℕ) (bs : List ℕ) → i < instances → j < instances → i ≢ j → header bs .mode ≡ modeOf side j
-    → header bs .protocol ≡ protocolOf j → isOf side i bs ≡ false
-of-other side i j bs h l ne m p =
-    by-test (isOf side i bs)
+pub of-other : (bundle : ℕ) (side : Side) (i j : ℕ) (bs : List ℕ) → i < instances bundle → j < instances bundle → i ≢ j → header bs .mode ≡ modeOf bundle side j
+    → header bs .protocol ≡ protocolOf bundle j → isOf bundle side i bs ≡ false
+of-other bundle side i j bs h l ne m p =
+    by-test (isOf bundle side i bs)
     (λ t.
-    let q = both-true (eqb (header bs .mode) (modeOf side i)) (eqb (header bs .protocol) (protocolOf i)) t in
-    absurd (ne (alone side i j h l (sym (eqb-true _ _ (q .0)) ∙ m) (sym (eqb-true _ _ (q .1)) ∙ p))))
+    let q = both-true (eqb (header bs .mode) (modeOf bundle side i)) (eqb (header bs .protocol) (protocolOf bundle i)) t in
+    absurd (ne (alone bundle side i j h l (sym (eqb-true _ _ (q .0)) ∙ m) (sym (eqb-true _ _ (q .1)) ∙ p))))
     (λ t. t)
 
-module _ (side : Side) (i b : ℕ) (bs : List ℕ) (ss : List (List ℕ)) where
-  pub sent-now : (p : ℕ) → isOf side i bs ≡ true → header bs .len ≡ length (payload bs) → p < length (payload bs) → getD (payload bs) p 0 ≡ b
-      → Sent side i p b (bs ∷ ss)
+module _ (bundle : ℕ) (side : Side) (i b : ℕ) (bs : List ℕ) (ss : List (List ℕ)) where
+  pub sent-now : (p : ℕ) → isOf bundle side i bs ≡ true → header bs .len ≡ length (payload bs) → p < length (payload bs) → getD (payload bs) p 0 ≡ b
+      → Sent bundle side i p b (bs ∷ ss)
   unfolding sentBy flatMap
   sent-now p of whole h e =
       record {
@@ -54,7 +54,7 @@ module _ (side : Side) (i b : ℕ) (bs : List ℕ) (ss : List (List ℕ)) where
         byte = ap (λ (n : ℕ). getD (payload bs) n 0) (sub-zero p) ∙ e;
       }
 
-  pub sent-other : (p : ℕ) → isOf side i bs ≡ false → Sent side i p b ss → Sent side i p b (bs ∷ ss)
+  pub sent-other : (p : ℕ) → isOf bundle side i bs ≡ false → Sent bundle side i p b ss → Sent bundle side i p b (bs ∷ ss)
   unfolding sentBy flatMap
   sent-other p of k =
       record {
@@ -69,11 +69,11 @@ module _ (side : Side) (i b : ℕ) (bs : List ℕ) (ss : List (List ℕ)) where
         byte = rw of (k .byte);
       }
 
-  pub sent-later : (p : ℕ) → isOf side i bs ≡ true → length (payload bs) ≤ p → Sent side i (p - length (payload bs)) b ss → Sent side i p b (bs ∷ ss)
+  pub sent-later : (p : ℕ) → isOf bundle side i bs ≡ true → length (payload bs) ≤ p → Sent bundle side i (p - length (payload bs)) b ss → Sent bundle side i p b (bs ∷ ss)
   unfolding sentBy flatMap
   sent-later p of h k =
       let n = length (payload bs) in
-      let q = length (sentBy side i (k .front)) in
+      let q = length (sentBy bundle side i (k .front)) in
       record {
         front = bs ∷ k .front;
         segment = k .segment;

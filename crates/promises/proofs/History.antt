@@ -2,20 +2,23 @@
 -- Assumes nothing.
 use mathlib.Core.Path.{_≡_, refl, sym, ap, _∙_, subst}
 use mathlib.Core.List.{List, [], _∷_, _++_}
-use Prim.Native.Nat.{ℕ}
+use Prim.Native.Nat.{ℕ, zero, suc, _<_}
 use native.Mathlib.Omega.{arith}
-use lib.ListN.{length}
+use lib.ListN.{length, getD}
 use Rattle.wire.specs.Instances.{instances}
 use Rattle.wire.proofs.SegmentLaws.{divided-once}
+use Rattle.ready.specs.Ready.{bitOf}
 use Rattle.ready.proofs.ReadyLaws.{bit-by-bit, no-more, ones-ready, word-none, lowest-at, lowest-none}
 use Rattle.connection.specs.declared.Settings.{Settings}
-use Rattle.connection.specs.Statuses.{statusOf}
+use Rattle.connection.specs.Statuses.{upTo, statusOf}
+use Rattle.connection.proofs.ShownLaws.{shown-at, shown-above}
+use Rattle.sending.proofs.NumberLaws.{counts, counts-long, counts-at}
 use Rattle.promises.specs.Trace.{Out, event, run, trace}
 use Rattle.promises.specs.Calls.{Call, Answer, told, World, step, Real, AllReal, Opened, first}
 use Rattle.promises.specs.Reached.{Reached}
 use Rattle.promises.specs.History.{Past, bytesIn, Talks, Closes, Tells, Gives, History, Reports, StatusTells}
 use Rattle.promises.proofs.Reached.{in-range-for-ever}
-use Rattle.promises.proofs.HistoryCalls.{good, tells}
+use Rattle.promises.proofs.HistoryCalls.{Good, good, tells}
 use Rattle.promises.proofs.HistoryRuns.{along}
 use Rattle.promises.proofs.HistoryTalks.{talks-first, talks-next}
 use Rattle.promises.proofs.HistoryReceives.{Held, held-first, held-after, receives}
@@ -42,27 +45,42 @@ ties-next s past w c real k k′ t =
 
 -- ---- status
 
+-- an array is shown with as many entries as it has
+shown-long : (n : ℕ) (a : List ℕ) → length (upTo n a) ≡ length a
+unfolding upTo
+shown-long n [] = refl
+shown-long zero (x ∷ a) = ap suc (shown-long zero a)
+shown-long (suc n) (x ∷ a) = ap suc (shown-long n a)
+
 -- what status tells of a record in range
-reports : (s : Settings) (past : Past) (w : World) → Reached s w → Tells s past w → Reports s past (statusOf (w .connection))
+reports-of : (past : Past) (w : World) → Good w → Tells (w .connection .settings) past w → Reports (w .connection .settings) past (statusOf (w .connection))
 unfolding statusOf
-reports s past w k t =
-    let ws = w .connection .sending .waiting in
-    let many : length ws ≡ instances = k .shaped .waiting in
+reports-of past w k t =
+    let c = w .connection in
+    let n = instances (c .settings .bundle) in
+    let ws = counts c in
+    let many : length ws ≡ n = counts-long c (k .shaped) in
+    let shown : (i : ℕ) → i < n → getD ws i 0 ≡ getD (upTo n (c .sending .waiting)) i 0 =
+    λ i l. counts-at c i l ∙ sym (shown-at n (c .sending .waiting) i l) in
     rw (k .ranged)
     (record {
       number = refl;
       held = λ cs left d i l.
           let q = divided-once (bytesIn past) left (t .receives .left) cs (t .receives .carried) d (t .receives .divided) in
-          rw (q .0, q .1) (t .receives .held i l);
-      waiting = t .sends .waiting;
-      many = (k .shaped .held, many);
-      bits = λ i l. bit-by-bit ws i (omega arith);
+          shown-at n (c .receiving .held) i l ∙ rw (q .0, q .1) (t .receives .held i l);
+      waiting = λ i l. shown-at n (c .sending .waiting) i l ∙ t .sends .waiting i l;
+      many = (shown-long n (c .receiving .held) ∙ k .shaped .held, shown-long n (c .sending .waiting) ∙ k .shaped .waiting);
+      above = λ i l. (shown-above n (c .receiving .held) i l, shown-above n (c .sending .waiting) i l);
+      bits = λ i l. bit-by-bit ws i (rw many l) ∙ ap bitOf (shown i l);
       small = rw many at (no-more ws);
       count = sym (ones-ready ws);
-      lowest = λ i l some h. lowest-at 0 ws i (omega arith) some h ∙ omega arith;
-      none = λ h. lowest-none 0 ws (word-none ws (λ j l. h j (omega arith)));
+      lowest = λ i l some h. lowest-at 0 ws i (rw many l) (rw (shown i l) some) (λ j p. shown j (omega arith) ∙ h j p) ∙ omega arith;
+      none = λ h. lowest-none 0 ws (word-none ws (λ j l. let p = rw many at l in shown j p ∙ h j p));
       closing = t .closes;
     })
+
+reports : (s : Settings) (past : Past) (w : World) → Reached s w → Tells s past w → Reports s past (statusOf (w .connection))
+reports s past w k = subst (λ (u : Settings). Tells u past w → Reports u past (statusOf (w .connection))) (k .settings) (reports-of past w (good k))
 
 module _ (s : Settings) (receive send : List ℕ) (opened : Opened s receive send) (cs : List Call) (real : AllReal cs) where
   abbrev w : World

@@ -65,13 +65,13 @@ pub segments-next : (past : Past) (e : Event Call Answer) → segments (past ++ 
 unfolding segments
 segments-next past e = flat-next (λ (d : Event Call Answer). segmentOf (d .answer)) past e
 
-pub sent-append : (side : Side) (i : ℕ) (ss ts : List (List ℕ)) → sentBy side i (ss ++ ts) ≡ sentBy side i ss ++ sentBy side i ts
+pub sent-append : (bundle : ℕ) (side : Side) (i : ℕ) (ss ts : List (List ℕ)) → sentBy bundle side i (ss ++ ts) ≡ sentBy bundle side i ss ++ sentBy bundle side i ts
 unfolding sentBy
-sent-append side i ss ts = flat-append (λ (bs : List ℕ). cond (isOf side i bs) (payload bs) []) ss ts
+sent-append bundle side i ss ts = flat-append (λ (bs : List ℕ). cond (isOf bundle side i bs) (payload bs) []) ss ts
 
-pub sent-next : (side : Side) (i : ℕ) (past : Past) (e : Event Call Answer)
-    → sentFor side i (past ++ (e ∷ [])) ≡ sentFor side i past ++ sentBy side i (segmentOf (e .answer))
-sent-next side i past e = rw (segments-next past e, sent-append side i (segments past) (segmentOf (e .answer)))
+pub sent-next : (bundle : ℕ) (side : Side) (i : ℕ) (past : Past) (e : Event Call Answer)
+    → sentFor bundle side i (past ++ (e ∷ [])) ≡ sentFor bundle side i past ++ sentBy bundle side i (segmentOf (e .answer))
+sent-next bundle side i past e = rw (segments-next past e, sent-append bundle side i (segments past) (segmentOf (e .answer)))
 
 module _ (past : Past) (e : Event Call Answer) where
   pub bytes-next : bytesIn (past ++ (e ∷ [])) ≡ bytesIn past ++ usedBy (e .call) (e .answer)

@@ -1,6 +1,6 @@
 -- The states (T11 c): each call moves no state, or that of one instance by one row, and notes it as an act of that instance.
 -- Assumes nothing.
-use mathlib.Core.Path.{_≡_, refl, sym, ap}
+use mathlib.Core.Path.{_≡_, refl, sym, ap, subst}
 use mathlib.Core.Bool.{Bool, true, false, true≢false, cond, not, _&&_, _||_, or-false}
 use mathlib.Core.List.{List, [], _∷_, _++_, append-nil, flatMap}
 use mathlib.Core.Logic.{_≢_}
@@ -14,18 +14,20 @@ use lib.Seq.{sets}
 use Rattle.base.proofs.Conds.{by-test}
 use Rattle.ring.proofs.Stores.{stream-length}
 use Rattle.wire.specs.declared.instances.Side.{Side}
-use Rattle.wire.specs.Instances.{instances, at, initiates}
+use Rattle.wire.specs.Instances.{instances, most, roleOf, initiates}
+use Rattle.wire.proofs.InstanceLaws.{at-most}
 use Rattle.rows.specs.declared.Agency.{Agency}
 use Rattle.rows.specs.declared.Agency.the-variants.{Initiator, Responder, Nobody}
+use Rattle.rows.specs.declared.Protocol.the-variants.{Handshake}
 use Rattle.rows.specs.declared.Next.the-variants.{To}
 use Rattle.rows.specs.Rows.{nextOf, agencyOf, doneOf}
 use Rattle.rows.specs.Spoken.{speaks}
-use Rattle.rows.proofs.RowLaws.{thirty}
+use Rattle.rows.proofs.RowLaws.{rows-say}
 use Rattle.messages.specs.Reading.{messageOf, read, flagOf}
 use Rattle.connection.specs.declared.Settings.{Settings}
 use Rattle.connection.proofs.RangeLaws.{ranged}
 use Rattle.connection.specs.Parts.{firstHeld}
-use Rattle.judging.proofs.Moving.{leads-low}
+use Rattle.judging.proofs.Moving.{leads-low, first-speaks}
 use Rattle.judging.specs.Judging.{holds, stateOf, ours, movedBy}
 use Rattle.taking.specs.Taking as taking
 use Rattle.feeding.specs.Feeding as feeding
@@ -52,20 +54,24 @@ other-holds true Responder e n = refl
 other-holds false Responder e n = absurd (true≢false e)
 other-holds b Nobody e n = absurd (n refl)
 
-their-turn : (side : Side) (i s k f n : ℕ) → ours side i s ≡ false → nextOf (speaks i) s k f ≡ To n → theirs side i s ≡ true
+their-turn : (bundle : ℕ) (side : Side) (i s k f n : ℕ) → ours bundle side i s ≡ false → nextOf (speaks bundle i) s k f ≡ To n → theirs bundle side i s ≡ true
 unfolding ours
-their-turn side i s k f n e q =
-    other-holds (initiates side (at i .role)) (agencyOf (speaks i) s) e (thirty .going (speaks i) s (leads-low (speaks i) s k f n q .0))
+their-turn bundle side i s k f n e q =
+    other-holds (initiates side (roleOf bundle i)) (agencyOf (speaks bundle i) s) e (rows-say .going (speaks bundle i) s (leads-low (speaks bundle i) s k f n q .0))
 
 -- ---- what a call does to the states
 
 data Talked (s : Settings) (w : World) (c : Call) (o : Out World Answer) : Type 0 where
   quiet : o .world .connection .talk ≡ w .connection .talk → ((i : ℕ) → actsBy i c (o .answer) ≡ []) → Talked s w c o
-  acted : (j : ℕ) (a : Act) (to : ℕ) → j < instances → (k : Moves (s .side) j (getD (w .connection .talk .states) j 0) a to)
+  acted : (j : ℕ) (a : Act) (to : ℕ) → j < instances (s .bundle) → (k : Moves (s .bundle) (s .side) j (getD (w .connection .talk .states) j 0) a to)
       → o .world .connection .talk ≡ movedBy (w .connection .talk) j (k .message .kind) to
       → ((i : ℕ) → actsBy i c (o .answer) ≡ cond (eqb j i) (a ∷ []) []) → Talked s w c o
 
-module _ (s : Settings) (w : World) (k : Reached s w) where
+-- a world with its own settings
+module _ (w : World) (k : Reached (w .connection .settings) w) where
+  abbrev s : Settings
+  s = w .connection .settings
+
   talked-take : (j : ℕ) (buf : List ℕ) {x : taking.Told} → Takes (w .connection) (w .receive) j buf x → Talked s w (take j buf) (afterTake w x)
   talked-take j buf (refuses n z y f) = quiet refl (λ i. no-act (eqb j i) n _ z)
   talked-take j buf (faults n low high h) = quiet refl (λ i. no-act (eqb j i) n _ (λ z. omega arith))
@@ -78,8 +84,7 @@ module _ (s : Settings) (w : World) (k : Reached s w) where
         message = m;
         reads = r;
         agency =
-            their-turn (s .side) j (stateOf (w .connection) j) (m .kind) (flagOf (speaks j) m) to
-            (rw (← k .settings) e) q;
+            their-turn (s .bundle) (s .side) j (stateOf (w .connection) j) (m .kind) (flagOf (speaks (s .bundle) j) m) to e q;
         row = q;
       })
       refl (λ i. rw at-front (an-act (eqb j i) (got xs)))
@@ -87,7 +92,7 @@ module _ (s : Settings) (w : World) (k : Reached s w) where
   talked-put : (j : ℕ) (xs : List ℕ) {x : putting.Told} → Puts (w .connection) (w .send) j xs x → Talked s w (put j xs) (afterPut w x)
   talked-put j xs (refuses n z y) = quiet refl (λ i. no-act (eqb j i) n (gave xs) z)
   talked-put j xs (queues m to h g free u r q short fit) =
-      acted j (gave xs) to h (record { message = m; reads = r; agency = rw (← k .settings) u; row = q }) refl
+      acted j (gave xs) to h (record { message = m; reads = r; agency = u; row = q }) refl
       (λ i. an-act (eqb j i) (gave xs))
 
   talked-feed : (xs : List ℕ) {x : feeding.Told} → Feeds (w .connection) (w .receive) xs x → Talked s w (feed xs) (afterFeed w x)
@@ -108,45 +113,48 @@ module _ (s : Settings) (w : World) (k : Reached s w) where
 
 -- ---- T11 (c)
 
-walk-next : {side : Side} {i from state to : ℕ} {before : List Act} {a : Act} → Walks side i from before state → Moves side i state a to
-    → Walks side i from (before ++ (a ∷ [])) to
+walk-next : {bundle : ℕ} {side : Side} {i from state to : ℕ} {before : List Act} {a : Act} → Walks bundle side i from before state → Moves bundle side i state a to
+    → Walks bundle side i from (before ++ (a ∷ [])) to
 walk-next rests k = moves k rests
 walk-next (moves j more) k = moves j (walk-next more k)
 
-ends-next : (before : List Act) (a : Act) → endsInAccept (before ++ (a ∷ [])) ≡ eqb (messageOf (speaks 0) (messageIn a) .message .kind) 1
+ends-next : (before : List Act) (a : Act) → endsInAccept (before ++ (a ∷ [])) ≡ eqb (messageOf Handshake (messageIn a) .message .kind) 1
 unfolding endsInAccept
 ends-next [] a = refl
 ends-next (b ∷ []) a = refl
 ends-next (b ∷ d ∷ before) a = ends-next (d ∷ before) a
 
-module _ (s : Settings) (w : World) (k : Reached s w) (past : Past) (t : Talks s past w) where
+module _ (w : World) (k : Reached (w .connection .settings) w) (past : Past) (t : Talks (w .connection .settings) past w) where
+  abbrev given : Settings
+  given = w .connection .settings
+
   -- the states of all after an act of j
-  walks-on : (j to : ℕ) (a : Act) → j < instances → Moves (s .side) j (stateOf (w .connection) j) a to → (i : ℕ) → i < instances
-      → Walks (s .side) i 0 (acts i past ++ cond (eqb j i) (a ∷ []) []) (getD (lists.set (w .connection .talk .states) j to) i 0)
+  walks-on : (j to : ℕ) (a : Act) → j < instances (given .bundle) → Moves (given .bundle) (given .side) j (stateOf (w .connection) j) a to → (i : ℕ) → i < instances (given .bundle)
+      → Walks (given .bundle) (given .side) i 0 (acts i past ++ cond (eqb j i) (a ∷ []) []) (getD (lists.set (w .connection .talk .states) j to) i 0)
   walks-on j to a h m i =
-      at-set (λ n state. n < instances → Walks (s .side) n 0 (acts n past ++ cond (eqb j n) (a ∷ []) []) state) (w .connection .talk .states) j to
-      (omega (arith, k .shaped .states)) (λ l. rw (eq-eqb j j refl) (walk-next (t .states j h) m))
+      at-set (λ n state. n < instances (given .bundle) → Walks (given .bundle) (given .side) n 0 (acts n past ++ cond (eqb j n) (a ∷ []) []) state) (w .connection .talk .states) j to
+      (omega (arith, k .shaped .states, at-most (given .bundle))) (λ l. rw (eq-eqb j j refl) (walk-next (t .states j h) m))
       (λ n ne l. rw (ne-eqb j n (λ e. ne (sym e)), append-nil) (t .states n l)) i
 
   -- and whether Accept is marked: no state with a row is Handshake's last
-  marks-on : (j to : ℕ) (a : Act) (m : Moves (s .side) j (stateOf (w .connection) j) a to)
+  marks-on : (j to : ℕ) (a : Act) (m : Moves (given .bundle) (given .side) j (stateOf (w .connection) j) a to)
       → (w .connection .talk .accepted || (eqb j 0 && eqb (m .message .kind) 1)) ≡ endsInAccept (acts 0 past ++ cond (eqb j 0) (a ∷ []) [])
   marks-on j to a m =
       by-test (eqb j 0)
       (λ q.
       let e : j ≡ 0 = eqb-true j 0 q in
-      let going = leads-low (speaks j) (stateOf (w .connection) j) (m .message .kind) (flagOf (speaks j) (m .message)) to (m .row) .0 in
+      let going = leads-low (speaks (given .bundle) j) (stateOf (w .connection) j) (m .message .kind) (flagOf (speaks (given .bundle) j) (m .message)) to (m .row) .0 in
       let not-yet : w .connection .talk .accepted ≡ false =
       by-test (w .connection .talk .accepted)
       (λ y.
-      let done : stateOf (w .connection) 0 ≡ doneOf (speaks 0) = ranged (w .connection) (k .ranged) .accepted y in
-      absurd (omega (arith, ap (λ (n : ℕ). stateOf (w .connection) n) e, ap (λ (n : ℕ). doneOf (speaks n)) e)))
+      let done : stateOf (w .connection) 0 ≡ doneOf (speaks (given .bundle) 0) = ranged (w .connection) (k .ranged) .accepted y in
+      absurd (omega (arith, ap (λ (n : ℕ). stateOf (w .connection) n) e, ap (λ (n : ℕ). doneOf (speaks (given .bundle) n)) e)))
       (λ n. n) in
-      let read-so : messageOf (speaks 0) (messageIn a) ≡ read (m .message) = rw e at (m .reads) in
+      let read-so : messageOf Handshake (messageIn a) ≡ read (m .message) = rw (e, first-speaks (given .bundle)) at (m .reads) in
       rw (q, not-yet, ends-next (acts 0 past) a, read-so))
       (λ q. rw (q, or-false, append-nil) (t .accepted))
 
-  talks-by : (c : Call) {o : Out World Answer} → Talked s w c o → Talks s (past ++ (record { call = c; answer = o .answer } ∷ [])) (o .world)
+  talks-by : (c : Call) {o : Out World Answer} → Talked given w c o → Talks given (past ++ (record { call = c; answer = o .answer } ∷ [])) (o .world)
   talks-by c {o} (quiet e n) =
       record {
         states = λ i l. rw (acts-next past (record { call = c; answer = o .answer }) i, n i, append-nil, e) (t .states i l);
@@ -160,12 +168,14 @@ module _ (s : Settings) (w : World) (k : Reached s w) (past : Past) (t : Talks s
 
 pub talks-next : (s : Settings) (past : Past) (w : World) (c : Call) → Reached s w → Talks s past w
     → Talks s (past ++ (event step w c ∷ [])) (step w c .world)
-talks-next s past w c k t = talks-by s w k past t c (talked s w k c)
+talks-next s past w c k t =
+    subst (λ (x : Settings). Reached x w → Talks x past w → Talks x (past ++ (event step w c ∷ [])) (step w c .world)) (k .settings)
+    (λ k t. talks-by w k past t c (talked w k c)) k t
 
 pub talks-first : {s : Settings} {receive send : List ℕ} → Opened s receive send → Talks s [] (first s receive send)
 unfolding acts endsInAccept flatMap
 talks-first {s} {receive} {send} o =
     record {
-      states = λ i l. rw (opens-fresh o, getD-replicate {A = ℕ} instances i 0 0 l) rests;
+      states = λ i l. rw (opens-fresh o, getD-replicate {A = ℕ} most i 0 0 (omega (arith, at-most (s .bundle)))) rests;
       accepted = rw (opens-fresh o);
     }

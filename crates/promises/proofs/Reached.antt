@@ -11,8 +11,8 @@ use lib.Seq.{getD-set-same, getD-set-other}
 use borrow.Author.Tests.{eq-eqb, ne-eqb, eqb-true, eqb-false}
 use Rattle.base.specs.Numbers.{Bytes}
 use Rattle.base.proofs.Conds.{by-test, cond-cases, both-true}
-use Rattle.ring.specs.Ring.{together}
-use Rattle.wire.specs.Instances.{instances}
+use Rattle.wire.specs.Instances.{instances, most}
+use Rattle.wire.proofs.InstanceLaws.{at-most}
 use Rattle.rows.specs.Spoken.{speaks}
 use Rattle.messages.specs.Reading.{flagOf}
 use Rattle.connection.specs.declared.Settings.{Settings}
@@ -20,11 +20,12 @@ use Rattle.connection.specs.declared.Connection.{Connection}
 use Rattle.connection.specs.declared.opening as opening
 use Rattle.connection.specs.Parts.{withReceiving}
 use Rattle.connection.specs.Shapes.{Shaped}
-use Rattle.connection.specs.Ranges.{inRange, receiveStoreOk, sendStoreOk, receives, sends, settingsOk}
+use Rattle.connection.specs.Ranges.{inRange, receiveLength, sendLength, receiveStoreOk, sendStoreOk, receives, sends, settingsOk}
 use Rattle.connection.specs.Openings.{fresh, openOf}
 use Rattle.connection.proofs.RangeLaws.{ranged}
 use Rattle.connection.proofs.NumberLaws as connection
 use Rattle.judging.specs.Judging.{ours, barred}
+use Rattle.judging.proofs.Moving.{first-speaks}
 use Rattle.feeding.specs.Feeding as feeding
 use Rattle.feeding.specs.Numbers.{Spelt, When, out-of-range}
 use Rattle.feeding.proofs.Keeping.{spelt-empty}
@@ -60,13 +61,11 @@ pub record Sound (s : Settings) (w : World) : Type 0 where
 
 pub reached-receives : {s : Settings} {w : World} → Reached s w → receives (w .connection) (length (w .receive)) ≡ true
 reached-receives {w = w} r =
-    let caps = w .connection .settings .receive in
-    rw (r .ranged, eq-eqb (length (w .receive)) (together caps) (r .receive ∙ ap (λ (x : Settings). together (x .receive)) (sym (r .settings))))
+    rw (r .ranged, eq-eqb (length (w .receive)) (receiveLength (w .connection .settings)) (r .receive ∙ ap receiveLength (sym (r .settings))))
 
 pub reached-sends : {s : Settings} {w : World} → Reached s w → sends (w .connection) (length (w .send)) ≡ true
 reached-sends {w = w} r =
-    let caps = w .connection .settings .send in
-    rw (r .ranged, eq-eqb (length (w .send)) (together caps) (r .send ∙ ap (λ (x : Settings). together (x .send)) (sym (r .settings))))
+    rw (r .ranged, eq-eqb (length (w .send)) (sendLength (w .connection .settings)) (r .send ∙ ap sendLength (sym (r .settings))))
 
 module _ (s : Settings) (w : World) (k : Sound s w) where
   abbrev c : Connection
@@ -84,7 +83,7 @@ module _ (s : Settings) (w : World) (k : Sound s w) where
   sound-fed {xs} (bytes o) ok spelt =
       let st : feeding.Reception = ends c (w .receive) xs in
       let t : Tidy (c .receiving .starts) st =
-      tidy-fed (c .settings .side) (c .settings .receive) (c .receiving .starts) (feeding.given c (w .receive)) xs
+      tidy-fed (c .settings .bundle) (c .settings .side) (c .settings .receive) (c .receiving .starts) (feeding.given c (w .receive)) xs
       (record { places = refl; many = r .shaped .held; blank = r .blank; idle = r .idle }) in
       let p = both-true (inRange (withReceiving c (st .receiving) (st .gate))) (receiveStoreOk (c .settings) (length (st .store))) ok in
       record {
@@ -104,7 +103,7 @@ module _ (s : Settings) (w : World) (k : Sound s w) where
                     states = r .shaped .states;
                   };
               receive =
-                  eqb-true (length (st .store)) (together (c .settings .receive)) (p .1) ∙ ap (λ (x : Settings). together (x .receive)) (r .settings);
+                  eqb-true (length (st .store)) (receiveLength (c .settings)) (p .1) ∙ ap receiveLength (r .settings);
               send = r .send;
               spelt = spelt;
               blank = t .blank;
@@ -124,11 +123,11 @@ module _ (s : Settings) (w : World) (k : Sound s w) where
   -- ---- take
 
   -- where instance i moves, the state of Handshake moves with it or stays
-  pub moved : (i after : ℕ) → Row (speaks i) (getD (c .talk .states) i 0) after
+  pub moved : (i after : ℕ) → Row (speaks (c .settings .bundle) i) (getD (c .talk .states) i 0) after
       → spare (s .side) (getD (set (c .talk .states) i after) 0 0) (s .limit) ≤ toPut s w
   moved zero after row =
       rw (getD-set-same (c .talk .states) 0 after 0 (omega (arith, r .shaped .states)))
-      (spare-moved (s .side) (s .limit) (shakes (getD (c .talk .states) 0 0) after row))
+      (spare-moved (s .side) (s .limit) (shakes (getD (c .talk .states) 0 0) after (rw (first-speaks (c .settings .bundle)) at row)))
   moved (suc i) after row = rw (getD-set-other (c .talk .states) (suc i) 0 after 0 (λ e. omega arith)) (omega arith)
 
   -- what a call keeps that leaves settings, header and payload under way as they were
@@ -160,7 +159,7 @@ module _ (s : Settings) (w : World) (k : Sound s w) where
   sound-took (refuses n z ne f) ok shaped = k
   sound-took (faults n low high l) ok shaped = kept refl refl refl refl ok shaped refl (omega arith) (r .accepted)
   sound-took {i} (hands n m to l early held long reads row) ok shaped =
-      kept refl refl refl refl ok shaped refl (omega (arith, moved i to (m .kind, flagOf (speaks i) m, row)))
+      kept refl refl refl refl ok shaped refl (omega (arith, moved i to (m .kind, flagOf (speaks (c .settings .bundle) i) m, row)))
       (λ j some waiting. rw (r .accepted j some waiting))
 
   sound-take : (i : ℕ) (buf : List ℕ) → Sound s (step w (take i buf) .world)
@@ -175,12 +174,14 @@ module _ (s : Settings) (w : World) (k : Sound s w) where
   more i n = set (c .sending .waiting) i (getD (c .sending .waiting) i 0 + n)
 
   -- our message of Handshake, of at most S bytes, is the only one
-  pub put-bound : (i after n : ℕ) → ours (c .settings .side) i (getD (c .talk .states) i 0) ≡ true → Row (speaks i) (getD (c .talk .states) i 0) after
+  pub put-bound : (i after n : ℕ) → ours (c .settings .bundle) (c .settings .side) i (getD (c .talk .states) i 0) ≡ true → Row (speaks (c .settings .bundle) i) (getD (c .talk .states) i 0) after
       → (i ≡ 0 → n ≤ c .settings .limit)
       → getD (more i n) 0 0 + spare (s .side) (getD (set (c .talk .states) i after) 0 0) (s .limit) ≤ handshake s w
   put-bound zero after n mine row short =
       let state = getD (c .talk .states) 0 0 in
-      let q = spare-put (s .side) (s .limit) (shakes state after row) (ap (λ (x : Settings). ours (x .side) 0 state) (sym (r .settings)) ∙ mine) in
+      let b = c .settings .bundle in
+      let k = shakes state after (rw (first-speaks b) at row) in
+      let q = rw (r .settings) at (spare-put b (c .settings .side) (s .limit) (ranged c (r .ranged) .set .bundle) k mine) in
       rw (
         getD-set-same (c .sending .waiting) 0 (waits w 0 + n) 0 (omega (arith, r .shaped .waiting)),
         getD-set-same (c .talk .states) 0 after 0 (omega (arith, r .shaped .states)),
@@ -209,7 +210,7 @@ module _ (s : Settings) (w : World) (k : Sound s w) where
       → Sound s (record { connection = t .answer .connection; receive = w .receive; send = t .store })
   sound-put-way (refuses n z ne) ok shaped long = k
   sound-put-way {i} {xs} (queues m to l listens free mine reads row short fits) ok shaped long =
-      kept refl refl refl refl ok shaped long (put-bound i to (length xs) mine (m .kind, flagOf (speaks i) m, row) short)
+      kept refl refl refl refl ok shaped long (put-bound i to (length xs) mine (m .kind, flagOf (speaks (c .settings .bundle) i) m, row) short)
       (λ j some waiting. rw (put-accepted i (length xs) free j some waiting))
 
   sound-put : (i : ℕ) (xs : List ℕ) → Sound s (step w (put i xs) .world)
@@ -224,9 +225,9 @@ module _ (s : Settings) (w : World) (k : Sound s w) where
   -- ---- next segment
 
   -- what is sent waits no more
-  fewer : (i n : ℕ) → i < instances → (j : ℕ) → getD (set (c .sending .waiting) i (waits w i - n)) j 0 ≤ waits w j
+  fewer : (i n : ℕ) → i < instances (c .settings .bundle) → (j : ℕ) → getD (set (c .sending .waiting) i (waits w i - n)) j 0 ≤ waits w j
   fewer i n l j =
-      at-set (λ j m. m ≤ waits w j) (c .sending .waiting) i (waits w i - n) (omega (arith, r .shaped .waiting)) (omega arith) (λ j ne. omega arith) j
+      at-set (λ j m. m ≤ waits w j) (c .sending .waiting) i (waits w i - n) (omega (arith, r .shaped .waiting, at-most (c .settings .bundle))) (omega arith) (λ j ne. omega arith) j
 
   sound-next-way : {time : ℕ} {buf : List ℕ} {t : sending.Told} → Nexts c (w .send) time buf t → inRange (t .answer .connection) ≡ true
       → Shaped (t .answer .connection) → Sound s (record { connection = t .answer .connection; receive = w .receive; send = w .send })
@@ -256,7 +257,7 @@ sound-fresh s receive send o =
     let n = length receive in
     let m = length send in
     let (set, long, wide) = connection.open-exactly s n m .n0 .0 (o .done) in
-    let zero-at = zeros instances in
+    let zero-at = zeros most in
     record {
       reached =
           record {

@@ -1,19 +1,23 @@
 -- Handshake: its three rows give us one message at most, and then our agency does not come back.
 -- Assumes nothing.
 use mathlib.Core.Path.{_≡_, refl}
-use mathlib.Core.Bool.{true, false≢true, _&&_}
+use mathlib.Core.Bool.{Bool, true, false≢true, not, _&&_, _||_}
+use mathlib.Core.List.{[]}
 use Prim.Native.Nat.{ℕ, zero, suc, _≤_, _<_}
 use native.Mathlib.Omega.{arith}
-use lib.Dec.{eqb, eqb→eq}
+use lib.Dec.{T, eqb, eqb→eq}
 use lib.ListN.{length}
 use Rattle.base.proofs.Conds.{so, and-left}
+use Rattle.base.proofs.Table.{every}
 use Rattle.wire.specs.declared.instances.Side.{Side}
 use Rattle.wire.specs.declared.instances.Side.the-variants.{Dialler, Accepter}
 use Rattle.rows.specs.declared.Protocol.the-variants.{Handshake}
-use Rattle.rows.specs.Rows.{placeIn, agencyIn, fits, rowIn, rowsOf}
-use Rattle.rows.specs.Spoken.{speaks}
-use Rattle.rows.proofs.RowLaws.{thirty}
-use Rattle.judging.specs.Judging.{ours}
+use Rattle.wire.specs.Instances.{Role, initiator, responder, ofSide, sided, Instance, bundles, known, instances, roleOf, initiates}
+use Rattle.wire.proofs.InstanceLaws.{of-instances, at-least}
+use Rattle.rows.specs.Rows.{placeIn, agencyIn, agencyOf, fits, rowIn, rowsOf}
+use Rattle.rows.proofs.RowLaws.{rows-say}
+use Rattle.judging.specs.Judging.{holds, ours}
+use Rattle.judging.proofs.Moving.{first-speaks}
 use Rattle.promises.proofs.Ways.{Row}
 
 -- a message of Handshake leads from Propose to Confirm, and from there to Done
@@ -21,9 +25,9 @@ pub data Shakes : ℕ → ℕ → Type 0 where
   proposes : Shakes 0 1
   confirms : Shakes 1 2
 
-pub shakes : (state next : ℕ) → Row (speaks 0) state next → Shakes state next
-unfolding speaks placeIn
-shakes state next (k, f, e) = let (i, l, t, q) = thirty .only Handshake state k f next e in by-row i l t q
+pub shakes : (state next : ℕ) → Row Handshake state next → Shakes state next
+unfolding placeIn
+shakes state next (k, f, e) = let (i, l, t, q) = rows-say .only Handshake state k f next e in by-row i l t q
   where
     from : (s k′ f′ : ℕ) → (eqb s state && (eqb k′ k && eqb f′ f)) ≡ true → s ≡ state
     from s k′ f′ t = eqb→eq s state (and-left (eqb s state) _ (so _ t))
@@ -42,13 +46,36 @@ spare Accepter zero limit = limit
 spare Accepter (suc zero) limit = limit
 spare Accepter (suc (suc state)) limit = 0
 
-pub spare-put : (side : Side) (limit : ℕ) {state next : ℕ} → Shakes state next → ours side 0 state ≡ true
+-- our role in Handshake is our side's
+firstly : ℕ → ℕ → Instance → Bool
+firstly bundle i x = not (eqb i 0) || sided (x .role)
+
+all-firstly : T (every [] (λ b xs. every (record { protocol = 0; role = initiator }) (firstly b) 0 xs) 0 bundles)
+unfolding firstly
+all-firstly = tt
+
+side-role : (r : Role) → T (sided r) → r ≡ ofSide
+side-role initiator t = absurd t
+side-role responder t = absurd t
+side-role ofSide t = refl
+
+first-role : (bundle : ℕ) → known bundle ≡ true → roleOf bundle 0 ≡ ofSide
+unfolding firstly
+first-role bundle k = side-role (roleOf bundle 0) (of-instances firstly all-firstly bundle 0 (omega (arith, at-least bundle k)))
+
+-- our agency in Handshake, whose role is our side's in every bundle
+by-side : (side : Side) (limit : ℕ) {state next : ℕ} → Shakes state next → holds (initiates side ofSide) (agencyOf Handshake state) ≡ true
     → (spare side state limit ≡ limit) × (spare side next limit ≡ 0)
-unfolding spare ours speaks placeIn agencyIn
-spare-put Dialler limit proposes o = (refl, refl)
-spare-put Dialler limit confirms o = absurd (false≢true o)
-spare-put Accepter limit proposes o = absurd (false≢true o)
-spare-put Accepter limit confirms o = (refl, refl)
+unfolding spare placeIn agencyIn
+by-side Dialler limit proposes o = (refl, refl)
+by-side Dialler limit confirms o = absurd (false≢true o)
+by-side Accepter limit proposes o = absurd (false≢true o)
+by-side Accepter limit confirms o = (refl, refl)
+
+pub spare-put : (bundle : ℕ) (side : Side) (limit : ℕ) {state next : ℕ} → known bundle ≡ true → Shakes state next → ours bundle side 0 state ≡ true
+    → (spare side state limit ≡ limit) × (spare side next limit ≡ 0)
+unfolding ours
+spare-put bundle side limit known-bundle k o = by-side side limit k (rw (first-role bundle known-bundle, first-speaks bundle) at o)
 
 pub spare-moved : (side : Side) (limit : ℕ) {state next : ℕ} → Shakes state next → spare side next limit ≤ spare side state limit
 unfolding spare

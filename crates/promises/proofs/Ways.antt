@@ -46,10 +46,10 @@ module _ (c : Connection) (store : List ℕ) (i : ℕ) (buf : List ℕ) where
   -- nothing changes; or a fault closes; or a message is handed out, for which the peer had agency and a row
   pub data Takes : taking.Told → Type 0 where
     refuses : (n : ℕ) → n ≢ 0 → n ≢ 23 → takeFault n ≡ false → Takes (taking.told (taking.refused c n) buf)
-    faults : (n : ℕ) → 14 ≤ n → n ≤ 17 → i < instances → Takes (taking.told (taking.refused (withGate c (closedBy (c .gate) (Of n i))) n) buf)
-    hands : (n : ℕ) (m : Message) (to : ℕ) → i < instances → ours (c .settings .side) i (stateOf c i) ≡ false
-        → n ≤ getD (c .receiving .held) i 0 → n ≤ length buf → messageOf (speaks i) (firstHeld c store i n) ≡ read m
-        → nextOf (speaks i) (stateOf c i) (m .kind) (flagOf (speaks i) m) ≡ To to
+    faults : (n : ℕ) → 14 ≤ n → n ≤ 17 → i < instances (c .settings .bundle) → Takes (taking.told (taking.refused (withGate c (closedBy (c .gate) (Of n i))) n) buf)
+    hands : (n : ℕ) (m : Message) (to : ℕ) → i < instances (c .settings .bundle) → ours (c .settings .bundle) (c .settings .side) i (stateOf c i) ≡ false
+        → n ≤ getD (c .receiving .held) i 0 → n ≤ length buf → messageOf (speaks (c .settings .bundle) i) (firstHeld c store i n) ≡ read m
+        → nextOf (speaks (c .settings .bundle) i) (stateOf c i) (m .kind) (flagOf (speaks (c .settings .bundle) i) m) ≡ To to
         → Takes
         (taking.told (record { number = 0; len = n; message = m; connection = taking.handed c i (led n m to) })
         (sets buf 0 (firstHeld c store i n)))
@@ -72,9 +72,9 @@ module _ (c : Connection) (store : List ℕ) (i : ℕ) (xs : List ℕ) where
   -- nothing changes; or a message is queued, for which we had a row, and room
   pub data Puts : putting.Told → Type 0 where
     refuses : (n : ℕ) → n ≢ 0 → n ≢ 23 → Puts (putting.told (putting.refused c n) store)
-    queues : (m : Message) (to : ℕ) → i < instances → isOpen (c .gate) ≡ true → barred (c .talk) i ≡ false
-        → ours (c .settings .side) i (stateOf c i) ≡ true → messageOf (speaks i) xs ≡ read m
-        → nextOf (speaks i) (stateOf c i) (m .kind) (flagOf (speaks i) m) ≡ To to → (i ≡ 0 → length xs ≤ c .settings .limit)
+    queues : (m : Message) (to : ℕ) → i < instances (c .settings .bundle) → isOpen (c .gate) ≡ true → barred (c .talk) i ≡ false
+        → ours (c .settings .bundle) (c .settings .side) i (stateOf c i) ≡ true → messageOf (speaks (c .settings .bundle) i) xs ≡ read m
+        → nextOf (speaks (c .settings .bundle) i) (stateOf c i) (m .kind) (flagOf (speaks (c .settings .bundle) i) m) ≡ To to → (i ≡ 0 → length xs ≤ c .settings .limit)
         → getD (c .sending .waiting) i 0 + length xs ≤ getD (c .settings .send) i 0
         → Puts
         (putting.told (record { number = 0; connection = putting.queued c i (length xs) (led (length xs) m to) }) (putting.stored c store i xs))
@@ -87,7 +87,7 @@ module _ (c : Connection) (store : List ℕ) (i : ℕ) (xs : List ℕ) where
       of (putting-laws.stays n z k e) = subst Puts e (refuses n z k)
       of (putting-laws.gone m to v f e) =
           let t = v .moves .turn in
-          let reads = reads-forms (speaks i) xs m .1 (v .moves .says) in
+          let reads = reads-forms (speaks (c .settings .bundle) i) xs m .1 (v .moves .says) in
           subst Puts e (queues m to (t .0 .0 .0 .1) (t .0 .0 .1) (t .0 .1) (t .1) reads (v .moves .row) (v .short) f)
 
 -- ---- next segment
@@ -96,15 +96,15 @@ module _ (c : Connection) (store : List ℕ) (time : ℕ) (buf : List ℕ) where
   -- nothing changes; or a segment of whoever is chosen is made
   pub data Nexts : sending.Told → Type 0 where
     refuses : (n : ℕ) → n ≢ 0 → n ≢ 23 → Nexts (sending.told (sending.refused c n) buf)
-    serves : (i : ℕ) → chosen (c .sending .waiting) (c .sending .turn) ≡ Instance i → headerLength + sending.much c i ≤ length buf
+    serves : (i : ℕ) → sending.chosenOf c ≡ Instance i → headerLength + sending.much c i ≤ length buf
         → Nexts
         (sending.told
         (record {
           number = 0;
           len = headerLength + sending.much c i;
-          connection = withSending c (sending.sentOf (c .sending) (c .settings .send) i (sending.much c i));
+          connection = withSending c (sending.sentOf (c .settings .bundle) (c .sending) (c .settings .send) i (sending.much c i));
         })
-        (sets buf 0 (encoded (sending.headed (c .settings .side) time i (sending.much c i)) ++ sending.payloadOf c store i)))
+        (sets buf 0 (encoded (sending.headed (c .settings .bundle) (c .settings .side) time i (sending.much c i)) ++ sending.payloadOf c store i)))
 
   pub next-way : sends c (length store) ≡ true → Nexts (sending.nextOf c store time buf)
   next-way r = of (sending-laws.way c store time buf)

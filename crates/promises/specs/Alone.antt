@@ -12,9 +12,10 @@ use Rattle.promises.specs.Trace.{run, trace}
 use Rattle.promises.specs.Calls.{Call, take, Answer, fed, taken, queued, made, told, step, AllReal, Opened, first}
 use Rattle.promises.specs.History.{Past, bytesIn, Act, acts, receivedIn, endsInAccept, firstFault}
 
--- What a take on instance i may rest on: the side, i's own bytes, those that feed accepted; i's own accepted puts and takes; whether Handshake
+-- What a take on instance i may rest on: the bundle and the side, i's own bytes, those that feed accepted; i's own accepted puts and takes; whether Handshake
 -- ended in Accept; and whether the connection is closed.
 pub record Seen : Type 0 where
+  pub bundle : ℕ
   pub side : Side
   pub bytes : List ℕ
   pub acts : List Act
@@ -27,19 +28,20 @@ anyClosing none = false
 anyClosing (some x) = true
 
 -- what a history shows of these, its bytes being divided into segments and what is left
-abbrev pub seenBy : Side → Past → List Carried → List ℕ → ℕ → Seen
-seenBy side past segments left i =
+abbrev pub seenBy : ℕ → Side → Past → List Carried → List ℕ → ℕ → Seen
+seenBy b side past segments left i =
     record {
+      bundle = b;
       side = side;
-      bytes = receivedIn side i segments left;
+      bytes = receivedIn b side i segments left;
       acts = acts i past;
       accepted = endsInAccept (acts 0 past);
-      closed = anyClosing (firstFault side [] past);
+      closed = anyClosing (firstFault b side [] past);
     }
 
 -- the same, but closed or not
 abbrev pub but : Seen → Bool → Seen
-but v b = record { side = v .side; bytes = v .bytes; acts = v .acts; accepted = v .accepted; closed = b }
+but v closed = record { bundle = v .bundle; side = v .side; bytes = v .bytes; acts = v .acts; accepted = v .accepted; closed = closed }
 
 -- 20 for 1
 abbrev pub twentyForOne : Answer → Answer
@@ -56,7 +58,7 @@ pub record Alone : Type 0 where
   pub takes : (s : Settings) (receive send : List ℕ) → Opened s receive send → (cs : List Call) → AllReal cs
       → let w = first s receive send in
       (segments : List Carried) (left : List ℕ) → Divided (bytesIn (trace step w cs)) segments left
-      → (i : ℕ) (buf : List ℕ) → step (run step w cs) (take i buf) .answer ≡ answer i (seenBy (s .side) (trace step w cs) segments left i) buf
+      → (i : ℕ) (buf : List ℕ) → step (run step w cs) (take i buf) .answer ≡ answer i (seenBy (s .bundle) (s .side) (trace step w cs) segments left i) buf
   pub closes : (i : ℕ) (v : Seen) (buf : List ℕ) → answer i (but v true) buf ≡ twentyForOne (answer i (but v false) buf)
 
 -- So two connections, whatever their settings and whatever else was called: where a take may see the same, it answers and writes the same; and where
@@ -70,8 +72,8 @@ Alike =
     (segments segments′ : List Carried) (left left′ : List ℕ)
     → Divided (bytesIn (trace step w cs)) segments left → Divided (bytesIn (trace step w′ cs′)) segments′ left′
     → (i : ℕ) (buf : List ℕ)
-    → let v = seenBy (s .side) (trace step w cs) segments left i in
-    let v′ = seenBy (s′ .side) (trace step w′ cs′) segments′ left′ i in
+    → let v = seenBy (s .bundle) (s .side) (trace step w cs) segments left i in
+    let v′ = seenBy (s′ .bundle) (s′ .side) (trace step w′ cs′) segments′ left′ i in
     let a = step (run step w cs) (take i buf) .answer in
     let a′ = step (run step w′ cs′) (take i buf) .answer in
     (v ≡ v′ → a ≡ a′) × (v .closed ≡ false → v′ ≡ but v true → a′ ≡ twentyForOne a)

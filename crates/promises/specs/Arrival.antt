@@ -43,8 +43,9 @@ worldOf e = run step (first (e .settings) (e .receive) (e .send)) (e .calls)
 abbrev pub holding : World → ℕ → List ℕ
 holding w i = heldOf (w .connection) (w .receive) i
 
--- The second end is of the other side, and its feeds used the first's segments, end to end: all but the bytes that are on the way.
+-- The second end has the same bundle and is of the other side, and its feeds used the first's segments, end to end: all but the bytes that are on the way.
 pub record Joined (a b : End) (way : List ℕ) : Type 0 where
+  pub bundles : b .settings .bundle ≡ a .settings .bundle
   pub sides : b .settings .side ≡ other (a .settings .side)
   pub bytes : flatten (segments (pastOf a)) ≡ bytesIn (pastOf b) ++ way
 
@@ -53,17 +54,17 @@ pub record Joined (a b : End) (way : List ℕ) : Type 0 where
 pub record Arrives (a b : End) (way : List ℕ) (i : ℕ) : Type 0 where
   pub flight : List ℕ
   pub put : putFor i (pastOf a)
-      ≡ ((handedFor (pairOf i) (pastOf b) ++ holding (worldOf b) (pairOf i)) ++ flight) ++ queue (worldOf a) i
+      ≡ ((handedFor (pairOf (a .settings .bundle) i) (pastOf b) ++ holding (worldOf b) (pairOf (a .settings .bundle) i)) ++ flight) ++ queue (worldOf a) i
   pub few : length flight ≤ length way
 
 abbrev pub Glued : Type 0
-Glued = (a b : End) (way : List ℕ) → Joined a b way → (i : ℕ) → i < instances → Arrives a b way i
+Glued = (a b : End) (way : List ℕ) → Joined a b way → (i : ℕ) → i < instances (a .settings .bundle) → Arrives a b way i
 
 -- so with nothing on the way: what was put is what the other end was handed and holds, and what still waits
 abbrev pub AllThere : Type 0
 AllThere =
-    (a b : End) → Joined a b [] → (i : ℕ) → i < instances
-    → putFor i (pastOf a) ≡ (handedFor (pairOf i) (pastOf b) ++ holding (worldOf b) (pairOf i)) ++ queue (worldOf a) i
+    (a b : End) → Joined a b [] → (i : ℕ) → i < instances (a .settings .bundle)
+    → putFor i (pastOf a) ≡ (handedFor (pairOf (a .settings .bundle) i) (pastOf b) ++ holding (worldOf b) (pairOf (a .settings .bundle) i)) ++ queue (worldOf a) i
 
 -- ---- a built message is taken
 
@@ -75,24 +76,24 @@ pub record Parts : Type 0 where
   pub one : List ℕ
   pub two : List ℕ
 
--- build of these parts for instance i, with this buffer lent
-abbrev pub buildWith : ℕ → Parts → List ℕ → Told
-buildWith i p lent = buildOf i (p .kind) (p .numbers) (p .runs) (p .one) (p .two) lent
+-- build of these parts for instance i of a bundle, with this buffer lent
+abbrev pub buildWith : ℕ → ℕ → Parts → List ℕ → Told
+buildWith b i p lent = buildOf b i (p .kind) (p .numbers) (p .runs) (p .one) (p .two) lent
 
 -- Build of these parts for instance i answered 0, and the message bs was at the front of its buffer. Runs are slices: their lengths are numbers of
 -- 64 bits.
-pub record Builds (i : ℕ) (p : Parts) (bs : List ℕ) : Type 0 where
+pub record Builds (b i : ℕ) (p : Parts) (bs : List ℕ) : Type 0 where
   pub slices : (length (p .one) < 2 ^ 64) × (length (p .two) < 2 ^ 64)
   pub lent : List ℕ
-  pub done : buildWith i p lent .answer .number ≡ 0
-  pub front : take (buildWith i p lent .answer .len) (buildWith i p lent .buffer) ≡ bs
+  pub done : buildWith b i p lent .answer .number ≡ 0
+  pub front : take (buildWith b i p lent .answer .len) (buildWith b i p lent .buffer) ≡ bs
 
 -- A take on instance i is awaited, the bytes held begin with bs, and the message that these are has a row in the present state.
 pub record Awaits (w : World) (i : ℕ) (bs : List ℕ) : Type 0 where
   pub awaited : Awaited (w .connection) (w .receive) i
   pub held : take (length bs) (holding w i) ≡ bs
   pub next : ℕ
-  pub row : leadsTo (w .connection) i (messageOf (speaks i) bs .message) ≡ To next
+  pub row : leadsTo (w .connection) i (messageOf (speaks (w .connection .settings .bundle) i) bs .message) ≡ To next
 
 -- the numbers that a message says, and the bytes at its places, of which each is a start and a length
 abbrev pub numbersIn : Message → List ℕ
@@ -117,7 +118,7 @@ pub record TakenAs (p : Parts) (bs : List ℕ) (w : World) (i : ℕ) (lent : Lis
 -- what is built for an instance is taken on one that speaks the same protocol
 abbrev pub BuiltIsTaken : Type 0
 BuiltIsTaken =
-    (i : ℕ) (p : Parts) (bs : List ℕ) → Builds i p bs → (w : World) (j : ℕ) → speaks j ≡ speaks i → Awaits w j bs
+    (b i : ℕ) (p : Parts) (bs : List ℕ) → Builds b i p bs → (w : World) (j : ℕ) → speaks (w .connection .settings .bundle) j ≡ speaks b i → Awaits w j bs
     → (lent : List ℕ) → length bs ≤ length lent → TakenAs p bs w j lent
 
 -- ---- the journey
@@ -127,22 +128,22 @@ BuiltIsTaken =
 -- in its state the message has a row.
 pub record Due (a b : End) (way : List ℕ) (i : ℕ) (p : Parts) (bs : List ℕ) : Type 0 where
   pub joined : Joined a b way
-  pub within : i < instances
-  pub built : Builds i p bs
+  pub within : i < instances (a .settings .bundle)
+  pub built : Builds (a .settings .bundle) i p bs
   pub before : List Act
   pub behind : List Act
   pub put : acts i (pastOf a) ≡ before ++ (gave bs ∷ behind)
-  pub handed : flatMap putBy before ≡ handedFor (pairOf i) (pastOf b)
-  pub come : length bs ≤ length (holding (worldOf b) (pairOf i))
-  pub awaited : Awaited (worldOf b .connection) (worldOf b .receive) (pairOf i)
+  pub handed : flatMap putBy before ≡ handedFor (pairOf (a .settings .bundle) i) (pastOf b)
+  pub come : length bs ≤ length (holding (worldOf b) (pairOf (a .settings .bundle) i))
+  pub awaited : Awaited (worldOf b .connection) (worldOf b .receive) (pairOf (a .settings .bundle) i)
   pub next : ℕ
-  pub row : leadsTo (worldOf b .connection) (pairOf i) (messageOf (speaks i) bs .message) ≡ To next
+  pub row : leadsTo (worldOf b .connection) (pairOf (a .settings .bundle) i) (messageOf (speaks (a .settings .bundle) i) bs .message) ≡ To next
 
 -- then this is what a take hands out, if it lends room for it
 abbrev pub Journey : Type 0
 Journey =
     (a b : End) (way : List ℕ) (i : ℕ) (p : Parts) (bs : List ℕ) → Due a b way i p bs
-    → (lent : List ℕ) → length bs ≤ length lent → TakenAs p bs (worldOf b) (pairOf i) lent
+    → (lent : List ℕ) → length bs ≤ length lent → TakenAs p bs (worldOf b) (pairOf (a .settings .bundle) i) lent
 
 -- there are such ends and messages
 abbrev pub SomeDue : Type 0

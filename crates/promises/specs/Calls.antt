@@ -1,10 +1,11 @@
 -- Calls on one connection, from open on: the caller hands record and stores back untouched.
 use Prim.Native.Nat.{ℕ, _<_, _^_}
 use mathlib.Core.Path.{_≡_}
+use mathlib.Core.Bool.{true}
 use mathlib.Core.List.{List, [], _∷_}
 use lib.ListN.{length}
 use Rattle.base.specs.Numbers.{Bytes}
-use Rattle.wire.specs.Instances.{instances}
+use Rattle.wire.specs.Instances.{known, most}
 use Rattle.messages.specs.declared.Message.{Message}
 use Rattle.connection.specs.declared.Settings.{Settings}
 use Rattle.connection.specs.declared.Connection.{Connection}
@@ -80,16 +81,16 @@ unfoldable pub AllReal : List Call → Type 0
 AllReal [] = Unit {0}
 AllReal (c ∷ cs) = Real c × AllReal cs
 
--- An open answered 0, with what every call of open has: arrays of as many entries as there are instances.
+-- An open answered 0, with what every call of open has: arrays with room for the largest bundle.
 pub record Opened (s : Settings) (receive send : List ℕ) : Type 0 where
-  pub receives : length (s .receive) ≡ instances
-  pub sends : length (s .send) ≡ instances
+  pub receives : length (s .receive) ≡ most
+  pub sends : length (s .send) ≡ most
   pub done : openOf s (length receive) (length send) .number ≡ 0
 
 -- the world that open leaves
 abbrev pub first : Settings → List ℕ → List ℕ → World
 first s receive send = record { connection = openOf s (length receive) (length send) .connection; receive = receive; send = send }
 
--- there is such an open
+-- there is such an open of every bundle
 abbrev pub SomeOpened : Type 0
-SomeOpened = (s : Settings) × (receive : List ℕ) × (send : List ℕ) × Opened s receive send
+SomeOpened = (b : ℕ) → known b ≡ true → (s : Settings) × (s .bundle ≡ b) × ((receive : List ℕ) × (send : List ℕ) × Opened s receive send)

@@ -9,7 +9,7 @@ use Rattle.wire.specs.declared.segment.Segment.{Segment}
 use Rattle.wire.specs.declared.instances.Side.the-variants.{Dialler, Accepter}
 use Rattle.wire.specs.declared.instances.Route.the-variants.{To}
 use Rattle.wire.specs.Segments.{headerLength, empty, decoded, encoded}
-use Rattle.wire.specs.Instances.{instances, routeOf}
+use Rattle.wire.specs.Instances.{most, routeOf}
 use Rattle.item.specs.declared.Verdict.{Verdict}
 use Rattle.item.specs.declared.Verdict.the-variants.{Whole, Bad, Incomplete}
 use Rattle.item.specs.Verdict.{verdict}
@@ -26,17 +26,17 @@ use Rattle.feeding.specs.Feeding.{feedOf}
 use Rattle.sending.specs.NextSegment.{nextOf}
 
 abbrev pub none : List ℕ
-none = replicate instances 0
+none = replicate most 0
 
 -- the bytes of a store
 abbrev pub store : List ℕ
-store = replicate (instances * 16) 0
+store = replicate (most * 16) 0
 
--- a connection with capacities of 16, S = 4 and turn 1: so much is held, and so much waits, by instance
+-- a connection of node to node, bundle 0, with capacities of 16, S = 4 and turn 1: so much is held, and so much waits, by instance
 abbrev pub holding : List ℕ → List ℕ → Connection
 holding held waiting =
     record {
-      settings = record { side = Dialler; limit = 4; receive = replicate instances 16; send = replicate instances 16 };
+      settings = record { bundle = 0; side = Dialler; limit = 4; receive = replicate most 16; send = replicate most 16 };
       receiving = record { starts = none; held = held; header = empty; instance = 0; rest = 0 };
       sending = record { starts = none; waiting = waiting; turn = 1 };
       talk = record { states = none; accepted = false };
@@ -74,9 +74,9 @@ pub data Example : Type 0 where
 abbrev pub Holds : Example → Type 0
 Holds (carries bs s i p m) =
     (decoded (take headerLength bs) ≡ s)
-    × (routeOf Dialler (s .protocol) (s .mode) ≡ To i)
-    × (routeOf Accepter (s .protocol) (s .mode) ≡ To i)
-    × (speaks i ≡ p)
+    × (routeOf 0 Dialler (s .protocol) (s .mode) ≡ To i)
+    × (routeOf 0 Accepter (s .protocol) (s .mode) ≡ To i)
+    × (speaks 0 i ≡ p)
     × (messageOf p (drop headerLength bs) ≡ read m)
 Holds (says p bs m) = messageOf p bs ≡ read m
 Holds (saysNothing p bs) = numberOf (messageOf p bs .reading) ≡ 15

@@ -32,7 +32,7 @@ pub record Promises : Type 0 where
   pub fair : Fair
   -- T13: status tells the history's counts and closing
   pub status-tells : StatusTells
-  -- T14: what a take answers and writes rests on its own instance, the side, Accept and the lent buffer, and only 1 or 20 on the closing
+  -- T14: what a take answers and writes rests on its own instance, the bundle, the side, Accept and the lent buffer, and only 1 or 20 on the closing
   pub alone : Alone
   pub alike : Alike
   -- T15: after a fault nothing comes in, nothing is put and nothing is sent

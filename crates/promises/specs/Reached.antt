@@ -4,10 +4,9 @@ use mathlib.Core.Path.{_≡_}
 use mathlib.Core.Bool.{true}
 use mathlib.Core.List.{List}
 use lib.ListN.{length, getD}
-use Rattle.ring.specs.Ring.{together}
 use Rattle.connection.specs.declared.Settings.{Settings}
 use Rattle.connection.specs.Shapes.{Shaped}
-use Rattle.connection.specs.Ranges.{inRange}
+use Rattle.connection.specs.Ranges.{receiveLength, sendLength, inRange}
 use Rattle.feeding.specs.Numbers.{Spelt}
 use Rattle.promises.specs.Trace.{run}
 use Rattle.promises.specs.Calls.{Call, Answer, fed, taken, queued, made, told, World, step, AllReal, Opened, first}
@@ -21,8 +20,8 @@ pub record Reached (s : Settings) (w : World) : Type 0 where
   pub settings : w .connection .settings ≡ s
   pub ranged : inRange (w .connection) ≡ true
   pub shaped : Shaped (w .connection)
-  pub receive : length (w .receive) ≡ together (s .receive)
-  pub send : length (w .send) ≡ together (s .send)
+  pub receive : length (w .receive) ≡ receiveLength s
+  pub send : length (w .send) ≡ sendLength s
   pub spelt : Spelt (w .connection .receiving .header)
   -- header bytes that have not come are 0, and so is the instance of no payload under way: equal states are equal records
   pub blank : (k : ℕ) → w .connection .receiving .header .count ≤ k → getD (w .connection .receiving .header .bytes) k 0 ≡ 0

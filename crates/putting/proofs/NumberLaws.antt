@@ -13,9 +13,9 @@ use lib.Seq.{getD-set-same, getD-set-other}
 use borrow.Author.Tests.{eq-eqb, lt-ltb, le-ltb, le-leb, lt-leb, eqb-true, eqb-false, ltb-true, ltb-false, leb-true, leb-false}
 use Rattle.base.proofs.Conds.{by-test, equal-and, exactly-when}
 use Rattle.wire.specs.Instances.{instances}
+use Rattle.wire.proofs.InstanceLaws.{at-most}
 use Rattle.rows.specs.declared.Next.{Next}
 use Rattle.rows.specs.declared.Next.the-variants.{To, None}
-use Rattle.rows.specs.Spoken.{speaks}
 use Rattle.messages.specs.declared.Message.{Message}
 use Rattle.messages.specs.declared.Answer.{Answer}
 use Rattle.messages.specs.Reading.{messageOf, numberOf, flagOf, read}
@@ -32,7 +32,7 @@ use Rattle.connection.specs.Ranges.{sends}
 use Rattle.connection.proofs.RangeLaws as RangeLaws
 use Rattle.connection.proofs.RangeLaws.{ranged, in-range, sends-both}
 use Rattle.judging.specs.declared.Judged.{Judged}
-use Rattle.judging.specs.Judging.{stateOf, ours, barred, leadsTo, unjudged, byRow, judgedOf}
+use Rattle.judging.specs.Judging.{spokenBy, stateOf, oursNow, barred, leadsTo, unjudged, byRow, judgedOf}
 use Rattle.judging.proofs.JudgingLaws.{judged-wrong, judged-read, led, Judges, not-read, not-led, message, judges}
 use Rattle.judging.proofs.Moving.{moved-ranged, moved-shaped}
 use Rattle.putting.specs.declared.Queued.{Queued}
@@ -48,6 +48,9 @@ module _ (c : Connection) (store : List ℕ) (i : ℕ) (xs : List ℕ) where
 
   abbrev Refuses : ℕ → Type 0
   Refuses n = told (refused c n) store ≡ out
+
+  abbrev count : ℕ
+  count = instances (c .settings .bundle)
 
   abbrev cap : ℕ
   cap = getD (c .settings .send) i 0
@@ -71,19 +74,19 @@ module _ (c : Connection) (store : List ℕ) (i : ℕ) (xs : List ℕ) where
   by-early n ne k (r, h) e = stays n ne k (put-refused c store i xs r h (unjudged n) (judge-early c i xs n e ne) ne)
 
   -- the bytes decide
-  judged-out : OurTurn c store i → (j : Judged) → j ≡ judgedOf (speaks i) (stateOf c i) xs → j ≡ judgeOf c i xs
+  judged-out : OurTurn c store i → (j : Judged) → j ≡ judgedOf (spokenBy c i) (stateOf c i) xs → j ≡ judgeOf c i xs
   judged-out (((w, o), b), u) j e = e ∙ judge-bytes c i xs 0 (rw (o, b, u)) refl
 
-  by-bytes : (n : ℕ) → n ≢ 0 → n ≢ 23 → OurTurn c store i → unjudged n ≡ judgedOf (speaks i) (stateOf c i) xs → Way n
+  by-bytes : (n : ℕ) → n ≢ 0 → n ≢ 23 → OurTurn c store i → unjudged n ≡ judgedOf (spokenBy c i) (stateOf c i) xs → Way n
   by-bytes n ne k t e =
       let (r, h) = t .0 .0 .0 in stays n ne k (put-refused c store i xs r h (unjudged n) (judged-out t (unjudged n) e) ne)
 
   -- a message is judged by its row
-  row-judged : (m : Message) (x : Next) → Says (speaks i) xs m → leadsTo c i m ≡ x
-      → byRow (length xs) m x ≡ judgedOf (speaks i) (stateOf c i) xs
+  row-judged : (m : Message) (x : Next) → Says (spokenBy c i) xs m → leadsTo c i m ≡ x
+      → byRow (length xs) m x ≡ judgedOf (spokenBy c i) (stateOf c i) xs
   row-judged m x s e =
-      let a : read m ≡ messageOf (speaks i) xs = sym (reads-forms (speaks i) xs m .1 s) in
-      judged-read (speaks i) (stateOf c i) xs (read m) 0 (length xs) (flagOf (speaks i) m) x a refl refl refl refl (sym e)
+      let a : read m ≡ messageOf (spokenBy c i) xs = sym (reads-forms (spokenBy c i) xs m .1 s) in
+      judged-read (spokenBy c i) (stateOf c i) xs (read m) 0 (length xs) (flagOf (spokenBy c i) m) x a refl refl refl refl (sym e)
 
   moved-out : (m : Message) (next : ℕ) → Moves c store i xs m next → queue c store i xs (byRow (length xs) m (To next)) ≡ out
   moved-out m next v =
@@ -96,11 +99,11 @@ module _ (c : Connection) (store : List ℕ) (i : ℕ) (xs : List ℕ) where
   in-one l = by-test (eqb i 0) (λ q. rw (q, le-ltb (c .settings .limit) (length xs) (l (eqb-true i 0 q)))) (λ q. rw q)
 
   -- bytes that are no message are judged so
-  unread : ((m : Message) → Says (speaks i) xs m → ⊥) → {j : Judged} → Judges (speaks i) (stateOf c i) xs j
-      → unjudged 15 ≡ judgedOf (speaks i) (stateOf c i) xs
-  unread none (not-read z) = judged-wrong (speaks i) (stateOf c i) xs (messageOf (speaks i) xs) 15 refl (sym z) (λ z. omega arith)
-  unread none (not-led m e x) = absurd (none m (reads-forms (speaks i) xs m .0 e))
-  unread none (message m next e x) = absurd (none m (reads-forms (speaks i) xs m .0 e))
+  unread : ((m : Message) → Says (spokenBy c i) xs m → ⊥) → {j : Judged} → Judges (spokenBy c i) (stateOf c i) xs j
+      → unjudged 15 ≡ judgedOf (spokenBy c i) (stateOf c i) xs
+  unread none (not-read z) = judged-wrong (spokenBy c i) (stateOf c i) xs (messageOf (spokenBy c i) xs) 15 refl (sym z) (λ z. omega arith)
+  unread none (not-led m e x) = absurd (none m (reads-forms (spokenBy c i) xs m .0 e))
+  unread none (message m next e x) = absurd (none m (reads-forms (spokenBy c i) xs m .0 e))
 
   goes : {n : ℕ} → When c store i xs n → Way n
   goes (out-of-range r) = unfit r (put-unranged c store i xs r)
@@ -109,7 +112,7 @@ module _ (c : Connection) (store : List ℕ) (i : ℕ) (xs : List ℕ) where
   goes (no-accept (w, o) b) = by-early 19 (λ z. omega arith) (λ z. omega arith) w (rw (o, b))
   goes (not-our-turn ((w, o), b) u) = by-early 21 (λ z. omega arith) (λ z. omega arith) w (rw (o, b, u))
   goes (no-message t none) =
-      by-bytes 15 (λ z. omega arith) (λ z. omega arith) t (unread none (judges (speaks i) (stateOf c i) xs))
+      by-bytes 15 (λ z. omega arith) (λ z. omega arith) t (unread none (judges (spokenBy c i) (stateOf c i) xs))
   goes (no-row {m = m} t s e) = by-bytes 16 (λ z. omega arith) (λ z. omega arith) t (row-judged m None s e)
   goes (above-limit {m = m} {next = next} v z l) =
       stays 24 (λ z. omega arith) (λ z. omega arith)
@@ -141,11 +144,11 @@ module _ (c : Connection) (store : List ℕ) (i : ℕ) (xs : List ℕ) where
       (λ l. by-area (record { moves = v; short = λ z. ltb-false (c .settings .limit) (length xs) l })))
       (λ q. by-area (record { moves = v; short = λ z. absurd (eqb-false i 0 q z) }))
 
-  by-judged : OurTurn c store i → {j : Judged} → Judges (speaks i) (stateOf c i) xs j → Some
+  by-judged : OurTurn c store i → {j : Judged} → Judges (spokenBy c i) (stateOf c i) xs j → Some
   by-judged t (not-read z) =
-      (15, no-message t (λ m s. let q = ap (λ (x : Answer). numberOf (x .reading)) (reads-forms (speaks i) xs m .1 s) in omega arith))
-  by-judged t (not-led m e x) = (16, no-row t (reads-forms (speaks i) xs m .0 e) x)
-  by-judged t (message m next e x) = by-length (record { turn = t; says = reads-forms (speaks i) xs m .0 e; row = x })
+      (15, no-message t (λ m s. let q = ap (λ (x : Answer). numberOf (x .reading)) (reads-forms (spokenBy c i) xs m .1 s) in omega arith))
+  by-judged t (not-led m e x) = (16, no-row t (reads-forms (spokenBy c i) xs m .0 e) x)
+  by-judged t (message m next e x) = by-length (record { turn = t; says = reads-forms (spokenBy c i) xs m .0 e; row = x })
 
   by-gate : InSend c store i → Some
   by-gate w =
@@ -153,14 +156,14 @@ module _ (c : Connection) (store : List ℕ) (i : ℕ) (xs : List ℕ) where
       (λ o.
       by-test (barred (c .talk) i) (λ b. (19, no-accept (w, o) b))
       (λ b.
-      by-test (ours (c .settings .side) i (stateOf c i)) (λ u. by-judged (((w, o), b), u) (judges (speaks i) (stateOf c i) xs))
+      by-test (oursNow c i) (λ u. by-judged (((w, o), b), u) (judges (spokenBy c i) (stateOf c i) xs))
       (λ u. (21, not-our-turn ((w, o), b) u))))
       (λ o. (20, closed w o))
 
   when : Some
   when =
       by-test (sends c (length store))
-      (λ r. by-test (ltb i instances) (λ h. by-gate (r, ltb-true i instances h)) (λ h. (10, no-instance r (ltb-false i instances h))))
+      (λ r. by-test (ltb i count) (λ h. by-gate (r, ltb-true i count h)) (λ h. (10, no-instance r (ltb-false i count h))))
       (λ r. (23, out-of-range r))
 
   pub way : (n : ℕ) × Way n
@@ -207,17 +210,17 @@ longer-shaped c i n s =
     }
 
 -- and, if there is room for them, every area in range
-module _ (c : Connection) (s : Shaped c) (r : RangeLaws.Ranged c) (i n : ℕ) (inside : i < instances)
+module _ (c : Connection) (s : Shaped c) (r : RangeLaws.Ranged c) (i n : ℕ) (inside : i < instances (c .settings .bundle))
     (fits : getD (c .sending .waiting) i 0 + n ≤ getD (c .settings .send) i 0) where
   abbrev more : Sending
   more = longerOf (c .sending) i n
 
-  longer-in : (j : ℕ) → j < instances
+  longer-in : (j : ℕ) → j < instances (c .settings .bundle)
       → (getD (more .starts) j 0 < getD (c .settings .send) j 0) × (getD (more .waiting) j 0 ≤ getD (c .settings .send) j 0)
   longer-in j h =
       by-test (eqb j i)
       (λ q.
-      rw (eqb-true j i q, getD-set-same (c .sending .waiting) i (getD (c .sending .waiting) i 0 + n) 0 (omega (arith, s .waiting)))
+      rw (eqb-true j i q, getD-set-same (c .sending .waiting) i (getD (c .sending .waiting) i 0 + n) 0 (omega (arith, s .waiting, at-most (c .settings .bundle))))
       (r .sending i inside .0, fits))
       (λ q. rw (getD-set-other (c .sending .waiting) i j (getD (c .sending .waiting) i 0 + n) 0 (eqb-false j i q)) (r .sending j h))
 
@@ -247,11 +250,11 @@ module _ (c : Connection) (store : List ℕ) (i : ℕ) (xs : List ℕ) (s : Shap
   keeps-by (unfit u e) = absurd (true≢false (sym r ∙ u))
   keeps-by (stays n ne k e) = subst (Kept c store) e (record { ranged = r; shaped = s; long = refl; set = refl })
   keeps-by (gone m next v f e) =
-      let inside : i < instances = v .moves .turn .0 .0 .0 .1 in
+      let inside : i < instances (c .settings .bundle) = v .moves .turn .0 .0 .0 .1 in
       let p = sends-both c (length store) r in
       let fuller : Connection = withSending c (longerOf (c .sending) i (length xs)) in
       let k = longer-ranged c s (ranged c (p .0)) i (length xs) inside f in
-      let k′ = moved-ranged fuller i (m .kind) (flagOf (speaks i) m) next inside (s .states) k (v .moves .row) in
+      let k′ = moved-ranged fuller i (m .kind) (flagOf (spokenBy c i) m) next inside (s .states) k (v .moves .row) in
       subst (Kept c store) e
       (record {
         ranged = equal-and (in-range (queued c i (length xs) (led (length xs) m next)) k′) (stored-long c store i xs ∙ p .1);

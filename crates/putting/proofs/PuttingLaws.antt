@@ -11,13 +11,12 @@ use lib.ListN.{length, getD}
 use borrow.Author.Tests.{eq-eqb, ne-eqb, lt-ltb, le-ltb, leb-true}
 use Rattle.base.proofs.Conds.{by-test}
 use Rattle.wire.specs.Instances.{instances}
-use Rattle.rows.specs.Spoken.{speaks}
 use Rattle.connection.specs.declared.Connection.{Connection}
 use Rattle.connection.specs.Ranges.{sends}
 use Rattle.connection.specs.Parts.{InSend}
 use Rattle.connection.proofs.RangeLaws.{ranged, sends-both}
 use Rattle.judging.specs.declared.Judged.{Judged}
-use Rattle.judging.specs.Judging.{stateOf, unjudged, judgedOf}
+use Rattle.judging.specs.Judging.{spokenBy, stateOf, unjudged, judgedOf}
 use Rattle.putting.specs.Putting.{told, refused, earlyOf, judgeOf, roomOf, queued, stored, queue, putOf}
 use Rattle.putting.specs.Inside.{Fits}
 
@@ -28,7 +27,7 @@ module _ (c : Connection) (i : ℕ) (xs : List ℕ) (n : ℕ) (e : n ≡ earlyOf
   unfolding judgeOf
   judge-early ne = rw (← e, ne-eqb n 0 ne)
 
-  pub judge-bytes : n ≡ 0 → judgedOf (speaks i) (stateOf c i) xs ≡ judgeOf c i xs
+  pub judge-bytes : n ≡ 0 → judgedOf (spokenBy c i) (stateOf c i) xs ≡ judgeOf c i xs
   unfolding judgeOf
   judge-bytes z = rw (← e, eq-eqb n 0 z)
 
@@ -79,16 +78,16 @@ module _ (c : Connection) (store : List ℕ) (i : ℕ) (xs : List ℕ) where
   put-unranged r = rw r
 
   module _ (r : sends c (length store) ≡ true) where
-    pub put-above : instances ≤ i → told (refused c 10) store ≡ putOf c store i xs
+    pub put-above : instances (c .settings .bundle) ≤ i → told (refused c 10) store ≡ putOf c store i xs
     unfolding putOf
-    put-above h = rw (r, le-ltb i instances h)
+    put-above h = rw (r, le-ltb i (instances (c .settings .bundle)) h)
 
-    module _ (h : i < instances) where
+    module _ (h : i < instances (c .settings .bundle)) where
       module _ (j : Judged) (e : j ≡ judgeOf c i xs) where
         pub put-refused : j .number ≢ 0 → told (refused c (j .number)) store ≡ putOf c store i xs
         unfolding putOf
-        put-refused ne = rw (r, lt-ltb i instances h, ← e, ne-eqb (j .number) 0 ne)
+        put-refused ne = rw (r, lt-ltb i (instances (c .settings .bundle)) h, ← e, ne-eqb (j .number) 0 ne)
 
         pub put-judged : j .number ≡ 0 → queue c store i xs j ≡ putOf c store i xs
         unfolding putOf
-        put-judged z = rw (r, lt-ltb i instances h, ← e, eq-eqb (j .number) 0 z)
+        put-judged z = rw (r, lt-ltb i (instances (c .settings .bundle)) h, ← e, eq-eqb (j .number) 0 z)

@@ -7,7 +7,6 @@ use mathlib.Core.Logic.{_↔_}
 use lib.ListN.{length, getD}
 use Rattle.wire.specs.Instances.{instances, handshake}
 use Rattle.rows.specs.declared.Next.the-variants.{To, None}
-use Rattle.rows.specs.Spoken.{speaks}
 use Rattle.messages.specs.declared.Message.{Message}
 use Rattle.messages.specs.Theorem.{Says}
 use Rattle.connection.specs.declared.Connection.{Connection}
@@ -15,13 +14,13 @@ use Rattle.connection.specs.Shapes.{Shaped}
 use Rattle.connection.specs.Closings.{isOpen}
 use Rattle.connection.specs.Ranges.{sends}
 use Rattle.connection.specs.Parts.{InSend}
-use Rattle.judging.specs.Judging.{stateOf, ours, barred, leadsTo}
+use Rattle.judging.specs.Judging.{spokenBy, stateOf, oursNow, barred, leadsTo}
 use Rattle.putting.specs.declared.Queued.{Queued}
 use Rattle.putting.specs.Putting.{Told, told, putOf}
 
 -- ---- what none of the numbers before leaves, number after number
 
--- First a record in range with its send store, and an instance up to 8: `InSend`.
+-- First a record in range with its send store, and an instance of its bundle: `InSend`.
 
 -- and not closed
 abbrev pub Unclosed : Connection → List ℕ → ℕ → Type 0
@@ -33,12 +32,12 @@ Allowed c store i = Unclosed c store i × (barred (c .talk) i ≡ false)
 
 -- and our agency
 abbrev pub OurTurn : Connection → List ℕ → ℕ → Type 0
-OurTurn c store i = Allowed c store i × (ours (c .settings .side) i (stateOf c i) ≡ true)
+OurTurn c store i = Allowed c store i × (oursNow c i ≡ true)
 
 -- and the bytes are a message of the protocol, which says m and has a row in the present state, to next
 pub record Moves (c : Connection) (store : List ℕ) (i : ℕ) (xs : List ℕ) (m : Message) (next : ℕ) : Type 0 where
   pub turn : OurTurn c store i
-  pub says : Says (speaks i) xs m
+  pub says : Says (spokenBy c i) xs m
   pub row : leadsTo c i m ≡ To next
 
 -- and it is not a Handshake message above S
@@ -51,13 +50,13 @@ pub record InOneSegment (c : Connection) (store : List ℕ) (i : ℕ) (xs : List
 -- T2: when each number is answered, in document 01's order
 pub data When (c : Connection) (store : List ℕ) (i : ℕ) (xs : List ℕ) : ℕ → Type 0 where
   out-of-range : sends c (length store) ≡ false → When c store i xs 23
-  no-instance : sends c (length store) ≡ true → instances ≤ i → When c store i xs 10
+  no-instance : sends c (length store) ≡ true → instances (c .settings .bundle) ≤ i → When c store i xs 10
   closed : InSend c store i → isOpen (c .gate) ≡ false → When c store i xs 20
   no-accept : Unclosed c store i → barred (c .talk) i ≡ true → When c store i xs 19
   -- not our agency, or Done
-  not-our-turn : Allowed c store i → ours (c .settings .side) i (stateOf c i) ≡ false → When c store i xs 21
-  no-message : OurTurn c store i → ((m : Message) → Says (speaks i) xs m → ⊥) → When c store i xs 15
-  no-row : {m : Message} → OurTurn c store i → Says (speaks i) xs m → leadsTo c i m ≡ None → When c store i xs 16
+  not-our-turn : Allowed c store i → oursNow c i ≡ false → When c store i xs 21
+  no-message : OurTurn c store i → ((m : Message) → Says (spokenBy c i) xs m → ⊥) → When c store i xs 15
+  no-row : {m : Message} → OurTurn c store i → Says (spokenBy c i) xs m → leadsTo c i m ≡ None → When c store i xs 16
   -- a Handshake message above S
   above-limit : {m : Message} {next : ℕ} → Moves c store i xs m next → i ≡ handshake → c .settings .limit < length xs → When c store i xs 24
   -- waiting bytes and message above the capacity

@@ -1,11 +1,11 @@
--- Put (document 01, "Numbers and their order": 10; 20; 19; 21; 15; 16; 24; 22; then queued and the state moves; 23 before all others).
+-- Put (document 01, "Numbers and their order", and document 02, K1: 10 above the bundle's last instance; 20; 19 from 1 up; 21; 15; 16; 24; 22;
+-- then queued and the state moves; 23 before all others).
 use Prim.Native.Nat.{ℕ, _+_}
 use mathlib.Core.Bool.{cond, _&&_}
 use mathlib.Core.List.{List}
 use lib.Dec.{eqb, leb, ltb}
 use lib.ListN.{length, getD, set}
 use Rattle.wire.specs.Instances.{instances, handshake}
-use Rattle.rows.specs.Spoken.{speaks}
 use Rattle.connection.specs.declared.Sending.{Sending}
 use Rattle.connection.specs.declared.Connection.{Connection}
 use Rattle.connection.specs.Closings.{isOpen}
@@ -13,7 +13,7 @@ use Rattle.connection.specs.Ranges.{sends}
 use Rattle.connection.specs.Areas.{laidIn}
 use Rattle.connection.specs.Parts.{withSending, withTalk}
 use Rattle.judging.specs.declared.Judged.{Judged}
-use Rattle.judging.specs.Judging.{stateOf, ours, barred, movedBy, unjudged, judgedOf}
+use Rattle.judging.specs.Judging.{spokenBy, stateOf, oursNow, barred, movedBy, unjudged, judgedOf}
 use Rattle.putting.specs.declared.Queued.{Queued}
 
 -- an answer, and the send store as the call leaves it
@@ -33,11 +33,11 @@ refused c n = record { number = n; connection = c }
 -- 20; 19; 21, not our agency, or Done, where nobody has it; and else 0: the bytes decide
 abbrev pub earlyOf : Connection → ℕ → ℕ
 earlyOf c i =
-    cond (isOpen (c .gate)) (cond (barred (c .talk) i) 19 (cond (ours (c .settings .side) i (stateOf c i)) 0 21)) 20
+    cond (isOpen (c .gate)) (cond (barred (c .talk) i) 19 (cond (oursNow c i) 0 21)) 20
 
 -- what put answers behind 23 and 10, up to 16; bytes that are not exactly one message give 15
 unfoldable pub judgeOf : Connection → ℕ → List ℕ → Judged
-judgeOf c i xs = cond (eqb (earlyOf c i) 0) (judgedOf (speaks i) (stateOf c i) xs) (unjudged (earlyOf c i))
+judgeOf c i xs = cond (eqb (earlyOf c i) 0) (judgedOf (spokenBy c i) (stateOf c i) xs) (unjudged (earlyOf c i))
 
 -- ---- queueing
 
@@ -73,5 +73,5 @@ byJudged c store i xs j = cond (eqb (j .number) 0) (queue c store i xs j) (told 
 unfoldable pub putOf : Connection → List ℕ → ℕ → List ℕ → Told
 putOf c store i xs =
     cond (sends c (length store))
-    (cond (ltb i instances) (byJudged c store i xs (judgeOf c i xs)) (told (refused c 10) store))
+    (cond (ltb i (instances (c .settings .bundle))) (byJudged c store i xs (judgeOf c i xs)) (told (refused c 10) store))
     (told (refused c 23) store)

@@ -14,7 +14,7 @@ use connection::range::fits;
 use connection::range::sends;
 use judging::Judged;
 use wire::instances::HANDSHAKE;
-use wire::instances::INSTANCES;
+use wire::instances::count;
 ghost use mathlib.Core.Path.{_≡_};
 ghost use Prim.Native.Nat.{_+_, _<_, _^_};
 ghost use lib.ListN.{getD};
@@ -41,34 +41,36 @@ fn refused(c: Connection, number: u64) -> Queued
 
 // What is known before any byte is read: closed; no Accept yet; not our agency. Else 0.
 fn early(c: Connection, i: usize) -> u64
-    requires { ⌜ i < instances ⌝ }
+    requires { ⌜ i < instances (c .settings .bundle) ⌝ }
     ensures { λ r. ⌜ r ≡ earlyOf c i ⌝ }
 {
     let settings = c.settings;
     let side = settings.side;
     let talk = c.talk;
     let gate = c.gate;
-    let agency = base::choose(judging::ours(side, i, judging::state(talk, i)), 0, 21);
+    let ours = judging::ours(settings.bundle, side, i, judging::state(talk, i));
+    let agency = base::choose(ours, 0, 21);
     let accept = base::choose(judging::barred(talk, i), 19, agency);
     base::choose(is_open(gate), accept, 20)
 }
 
 // What put answers behind 23 and 10, up to 16.
 fn judge(c: Connection, i: usize, message: &[u8]) -> Judged
-    requires { ⌜ i < instances ⌝ }
+    requires { ⌜ i < instances (c .settings .bundle) ⌝ }
     ensures { λ r. ⌜ r ≡ judgeOf c i (now (message .entry)) ⌝ }
 {
     let number = early(c, i);
     if number != 0 {
         return judging::unjudged(number);
     }
+    let settings = c.settings;
     let talk = c.talk;
-    judging::judge_slice(rows::spoken::protocol(i), judging::state(talk, i), message)
+    let p = rows::spoken::protocol(settings.bundle, i);
+    judging::judge_slice(p, judging::state(talk, i), message)
 }
 
 // Whether n bytes have room: a Handshake message in one segment, and any in the area behind what waits. Else 24 or 22.
 fn room(c: Connection, i: usize, n: u64) -> u64
-    requires { ⌜ i < instances ⌝ }
     ensures { λ r. ⌜ r ≡ roomOf c i n ⌝ }
 {
     let settings = c.settings;
@@ -81,7 +83,7 @@ fn room(c: Connection, i: usize, n: u64) -> u64
 
 // n bytes of instance i wait behind those that wait. Both are few, so that their sum fits.
 fn longer(w: Sending, i: usize, n: u64) -> Sending
-    requires { ⌜ (i < instances) × (getD (w .waiting) i 0 + n < 2 ^ 32) ⌝ }
+    requires { ⌜ getD (w .waiting) i 0 + n < 2 ^ 32 ⌝ }
     ensures { λ r. ⌜ r ≡ longerOf w i n ⌝ }
 {
     let starts = w.starts;
@@ -96,7 +98,7 @@ fn longer(w: Sending, i: usize, n: u64) -> Sending
 
 // The record once the message that was judged is queued.
 fn after(c: Connection, i: usize, n: u64, j: Judged) -> Connection
-    requires { ⌜ (i < instances) × (getD (c .sending .waiting) i 0 + n < 2 ^ 32) ⌝ }
+    requires { ⌜ getD (c .sending .waiting) i 0 + n < 2 ^ 32 ⌝ }
     ensures { λ r. ⌜ r ≡ queued c i n j ⌝ }
 {
     let sending = c.sending;
@@ -144,7 +146,9 @@ pub fn put(c: Connection, store: &mut [u8], instance: u64, message: &[u8]) -> Qu
     if !sends(c, store.len()) {
         return refused(c, 23);
     }
-    if INSTANCES as u64 <= instance {
+    let settings = c.settings;
+    let n = count(settings.bundle) as u64;
+    if n <= instance {
         return refused(c, 10);
     }
     let i = instance as usize;

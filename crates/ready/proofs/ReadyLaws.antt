@@ -56,7 +56,7 @@ word-turn ws i p h =
     subst (λ (n : ℕ). wordOf (drop n ws) * 2 + bitOf (getD ws (i - 1) 0) ≡ wordOf (drop (i - 1) ws)) e (turn ws (i - 1) (omega arith))
 
 -- a word of the last counts is small
-pub word-small : (ws : List ℕ) (i n : ℕ) → length ws ≡ n → wordOf (drop i ws) < 2 ^ n
+pub word-small : (ws : List ℕ) (i n : ℕ) → length ws ≤ n → wordOf (drop i ws) < 2 ^ n
 word-small ws i n e =
     let l : length (drop i ws) ≤ n = omega (arith, length-drop i ws) in
     omega (arith, no-more (drop i ws), pow-le-pow-right {n = 2} (omega arith) {i = length (drop i ws)} {j = n} l)

@@ -5,8 +5,8 @@
 use wire::instances::INSTANCES;
 ghost use mathlib.Core.Path.{_≡_};
 ghost use Prim.Native.Nat.{_<_, _≤_, _^_};
-ghost use lib.ListN.{length};
-ghost use Rattle.wire.specs.Instances.{instances};
+ghost use lib.ListN.{length, take};
+ghost use Rattle.wire.specs.Instances.{most};
 ghost use Rattle.ready.specs.Ready.{bitOf, wordOf, readyOf, afterOf, turnAfter};
 ghost use Rattle.ready.specs.Inside.{bitSet, chosenIn};
 
@@ -30,12 +30,13 @@ fn bit(n: u64) -> u64
     if n == 0 { 0 } else { 1 }
 }
 
-// The ready word of the waiting counts, of which there are as many as instances.
-pub fn word(waiting: [u64; INSTANCES]) -> u64
-    ensures { λ r. ⌜ (r ≡ wordOf waiting) × (r < 2 ^ instances) × (length waiting ≡ instances) ⌝ }
+// The ready word of the first n waiting counts: those of a bundle of n instances.
+pub fn word(waiting: [u64; INSTANCES], n: usize) -> u64
+    requires { ⌜ n ≤ most ⌝ }
+    ensures { λ r. ⌜ (r ≡ wordOf (take n waiting)) × (r < 2 ^ most) × (length (take n waiting) ≡ n) ⌝ }
 {
     let mut word: u64 = 0;
-    let mut i: usize = INSTANCES;
+    let mut i = n;
     while 0 < i {
         i -= 1;
         word = word * 2 + bit(waiting[i]);
@@ -43,11 +44,12 @@ pub fn word(waiting: [u64; INSTANCES]) -> u64
     word
 }
 
-// Who is ready, from the waiting counts.
-pub fn ready_of(waiting: [u64; INSTANCES]) -> Ready
-    ensures { λ r. ⌜ r ≡ readyOf waiting ⌝ }
+// Who of n instances is ready, from the waiting counts.
+pub fn ready_of(waiting: [u64; INSTANCES], n: usize) -> Ready
+    requires { ⌜ n ≤ most ⌝ }
+    ensures { λ r. ⌜ r ≡ readyOf (take n waiting) ⌝ }
 {
-    let word = word(waiting);
+    let word = word(waiting, n);
     let count = u64::count_ones(word) as u64;
     if word == 0 {
         return Ready {
@@ -71,41 +73,41 @@ fn is_set(word: u64, i: usize) -> bool
     (word >> i) % 2 == 1
 }
 
-// The instance after i, going round from the last to 1.
-pub fn after(i: usize) -> usize
-    requires { ⌜ i < instances ⌝ }
-    ensures { λ r. ⌜ (r ≡ afterOf instances i) × (r < instances) ⌝ }
+// The instance after i, of n, going round from the last to 1.
+pub fn after(n: usize, i: usize) -> usize
+    requires { ⌜ (2 ≤ n) × (i < n) ⌝ }
+    ensures { λ r. ⌜ (r ≡ afterOf n i) × (r < n) ⌝ }
 {
-    if i + 1 == INSTANCES { 1 } else { i + 1 }
+    if i + 1 == n { 1 } else { i + 1 }
 }
 
-// Whom the word and the turn choose: instance 0 first, else the bits one by one from the turn on.
-pub fn choose(word: u64, turn: usize) -> Choice
-    requires { ⌜ turn < instances ⌝ }
-    ensures { λ r. ⌜ r ≡ chosenIn instances word turn ⌝ }
+// Whom the word and the turn choose, of n instances: instance 0 first, else the bits one by one from the turn on.
+pub fn choose(n: usize, word: u64, turn: usize) -> Choice
+    requires { ⌜ (2 ≤ n) × (n ≤ most) × (turn < n) ⌝ }
+    ensures { λ r. ⌜ r ≡ chosenIn n word turn ⌝ }
 {
     if is_set(word, 0) {
         return Choice::Instance(0);
     }
     let mut i = turn;
-    let mut left = INSTANCES - 1;
+    let mut left = n - 1;
     while 0 < left {
         if is_set(word, i) {
             return Choice::Instance(i);
         }
-        i = after(i);
+        i = after(n, i);
         left -= 1;
     }
     Choice::Nobody
 }
 
-// The turn after serving i, which serving instance 0 does not move.
-pub fn turn_after(i: usize, turn: u64) -> u64
-    requires { ⌜ i < instances ⌝ }
-    ensures { λ r. ⌜ r ≡ turnAfter instances i turn ⌝ }
+// The turn after serving i, of n, which serving instance 0 does not move.
+pub fn turn_after(n: usize, i: usize, turn: u64) -> u64
+    requires { ⌜ (2 ≤ n) × (i < n) ⌝ }
+    ensures { λ r. ⌜ r ≡ turnAfter n i turn ⌝ }
 {
     if i == 0 {
         return turn;
     }
-    after(i) as u64
+    after(n, i) as u64
 }

@@ -3,6 +3,7 @@ use crate::Desk;
 use crate::FILL;
 use crate::LENT;
 use crate::STORE;
+use crate::choosing;
 use crate::first;
 use crate::lending;
 use crate::lent;
@@ -22,6 +23,7 @@ use script::runs;
 use script::runs::Run;
 use wire::instances::INSTANCES;
 use wire::instances::Side;
+use wire::instances::count;
 ghost use Rattle.io.specs.Counts.{Counts};
 
 // Makes the call that a line spells. Each way of calls has only what it needs of what is lent.
@@ -96,6 +98,7 @@ fn goes(
 
 // What a connection needs once, or what only tells; a blank line or a remark; and what is no call.
 enum Rest {
+    Bundle,
     Open,
     Lend,
     Status,
@@ -105,6 +108,9 @@ enum Rest {
 }
 
 fn known(line: &[u8], w: Word) -> Rest {
+    if script::is(line, w, b"bundle") {
+        return Rest::Bundle;
+    }
     if script::is(line, w, b"open") {
         return Rest::Open;
     }
@@ -134,6 +140,7 @@ fn remark(line: &[u8]) -> Rest {
 fn other(d: Desk, receive: &[u8], send: &[u8], line: &[u8], w: Word, out: &mut [u8]) -> Desk {
     let what = known(line, w);
     match what {
+        Rest::Bundle => bundle(d, line, w, out),
         Rest::Open => open(d, receive, send, line, w, out),
         Rest::Lend => lend(d, line, w, out),
         Rest::Status => status(d, line, w, out),
@@ -212,7 +219,7 @@ fn last_two(line: &[u8], w: Word) -> Pair {
     }
 }
 
-// As many numbers as instances, and the last word of them.
+// As many numbers as the largest bundle has instances, whatever the bundle, and the last word of them.
 struct Capacities {
     ok: bool,
     caps: [u64; INSTANCES],
@@ -235,11 +242,12 @@ fn read_capacities(line: &[u8], w: Word) -> Capacities {
     Capacities { ok, caps, last }
 }
 
-// What capacities add up to, and the whole store where that is more.
-fn sum(caps: [u64; INSTANCES]) -> usize {
+// What a bundle's capacities add up to, and the whole store where that is more.
+fn sum(bundle: u64, caps: [u64; INSTANCES]) -> usize {
+    let n = count(bundle);
     let mut sum: usize = 0;
     let mut i: usize = 0;
-    while i < INSTANCES {
+    while i < n {
         sum = plus(sum, caps[i]);
         i += 1;
     }
@@ -259,7 +267,7 @@ struct Asked {
     settings: Settings,
 }
 
-fn settings_of(line: &[u8], w: Word) -> Asked {
+fn settings_of(bundle: u64, line: &[u8], w: Word) -> Asked {
     let first = script::next(line, w);
     let second = script::next(line, first);
     let limit = numbers::of(line, second);
@@ -272,6 +280,7 @@ fn settings_of(line: &[u8], w: Word) -> Asked {
     let receive = receives.caps;
     let send = sends.caps;
     let settings = Settings {
+        bundle,
         side: side(line, first),
         limit: value(limit),
         receive,
@@ -283,9 +292,20 @@ fn settings_of(line: &[u8], w: Word) -> Asked {
     }
 }
 
+// bundle B
+fn bundle(d: Desk, line: &[u8], w: Word, out: &mut [u8]) -> Desk {
+    let last = script::next(line, w);
+    let n = numbers::of(line, last);
+    if !base::and(is_number(n), script::last(line, last)) {
+        return bad(d, out);
+    }
+    answering::name(out, b"bundle");
+    choosing(d, value(n))
+}
+
 // open SIDE S R0 .. R8 W0 .. W8
 fn open(d: Desk, receive: &[u8], send: &[u8], line: &[u8], w: Word, out: &mut [u8]) -> Desk {
-    let a = settings_of(line, w);
+    let a = settings_of(d.bundle, line, w);
     if !a.ok {
         return bad(d, out);
     }
@@ -296,7 +316,11 @@ fn open(d: Desk, receive: &[u8], send: &[u8], line: &[u8], w: Word, out: &mut [u
 fn opened(d: Desk, receive: &[u8], send: &[u8], settings: Settings, out: &mut [u8]) -> Desk {
     let receives = settings.receive;
     let sends = settings.send;
-    let next = lending(d, sum(receives), sum(sends));
+    let next = lending(
+        d,
+        sum(settings.bundle, receives),
+        sum(settings.bundle, sends),
+    );
     let r = lent(next.receive, receive);
     let s = lent(next.send, send);
     let o = opening::open(settings, &receive[..r], &send[..s]);
@@ -434,7 +458,7 @@ fn build(d: Desk, line: &mut [u8], w: Word, buf: &mut [u8], out: &mut [u8]) -> D
     let p = last_parts(line, last);
     if base::and(t.ok, p.ok) {
         let k = filled(p.len, buf);
-        built(t, p, line, &mut buf[..k], out);
+        built(d.bundle, t, p, line, &mut buf[..k], out);
         return d;
     }
     bad(d, out)
@@ -453,17 +477,27 @@ fn room(line: &[u8], w: Word) -> usize {
 }
 
 // Builds into the lent buffer.
-fn built(t: Pair, p: Parts, line: &[u8], buf: &mut [u8], out: &mut [u8]) {
+fn built(bundle: u64, t: Pair, p: Parts, line: &[u8], buf: &mut [u8], out: &mut [u8]) {
     let nums = p.nums;
     let runs = p.runs;
     let numbers = nums.numbers;
-    let b = build_from(t.first, t.second, &numbers, nums.count, runs, line, buf);
+    let b = build_from(
+        bundle,
+        t.first,
+        t.second,
+        &numbers,
+        nums.count,
+        runs,
+        line,
+        buf,
+    );
     answering::filled(out, b"build", b.number, b.len, buf);
 }
 
 // A message of the first of some numbers and of runs that are bytes of the line. Of three runs the last is counted, and
 // not handed over.
 fn build_from(
+    bundle: u64,
     i: u64,
     kind: u64,
     numbers: &[u64],
@@ -477,7 +511,16 @@ fn build_from(
     let a = script::text(line, script::within(line, starts[0], lengths[0]));
     let b = script::text(line, script::within(line, starts[1], lengths[1]));
     let k = first(count, numbers);
-    build::build(i, kind, &numbers[..k], parts.count as u64, a, b, buf)
+    build::build(
+        bundle,
+        i,
+        kind,
+        &numbers[..k],
+        parts.count as u64,
+        a,
+        b,
+        buf,
+    )
 }
 
 // put I RUN

@@ -25,18 +25,21 @@ pub const CHUNK: usize = 65536;
 // Every byte of the stores at the start, and of the lent buffer before each call.
 pub const FILL: u8 = 238;
 
-// The record; how many bytes of each store are lent; and how many lines were read.
+// The record; the bundle that open and build are given; how many bytes of each store are lent; and how many lines were
+// read.
 pub struct Desk {
     pub connection: Connection,
+    pub bundle: u64,
     pub receive: usize,
     pub send: usize,
     pub lines: u64,
 }
 
-// Before the first line: the record that a refused open hands back, and nothing lent.
+// Before the first line: the record that a refused open hands back, bundle 0, and nothing lent.
 pub fn begin() -> Desk {
     let none = [0; INSTANCES];
     let settings = Settings {
+        bundle: 0,
         side: Side::Dialler,
         limit: 0,
         receive: none,
@@ -46,6 +49,7 @@ pub fn begin() -> Desk {
     let c = o.connection;
     Desk {
         connection: c,
+        bundle: 0,
         receive: 0,
         send: 0,
         lines: 0,
@@ -56,6 +60,7 @@ pub fn begin() -> Desk {
 fn with(d: Desk, c: Connection) -> Desk {
     Desk {
         connection: c,
+        bundle: d.bundle,
         receive: d.receive,
         send: d.send,
         lines: d.lines,
@@ -67,8 +72,21 @@ fn lending(d: Desk, receive: usize, send: usize) -> Desk {
     let c = d.connection;
     Desk {
         connection: c,
+        bundle: d.bundle,
         receive,
         send,
+        lines: d.lines,
+    }
+}
+
+// The desk with another bundle.
+fn choosing(d: Desk, bundle: u64) -> Desk {
+    let c = d.connection;
+    Desk {
+        connection: c,
+        bundle,
+        receive: d.receive,
+        send: d.send,
         lines: d.lines,
     }
 }
@@ -78,6 +96,7 @@ fn counted(d: Desk) -> Desk {
     let c = d.connection;
     Desk {
         connection: c,
+        bundle: d.bundle,
         receive: d.receive,
         send: d.send,
         lines: std::num::wrapping_add_u64(d.lines, 1),

@@ -7,7 +7,7 @@ use Prim.Native.Nat.{ℕ, zero, suc, _+_, _*_, _<_, _≤_}
 use native.Mathlib.Omega.{arith}
 use native.Mathlib.Decide.{decLt}
 use lib.ListN.{length, getD}
-use Rattle.ring.specs.Ring.{baseOf, together, stream, laid}
+use Rattle.ring.specs.Ring.{baseOf, stream, laid}
 use Rattle.ring.proofs.Stores.{stream-elsewhere}
 
 -- behind an area the next one begins
@@ -30,10 +30,9 @@ base-later (cap ∷ caps) (suc i) (suc j) h = omega (arith, base-later caps i j 
 pub area-within : (caps : List ℕ) (i j : ℕ) → i < j → baseOf caps i + getD caps i 0 ≤ baseOf caps j
 area-within caps i j h = omega (arith, base-next caps i, base-later caps (suc i) j h)
 
--- and within the store
-pub area-in-store : (s caps : List ℕ) (i : ℕ) → length s ≡ together caps → i < length caps
-    → baseOf caps i + getD caps i 0 ≤ length s
-area-in-store s caps i e h = omega (arith, area-within caps i (length caps) h)
+-- and within a store of n areas
+pub area-in-store : (s caps : List ℕ) (i n : ℕ) → length s ≡ baseOf caps n → i < n → baseOf caps i + getD caps i 0 ≤ length s
+area-in-store s caps i n e h = omega (arith, area-within caps i n h)
 
 -- two areas have no place in common
 pub areas-apart : (caps : List ℕ) (i j : ℕ) → i ≢ j
@@ -53,8 +52,7 @@ stream-stays s caps i j n k m xs other h h′ =
     stream-elsewhere s (baseOf caps i) (getD caps i 0) n k (baseOf caps j) (getD caps j 0) m xs h h′ (areas-apart caps i j other)
 
 -- areas of at most m bytes
-pub base-small : (caps : List ℕ) (m : ℕ) → ((i : ℕ) → i < length caps → getD caps i 0 ≤ m)
-    → (i : ℕ) → i ≤ length caps → baseOf caps i ≤ i * m
+pub base-small : (caps : List ℕ) (m n : ℕ) → ((i : ℕ) → i < n → getD caps i 0 ≤ m) → baseOf caps n ≤ n * m
 unfolding baseOf
-base-small caps m h zero l = omega arith
-base-small caps m h (suc i) l = omega (arith, base-next caps i, base-small caps m h i (omega arith), h i l)
+base-small caps m zero h = omega arith
+base-small caps m (suc n) h = omega (arith, base-next caps n, base-small caps m n (λ i l. h i (omega arith)), h n (omega arith))

@@ -14,7 +14,7 @@ use lib.ListN.{length, getD, set, length-append}
 use lib.Seq.{getD-append-add, getD-set-same, getD-set-other}
 use Rattle.base.proofs.Conds.{by-test}
 use Rattle.base.proofs.ListLaws.{at-set}
-use Rattle.ring.specs.Ring.{baseOf, together, place, laid, stream}
+use Rattle.ring.specs.Ring.{baseOf, place, laid, stream}
 use Rattle.ring.proofs.Stores.{stream-length, stream-append, stream-same, stream-at, stream-behind}
 use Rattle.ring.proofs.Areas.{area-in-store, stream-stays}
 
@@ -93,22 +93,22 @@ module _ (store caps starts counts : List ℕ) (j : ℕ) where
         ((getD starts j 0 + n) % getD caps j 0) in-starts (λ at. rw (eq-eqb j j refl, length-append, long, at, mod-add-mod))
         (λ i ne at. rw (ne-eqb j i (λ e. ne (sym e)), append-nil) at)
 
-  -- bytes xs are laid behind those of instance j
-  pub queue-laid : (xs : List ℕ) → length store ≡ together caps → ((i : ℕ) → i < length caps → 0 < getD caps i 0)
-      → j < length caps → j < length counts → getD counts j 0 + length xs ≤ getD caps j 0 → (i : ℕ) → i < length caps
+  -- bytes xs are laid behind those of instance j, one of m
+  pub queue-laid : (m : ℕ) (xs : List ℕ) → length store ≡ baseOf caps m → ((i : ℕ) → i < m → 0 < getD caps i 0)
+      → j < m → j < length counts → getD counts j 0 + length xs ≤ getD caps j 0 → (i : ℕ) → i < m
       → queueAt (laid store (baseOf caps j) (getD caps j 0) (getD starts j 0 + getD counts j 0) xs) caps starts
       (set counts j (getD counts j 0 + length xs)) i
       ≡ queueAt store caps starts counts i ++ cond (eqb j i) xs []
-  queue-laid xs all some in-caps in-counts fit =
+  queue-laid m xs all some in-caps in-counts fit =
       at-set
       (λ i n.
-      i < length caps
+      i < m
       → stream (laid store (baseOf caps j) (getD caps j 0) (getD starts j 0 + getD counts j 0) xs) (baseOf caps i) (getD caps i 0) (getD starts i 0) n
       ≡ queueAt store caps starts counts i ++ cond (eqb j i) xs [])
       counts j (getD counts j 0 + length xs) in-counts
       (λ l.
       rw (eq-eqb j j refl)
-      (stream-behind store (baseOf caps j) (getD caps j 0) (getD starts j 0) (getD counts j 0) xs fit (area-in-store store caps j all in-caps)))
+      (stream-behind store (baseOf caps j) (getD caps j 0) (getD starts j 0) (getD counts j 0) xs fit (area-in-store store caps j m all in-caps)))
       (λ i ne l.
       rw (ne-eqb j i (λ e. ne (sym e)), append-nil)
       (stream-stays store caps i j (getD starts i 0) (getD counts i 0) (getD starts j 0 + getD counts j 0) xs ne (some i l) (some j in-caps)))

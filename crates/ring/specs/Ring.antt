@@ -6,15 +6,11 @@ use mathlib.Core.Logic.{_≢_}
 use mathlib.Core.List.{List, [], _∷_, _++_}
 use lib.ListN.{length, getD, set, take, drop}
 
--- areas lie in their order, one behind the other: where area i begins
+-- areas lie in their order, one behind the other: where area i begins; a store of n areas is as long as they are together, up to where the next would begin
 unfoldable pub baseOf : List ℕ → ℕ → ℕ
 baseOf caps zero = 0
 baseOf [] (suc i) = 0
 baseOf (cap ∷ caps) (suc i) = cap + baseOf caps i
-
--- how long a store is: as its areas together
-abbrev pub together : List ℕ → ℕ
-together caps = baseOf caps (length caps)
 
 -- where byte n of the stream is kept, in a store whose area of cap bytes begins at base
 abbrev pub place : ℕ → ℕ → ℕ → ℕ

@@ -13,7 +13,7 @@ use lib.Seq.{drop-cons, split-at, take-append-seam, drop-append-seam}
 use Rattle.base.proofs.ListLaws.{getD-map}
 use Rattle.base.proofs.Table.{every, at}
 use Rattle.rows.specs.declared.Protocol.{Protocol}
-use Rattle.rows.specs.declared.Protocol.the-variants.{Handshake, ChainSync, BlockFetch, TxSubmission, KeepAlive}
+use Rattle.rows.specs.declared.Protocol.the-variants.{Handshake, ChainSync, BlockFetch, TxSubmission, KeepAlive, LocalTxSubmission, LocalStateQuery}
 use Rattle.rows.specs.Inside.{placeOf, protocols, entries, table, firstIn, countIn}
 
 -- each protocol stands at its place
@@ -23,6 +23,8 @@ placed ChainSync = (omega arith, refl)
 placed BlockFetch = (omega arith, refl)
 placed TxSubmission = (omega arith, refl)
 placed KeepAlive = (omega arith, refl)
+placed LocalTxSubmission = (omega arith, refl)
+placed LocalStateQuery = (omega arith, refl)
 
 -- what a test says of all protocols it says of each
 pub each-protocol : (test : Protocol → Bool) → T (every Handshake (λ i. test) 0 protocols) → (p : Protocol) → T (test p)

@@ -1,2 +1,3 @@
 pub mod ByProtocol
 pub mod RowLaws
+pub mod SpokenLaws

@@ -16,7 +16,7 @@ use Rattle.rows.specs.declared.Agency.{Agency}
 use Rattle.rows.specs.declared.Agency.the-variants.{Initiator, Responder, Nobody}
 use Rattle.rows.specs.declared.Next.{Next}
 use Rattle.rows.specs.declared.Next.the-variants.{To, None}
-use Rattle.rows.specs.Rows.{State, Done, Row, states, doneOf, rowsOf, rowIn, Thirty, fits, nextIn, nextOf, agencyIn, agencyOf, placeIn}
+use Rattle.rows.specs.Rows.{State, Done, Row, states, doneOf, rowsOf, rowIn, RowsSay, fits, nextIn, nextOf, agencyIn, agencyOf, placeIn}
 use Rattle.rows.proofs.ByProtocol.{each-protocol, Search}
 use Rattle.rows.specs.Inside.{entries, allRows, rowCount, rowAt, holder, mark, columns}
 
@@ -179,10 +179,11 @@ going : (p : Protocol) (s : ℕ) → s < doneOf p → agencyOf p s ≡ Nobody �
 unfolding agents sameAgency
 going p s h e = rw (ne-eqb s (doneOf p) (λ q. omega arith), e) at (at Done (agents p) (states p) (all-agents p) s (omega (arith, all-states p)))
 
-pub thirty : Thirty
-thirty =
+pub rows-say : RowsSay
+rows-say =
     record {
       thirty = refl;
+      fourteen = refl;
       one = λ p i j h k e. one p i h j k e;
       agreed = agreed;
       leads = leads-there;

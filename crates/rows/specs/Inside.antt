@@ -5,21 +5,23 @@ use mathlib.Core.List.{List, [], _∷_, _++_}
 use lib.Dec.{eqb}
 use lib.ListN.{length, getD, take}
 use Rattle.rows.specs.declared.Protocol.{Protocol}
-use Rattle.rows.specs.declared.Protocol.the-variants.{Handshake, ChainSync, BlockFetch, TxSubmission, KeepAlive}
+use Rattle.rows.specs.declared.Protocol.the-variants.{Handshake, ChainSync, BlockFetch, TxSubmission, KeepAlive, LocalTxSubmission, LocalStateQuery}
 use Rattle.rows.specs.declared.Agency.{Agency}
 use Rattle.rows.specs.declared.Agency.the-variants.{Initiator, Responder, Nobody}
 use Rattle.rows.specs.Rows.{Row, rowsOf}
 
--- the place of a protocol in document 01's order
+-- the place of a protocol: document 01's order, and then K1's
 abbrev pub placeOf : Protocol → ℕ
 placeOf Handshake = 0
 placeOf ChainSync = 1
 placeOf BlockFetch = 2
 placeOf TxSubmission = 3
 placeOf KeepAlive = 4
+placeOf LocalTxSubmission = 5
+placeOf LocalStateQuery = 6
 
 abbrev pub protocols : List Protocol
-protocols = Handshake ∷ ChainSync ∷ BlockFetch ∷ TxSubmission ∷ KeepAlive ∷ []
+protocols = Handshake ∷ ChainSync ∷ BlockFetch ∷ TxSubmission ∷ KeepAlive ∷ LocalTxSubmission ∷ LocalStateQuery ∷ []
 
 -- a table by protocol: the entries of each, one protocol after the other
 module _ {A : Type 0} (of : Protocol → List A) where

@@ -1,4 +1,5 @@
--- Transitions (document 01, "Messages and transitions"): the thirty rows, by the names of their states, and what they say by number.
+-- Transitions (document 01, "Messages and transitions"; for K1's protocols document 000, 3.11 and 3.12, as docs/DECISIONS.md reads them): the
+-- rows, by the names of their states, and what they say by number.
 use Prim.Native.Nat.{ℕ, zero, suc, _+_, _≤_, _<_}
 use mathlib.Core.Path.{_≡_}
 use mathlib.Core.Bool.{Bool, true, false, cond, _&&_}
@@ -6,14 +7,14 @@ use mathlib.Core.List.{List, [], _∷_, _++_, map}
 use lib.Dec.{eqb}
 use lib.ListN.{length, getD}
 use Rattle.rows.specs.declared.Protocol.{Protocol}
-use Rattle.rows.specs.declared.Protocol.the-variants.{Handshake, ChainSync, BlockFetch, TxSubmission, KeepAlive}
+use Rattle.rows.specs.declared.Protocol.the-variants.{Handshake, ChainSync, BlockFetch, TxSubmission, KeepAlive, LocalTxSubmission, LocalStateQuery}
 use Rattle.rows.specs.declared.Agency.{Agency}
 use Rattle.rows.specs.declared.Agency.the-variants.{Initiator, Responder, Nobody}
 use Rattle.rows.specs.declared.Next.{Next}
 use Rattle.rows.specs.declared.Next.the-variants.{To, None}
 
 pub data State : Type 0 where
-  Propose Confirm Idle CanAwait MustReply Intersect Busy Streaming Init Blocking NonBlocking Txs Client Server Done : State
+  Propose Confirm Idle CanAwait MustReply Intersect Busy Streaming Init Blocking NonBlocking Txs Client Server Acquiring Acquired Querying Done : State
 
 -- C marks initiator agency, S responder agency.
 abbrev C : Agency
@@ -36,7 +37,7 @@ move s a k n = record { state = s; agency = a; kind = k; flag = 0; next = n }
 abbrev pub moveIf : State → Agency → ℕ → ℕ → State → Move
 moveIf s a k f n = record { state = s; agency = a; kind = k; flag = f; next = n }
 
--- the rows, in document 01's order
+-- the rows, in document 01's order, and then K1's
 abbrev pub moves : Protocol → List Move
 -- Propose(C) 0 to Confirm; Confirm(S) 1 or 2 to Done
 moves Handshake = move Propose C 0 Confirm ∷ move Confirm S 1 Done ∷ move Confirm S 2 Done ∷ []
@@ -60,6 +61,15 @@ moves TxSubmission =
     ∷ move Txs C 3 Idle ∷ []
 -- Client(C) 0 to Server, 2 to Done; Server(S) 1 to Client
 moves KeepAlive = move Client C 0 Server ∷ move Client C 2 Done ∷ move Server S 1 Client ∷ []
+-- Idle(C) 0 to Busy, 3 to Done; Busy(S) 1 or 2 to Idle
+moves LocalTxSubmission = move Idle C 0 Busy ∷ move Idle C 3 Done ∷ move Busy S 1 Idle ∷ move Busy S 2 Idle ∷ []
+-- Idle(C) 0 or 8 to Acquiring, 7 to Done; Acquiring(S) 1 to Acquired, 2 to Idle; Acquired(C) 3 to Querying, 6 or 9 to Acquiring, 5 to Idle;
+-- Querying(S) 4 to Acquired
+moves LocalStateQuery =
+    move Idle C 0 Acquiring ∷ move Idle C 8 Acquiring ∷ move Idle C 7 Done
+    ∷ move Acquiring S 1 Acquired ∷ move Acquiring S 2 Idle
+    ∷ move Acquired C 3 Querying ∷ move Acquired C 6 Acquiring ∷ move Acquired C 9 Acquiring ∷ move Acquired C 5 Idle
+    ∷ move Querying S 4 Acquired ∷ []
 
 -- States are numbered in row order, Done last.
 abbrev pub states : Protocol → List State
@@ -68,6 +78,8 @@ states ChainSync = Idle ∷ CanAwait ∷ MustReply ∷ Intersect ∷ Done ∷ []
 states BlockFetch = Idle ∷ Busy ∷ Streaming ∷ Done ∷ []
 states TxSubmission = Init ∷ Idle ∷ Blocking ∷ NonBlocking ∷ Txs ∷ Done ∷ []
 states KeepAlive = Client ∷ Server ∷ Done ∷ []
+states LocalTxSubmission = Idle ∷ Busy ∷ Done ∷ []
+states LocalStateQuery = Idle ∷ Acquiring ∷ Acquired ∷ Querying ∷ Done ∷ []
 
 -- a number for each name, so that names can be told apart
 abbrev pub order : State → ℕ
@@ -85,7 +97,10 @@ order NonBlocking = 10
 order Txs = 11
 order Client = 12
 order Server = 13
-order Done = 14
+order Acquiring = 14
+order Acquired = 15
+order Querying = 16
+order Done = 17
 
 -- the place of a state in a list of states
 unfoldable pub placeIn : State → List State → ℕ
@@ -138,9 +153,10 @@ agencyOf p s = agencyIn s (rowsOf p)
 abbrev pub rowIn : Protocol → ℕ → Row
 rowIn p i = getD (rowsOf p) i (record { state = 0; agency = Nobody; kind = 0; flag = 0; next = 0 })
 
--- T8: what the thirty rows say.
-pub record Thirty : Type 0 where
+-- T8: what the rows say, thirty of node to node and fourteen more.
+pub record RowsSay : Type 0 where
   pub thirty : length (moves Handshake) + length (moves ChainSync) + length (moves BlockFetch) + length (moves TxSubmission) + length (moves KeepAlive) ≡ 30
+  pub fourteen : length (moves LocalTxSubmission) + length (moves LocalStateQuery) ≡ 14
   -- no two rows of a protocol agree in state and message
   pub one : (p : Protocol) (i j : ℕ) → i < length (rowsOf p) → j < length (rowsOf p)
       → fits (rowIn p i .state) (rowIn p i .kind) (rowIn p i .flag) (rowIn p j) ≡ true → i ≡ j

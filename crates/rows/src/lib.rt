@@ -1,4 +1,4 @@
-// The thirty rows: which message moves which state to which, and who has agency.
+// The rows, of every protocol: which message moves which state to which, and who has agency.
 //
 // One table serves taking and putting: `find` gives where a message leads in a state, `agent` who may send
 // there. There is no transition outside the table. States are numbered in row order, Done last.
@@ -16,6 +16,8 @@ pub enum Protocol {
     BlockFetch,
     TxSubmission,
     KeepAlive,
+    LocalTxSubmission,
+    LocalStateQuery,
 }
 
 // Who may send in a state.
@@ -50,7 +52,7 @@ const NEXT: usize = 4;
 
 const COLUMNS: usize = 5;
 
-const ROW_COUNT: usize = 30;
+const ROW_COUNT: usize = 44;
 
 const ROWS: [[u8; COLUMNS]; ROW_COUNT] = [
     // Handshake: Propose 0, Confirm 1, Done 2
@@ -88,17 +90,33 @@ const ROWS: [[u8; COLUMNS]; ROW_COUNT] = [
     [0, C, 0, 0, 1],
     [0, C, 2, 0, 2],
     [1, S, 1, 0, 0],
+    // Local TxSubmission: Idle 0, Busy 1, Done 2
+    [0, C, 0, 0, 1],
+    [0, C, 3, 0, 2],
+    [1, S, 1, 0, 0],
+    [1, S, 2, 0, 0],
+    // Local State Query: Idle 0, Acquiring 1, Acquired 2, Querying 3, Done 4
+    [0, C, 0, 0, 1],
+    [0, C, 8, 0, 1],
+    [0, C, 7, 0, 4],
+    [1, S, 1, 0, 2],
+    [1, S, 2, 0, 0],
+    [2, C, 3, 0, 3],
+    [2, C, 6, 0, 1],
+    [2, C, 9, 0, 1],
+    [2, C, 5, 0, 0],
+    [3, S, 4, 0, 2],
 ];
 
 // How many protocols there are.
-pub const PROTOCOLS: usize = 5;
+pub const PROTOCOLS: usize = 7;
 
 // By protocol: its first row, its number of rows, and its state Done.
-const FIRST: [u8; PROTOCOLS] = [0, 3, 13, 19, 27];
+const FIRST: [u8; PROTOCOLS] = [0, 3, 13, 19, 27, 30, 34];
 
-const COUNT: [u8; PROTOCOLS] = [3, 10, 6, 8, 3];
+const COUNT: [u8; PROTOCOLS] = [3, 10, 6, 8, 3, 4, 10];
 
-const DONE: [u8; PROTOCOLS] = [2, 4, 3, 5, 2];
+const DONE: [u8; PROTOCOLS] = [2, 4, 3, 5, 2, 2, 4];
 
 fn place(p: Protocol) -> usize
     ensures { λ r. ⌜ (r ≡ placeOf p) × (r < length protocols) ⌝ }
@@ -109,6 +127,8 @@ fn place(p: Protocol) -> usize
         Protocol::BlockFetch => 2,
         Protocol::TxSubmission => 3,
         Protocol::KeepAlive => 4,
+        Protocol::LocalTxSubmission => 5,
+        Protocol::LocalStateQuery => 6,
     }
 }
 
@@ -157,7 +177,8 @@ pub fn find(p: Protocol, state: u64, kind: u64, flag: u64) -> Next
     while i < end {
         let row = table[i];
         if is_for(row, state, kind, flag) {
-            return Next::To(row[NEXT] as u64);
+            let next = row[NEXT] as u64;
+            return Next::To(next);
         }
         i += 1;
     }

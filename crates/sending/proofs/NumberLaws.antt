@@ -8,13 +8,13 @@ use mathlib.Core.Logic.{_↔_, _≢_}
 use Prim.Native.Nat.{ℕ, _+_, _<_, _≤_}
 use native.Mathlib.Omega.{arith}
 use lib.Dec.{eqb, ltb}
-use lib.ListN.{length, getD, length-set}
-use lib.Seq.{sets}
+use lib.ListN.{length, getD, take, length-set}
+use lib.Seq.{sets, getD-take, length-take-le}
 use borrow.Author.Tests.{ltb-true, ltb-false}
 use Rattle.base.proofs.Conds.{by-test, cond-cases, exactly-when}
 use Rattle.wire.specs.Segments.{headerLength, encoded}
 use Rattle.wire.specs.Instances.{instances}
-use Rattle.ready.specs.Ready.{chosen}
+use Rattle.wire.proofs.InstanceLaws.{at-most}
 use Rattle.ready.specs.declared.Choice.{Choice}
 use Rattle.ready.specs.declared.Choice.the-variants.{Instance, Nobody}
 use Rattle.ready.proofs.ReadyLaws.{nobody-waits, chosen-waits, after-low}
@@ -27,32 +27,42 @@ use Rattle.connection.specs.Parts.{withSending}
 use Rattle.connection.proofs.StoreLaws.{leaves-front}
 use Rattle.connection.proofs.RangeLaws.{ranged, in-range, sends-both}
 use Rattle.sending.specs.declared.Made.{Made}
-use Rattle.sending.specs.NextSegment.{Told, told, refused, much, headed, payloadOf, sentOf, nextOf}
+use Rattle.sending.specs.NextSegment.{Told, told, refused, much, headed, payloadOf, sentOf, chosenOf, nextOf}
 use Rattle.sending.specs.Numbers.{Unclosed, When, out-of-range, closed, all-empty, no-room, done, Exactly, Untouched, Keeps}
-use Rattle.sending.proofs.SendingLaws.{serve-short, serve-all, next-unranged, next-closed, next-served}
+use Rattle.sending.proofs.SendingLaws.{served, serve-short, serve-all, next-unranged, next-closed, next-served}
+
+-- the counts of the bundle's instances
+abbrev pub counts : Connection → List ℕ
+counts c = take (instances (c .settings .bundle)) (c .sending .waiting)
+
+pub counts-long : (c : Connection) → Shaped c → length (counts c) ≡ instances (c .settings .bundle)
+counts-long c s =
+    length-take-le (instances (c .settings .bundle)) (c .sending .waiting) (omega (arith, s .waiting, at-most (c .settings .bundle)))
+
+pub counts-at : (c : Connection) (i : ℕ) → i < instances (c .settings .bundle) → getD (counts c) i 0 ≡ getD (c .sending .waiting) i 0
+counts-at c i h = getD-take (instances (c .settings .bundle)) (c .sending .waiting) i 0 h
 
 -- whoever is chosen is an instance with bytes waiting
-pub chosen-waiting : (c : Connection) → Shaped c → (i : ℕ) → chosen (c .sending .waiting) (c .sending .turn) ≡ Instance i
-    → (i < instances) × (0 < getD (c .sending .waiting) i 0)
-chosen-waiting c s i e = rw (s .waiting) at (chosen-waits (c .sending .waiting) (c .sending .turn) i e)
+pub chosen-waiting : (c : Connection) → Shaped c → (i : ℕ) → chosenOf c ≡ Instance i
+    → (i < instances (c .settings .bundle)) × (0 < getD (c .sending .waiting) i 0)
+chosen-waiting c s i e =
+    let p = chosen-waits (counts c) (c .sending .turn) i e in
+    let h : i < instances (c .settings .bundle) = omega (arith, p .0, counts-long c s) in
+    (h, omega (arith, p .1, counts-at c i h))
 
 module _ (c : Connection) (store : List ℕ) (time : ℕ) (buf : List ℕ) where
   abbrev out : Told
   out = nextOf c store time buf
 
   abbrev who : Choice
-  who = chosen (c .sending .waiting) (c .sending .turn)
+  who = chosenOf c
 
   abbrev Refuses : ℕ → Type 0
   Refuses n = told (refused c n) buf ≡ out
 
   -- what 0 leaves
   abbrev Serves : ℕ → Type 0
-  Serves i =
-      told
-      (record { number = 0; len = headerLength + much c i; connection = withSending c (sentOf (c .sending) (c .settings .send) i (much c i)) })
-      (sets buf 0 (encoded (headed (c .settings .side) time i (much c i)) ++ payloadOf c store i))
-      ≡ out
+  Serves i = served c store time buf i ≡ out
 
   -- ---- what is answered where nobody is chosen, and where somebody is
 
@@ -66,11 +76,13 @@ module _ (c : Connection) (store : List ℕ) (time : ℕ) (buf : List ℕ) where
   o0 (r, o) i w l = serve-all c store time buf i l ∙ next-served c store time buf r o (Instance i) (sym w)
 
   -- every queue is empty exactly where nobody is chosen
-  idle : Shaped c → Unclosed c store → (who ≡ Nobody) ↔ ((i : ℕ) → i < instances → getD (c .sending .waiting) i 0 ≡ 0)
+  idle : Shaped c → Unclosed c store → (who ≡ Nobody) ↔ ((i : ℕ) → i < instances (c .settings .bundle) → getD (c .sending .waiting) i 0 ≡ 0)
   idle s u =
       let t = ranged c (sends-both c (length store) (u .0) .0) .turn in
-      let none = nobody-waits (c .sending .waiting) (c .sending .turn) (t .0) (rw (s .waiting) (t .1)) in
-      (λ w i h. none .0 w i (rw (s .waiting) h), λ e. none .1 (λ i h. e i (rw (s .waiting) at h)))
+      let none = nobody-waits (counts c) (c .sending .turn) (t .0) (rw (counts-long c s) (t .1)) in (
+        λ w i h. sym (counts-at c i h) ∙ none .0 w i (rw (counts-long c s) h),
+        λ e. none .1 (λ i h. let k = rw (counts-long c s) at h in counts-at c i k ∙ e i k),
+      )
 
   -- the ways of a call: a refusal or a notice, with its "when"; or a segment
   pub data Way : Type 0 where
@@ -132,25 +144,29 @@ untouched c store time buf = untouched-by c store time buf (way c store time buf
 -- ---- the range
 
 -- n bytes sent of instance i leave every area, and the turn, in range
-module _ (c : Connection) (s : Shaped c) (r : inRange c ≡ true) (i : ℕ) (inside : i < instances) (n : ℕ) where
-  abbrev w : Sending
-  w = sentOf (c .sending) (c .settings .send) i n
+module _ (c : Connection) (s : Shaped c) (r : inRange c ≡ true) (i : ℕ) (inside : i < instances (c .settings .bundle)) (n : ℕ) where
+  abbrev many : ℕ
+  many = instances (c .settings .bundle)
 
-  sent-area : (j : ℕ) → j < instances
+  abbrev w : Sending
+  w = sentOf (c .settings .bundle) (c .sending) (c .settings .send) i n
+
+  sent-area : (j : ℕ) → j < many
       → (getD (w .starts) j 0 < getD (c .settings .send) j 0) × (getD (w .waiting) j 0 ≤ getD (c .settings .send) j 0)
   sent-area j h =
       let k = ranged c r in
       let cap = k .set .send i inside in
       let q = k .sending j h in
       let (low, less) =
-      leaves-front (c .settings .send) (c .sending .starts) (c .sending .waiting) i n (omega arith) (omega (arith, s .send-starts))
-      (omega (arith, s .waiting)) j (q .0) in
+      leaves-front (c .settings .send) (c .sending .starts) (c .sending .waiting) i n (omega arith)
+      (omega (arith, s .send-starts, at-most (c .settings .bundle))) (omega (arith, s .waiting, at-most (c .settings .bundle))) j (q .0) in
       (low, omega (arith, less, q .1))
 
-  sent-turn : (1 ≤ w .turn) × (w .turn < instances)
+  sent-turn : (1 ≤ w .turn) × (w .turn < many)
   sent-turn =
-      cond-cases (λ (k : ℕ). (1 ≤ k) × (k < instances)) (eqb i 0) (λ t. ranged c r .turn)
-      (λ t. (cond-cases (λ (k : ℕ). 1 ≤ k) (eqb (i + 1) instances) (λ t. omega arith) (λ t. omega arith), after-low instances i (omega arith) inside))
+      let turn = ranged c r .turn in
+      cond-cases (λ (k : ℕ). (1 ≤ k) × (k < many)) (eqb i 0) (λ t. turn)
+      (λ t. (cond-cases (λ (k : ℕ). 1 ≤ k) (eqb (i + 1) many) (λ t. omega arith) (λ t. omega arith), after-low many i (omega arith) inside))
 
   sent-ranged : inRange (withSending c w) ≡ true
   sent-ranged =

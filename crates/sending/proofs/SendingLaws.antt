@@ -6,7 +6,7 @@ use mathlib.Core.Bool.{true, false}
 use mathlib.Core.List.{List, _++_}
 use Prim.Native.Nat.{ℕ, _+_, _≤_, _<_, _^_}
 use native.Mathlib.Omega.{arith}
-use lib.ListN.{length, getD, length-append}
+use lib.ListN.{length, getD, take, length-append}
 use lib.Seq.{sets}
 use borrow.Author.Tests.{lt-ltb, le-ltb}
 use Rattle.base.proofs.ListLaws.{sets-append}
@@ -27,7 +27,7 @@ use Rattle.connection.specs.Ranges.{inRange, sends}
 use Rattle.connection.proofs.RangeLaws.{ranged, sends-both}
 use Rattle.connection.specs.declared.Sending.{Sending}
 use Rattle.connection.specs.Parts.{withSending, InSend, firstWaiting}
-use Rattle.sending.specs.NextSegment.{told, refused, much, headed, payloadOf, sentOf, serve, byChoice, nextOf}
+use Rattle.sending.specs.NextSegment.{Told, told, refused, much, headed, payloadOf, sentOf, serve, byChoice, chosenOf, nextOf}
 use Rattle.sending.specs.Inside.{Chosen}
 
 -- a header has eight bytes
@@ -39,9 +39,9 @@ header-long s = rw (length-append, length-append, length-octets 4, length-octets
 pub joined : (l : List ℕ) (s : Segment) (p : List ℕ) → sets (sets l 0 (encoded s)) headerLength p ≡ sets l 0 (encoded s ++ p)
 joined l s p = sym (sets-append l 0 (encoded s) p ∙ rw (header-long s))
 
-pub header-fits : (side : Side) (i time n : ℕ) → i < instances → time < 2 ^ 32 → n ≤ 65535
-    → Fits (record { time = time; mode = modeOf side i; protocol = protocolOf i; len = n })
-header-fits side i time n h t l = record { time = t; mode = mode-low side i; protocol = protocol-low i h; len = omega arith }
+pub header-fits : (b : ℕ) (side : Side) (i time n : ℕ) → i < instances b → time < 2 ^ 32 → n ≤ 65535
+    → Fits (record { time = time; mode = modeOf b side i; protocol = protocolOf b i; len = n })
+header-fits b side i time n h t l = record { time = t; mode = mode-low b side i; protocol = protocol-low b i h; len = omega arith }
 
 -- ---- the ways out of serving an instance
 
@@ -54,20 +54,24 @@ module _ (c : Connection) (store : List ℕ) (time : ℕ) (buf : List ℕ) (i n 
   serve-short h = rw (← e, lt-ltb (length buf) (headerLength + n) h)
 
   pub serve-made : (k : Connection) (w : Sending) (full : List ℕ) → headerLength + n ≤ length buf
-      → w ≡ sentOf (c .sending) (c .settings .send) i n → k ≡ withSending c w
-      → full ≡ sets (sets buf 0 (encoded (headed (c .settings .side) time i n))) headerLength
+      → w ≡ sentOf (c .settings .bundle) (c .sending) (c .settings .send) i n → k ≡ withSending c w
+      → full ≡ sets (sets buf 0 (encoded (headed (c .settings .bundle) (c .settings .side) time i n))) headerLength
       (firstWaiting c store i n)
       → told (record { number = 0; len = headerLength + n; connection = k }) full ≡ serve c store time buf i
   unfolding serve
   serve-made k w full h ew ek ef =
-      rw (← e, le-ltb (length buf) (headerLength + n) h, ek, ew, ef, joined buf (headed (c .settings .side) time i n) (firstWaiting c store i n))
+      let header = headed (c .settings .bundle) (c .settings .side) time i n in
+      rw (← e, le-ltb (length buf) (headerLength + n) h, ek, ew, ef, joined buf header (firstWaiting c store i n))
 
 -- header and payload at once
+abbrev pub served : Connection → List ℕ → ℕ → List ℕ → ℕ → Told
+served c store time buf i =
+    let s = c .settings in
+    told (record { number = 0; len = headerLength + much c i; connection = withSending c (sentOf (s .bundle) (c .sending) (s .send) i (much c i)) })
+    (sets buf 0 (encoded (headed (s .bundle) (s .side) time i (much c i)) ++ payloadOf c store i))
+
 pub serve-all : (c : Connection) (store : List ℕ) (time : ℕ) (buf : List ℕ) (i : ℕ) → headerLength + much c i ≤ length buf
-    → told
-    (record { number = 0; len = headerLength + much c i; connection = withSending c (sentOf (c .sending) (c .settings .send) i (much c i)) })
-    (sets buf 0 (encoded (headed (c .settings .side) time i (much c i)) ++ payloadOf c store i))
-    ≡ serve c store time buf i
+    → served c store time buf i ≡ serve c store time buf i
 unfolding serve
 serve-all c store time buf i h = rw (le-ltb (length buf) (headerLength + much c i) h)
 
@@ -83,26 +87,29 @@ module _ (c : Connection) (store : List ℕ) (time : ℕ) (buf : List ℕ) where
     unfolding nextOf
     next-closed o = rw (r, o)
 
-    pub next-served : isOpen (c .gate) ≡ true → (x : Choice) → x ≡ chosen (c .sending .waiting) (c .sending .turn)
+    pub next-served : isOpen (c .gate) ≡ true → (x : Choice) → x ≡ chosenOf c
         → byChoice c store time buf x ≡ nextOf c store time buf
     unfolding nextOf
     next-served o x e = rw (r, o, e)
 
 -- whoever the word chooses is whom the counts choose, and an instance
-pub by-word : (c : Connection) (word : ℕ) (x : Choice) → inRange c ≡ true → length (c .sending .waiting) ≡ instances
-    → word ≡ wordOf (c .sending .waiting) → x ≡ chosenIn instances word (c .sending .turn) → x ≡ chosen (c .sending .waiting) (c .sending .turn)
-by-word c word x r long w e =
+pub by-word : (c : Connection) (n word : ℕ) (x : Choice) → inRange c ≡ true → n ≡ instances (c .settings .bundle)
+    → length (take n (c .sending .waiting)) ≡ n → word ≡ wordOf (take n (c .sending .waiting))
+    → x ≡ chosenIn n word (c .sending .turn) → x ≡ chosenOf c
+by-word c n word x r many long w e =
     let t = ranged c r .turn in
-    e ∙ ap (λ (k : ℕ). chosenIn instances k (c .sending .turn)) w
-    ∙ ap (λ (n : ℕ). chosenIn n (wordOf (c .sending .waiting)) (c .sending .turn)) (sym long)
-    ∙ chosen-word (c .sending .waiting) (c .sending .turn) (omega arith) (omega arith)
+    let ws = take n (c .sending .waiting) in
+    e ∙ ap (λ (k : ℕ). chosenIn n k (c .sending .turn)) w
+    ∙ ap (λ (m : ℕ). chosenIn m (wordOf ws) (c .sending .turn)) (sym long)
+    ∙ chosen-word ws (c .sending .turn) (omega arith) (omega arith)
+    ∙ ap (λ (m : ℕ). chosen (take m (c .sending .waiting)) (c .sending .turn)) many
 
-pub is-chosen : (c : Connection) (store : List ℕ) (word : ℕ) (x : Choice) → sends c (length store) ≡ true
-    → x ≡ chosenIn instances word (c .sending .turn) → Chosen c store x
-is-chosen c store word x r e =
+pub is-chosen : (c : Connection) (store : List ℕ) (n word : ℕ) (x : Choice) → sends c (length store) ≡ true → n ≡ instances (c .settings .bundle)
+    → x ≡ chosenIn n word (c .sending .turn) → Chosen c store x
+is-chosen c store n word x r many e =
     let t = ranged c (sends-both c (length store) r .0) .turn in
-    of x (subst (Low instances) (sym e) (chosen-low instances word (c .sending .turn) (omega arith) (t .1)))
+    of x (subst (Low n) (sym e) (chosen-low n word (c .sending .turn) (omega arith) (omega arith)))
   where
-    of : (x : Choice) → Low instances x → Chosen c store x
+    of : (x : Choice) → Low n x → Chosen c store x
     of Nobody l = tt
-    of (Instance i) l = (r, l)
+    of (Instance i) l = (r, omega arith)

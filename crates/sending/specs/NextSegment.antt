@@ -1,9 +1,9 @@
--- Next segment (document 01, "Segments" and "Numbers and their order": 20; notice 4; 18; 23 before all others).
+-- Next segment (document 01, "Segments" and "Numbers and their order": 20; notice 4; 18; 23 before all others; document 02, K1).
 use Prim.Native.Nat.{ℕ, _+_, min}
 use mathlib.Core.Bool.{cond}
 use mathlib.Core.List.{List, _++_}
 use lib.Dec.{ltb}
-use lib.ListN.{length, getD}
+use lib.ListN.{length, getD, take}
 use lib.Seq.{sets}
 use Rattle.wire.specs.declared.segment.Segment.{Segment}
 use Rattle.wire.specs.declared.instances.Side.{Side}
@@ -36,36 +36,41 @@ refused c n = record { number = n; len = 0; connection = c }
 abbrev pub much : Connection → ℕ → ℕ
 much c i = min (c .settings .limit) (getD (c .sending .waiting) i 0)
 
--- the header: the caller's time, the mode and protocol number of what we send as instance i, and the payload's length
-abbrev pub headed : Side → ℕ → ℕ → ℕ → Segment
-headed side time i n = record { time = time; mode = modeOf side i; protocol = protocolOf i; len = n }
+-- the header: the caller's time, the mode and protocol number of what we send as instance i of the bundle, and the payload's length
+abbrev pub headed : ℕ → Side → ℕ → ℕ → ℕ → Segment
+headed b side time i n = record { time = time; mode = modeOf b side i; protocol = protocolOf b i; len = n }
 
 -- the payload: the first bytes waiting
 abbrev pub payloadOf : Connection → List ℕ → ℕ → List ℕ
 payloadOf c store i = firstWaiting c store i (much c i)
 
--- n bytes of instance i are sent, and the turn moves
-abbrev pub sentOf : Sending → List ℕ → ℕ → ℕ → Sending
-sentOf w caps i n =
+-- n bytes of instance i are sent, and the turn moves, round the bundle's instances
+abbrev pub sentOf : ℕ → Sending → List ℕ → ℕ → ℕ → Sending
+sentOf b w caps i n =
     record {
       starts = startsPast caps (w .starts) i n;
       waiting = countsLess (w .waiting) i n;
-      turn = turnAfter instances i (w .turn);
+      turn = turnAfter (instances b) i (w .turn);
     }
 
 -- 18 is given when the lent buffer is shorter than header and payload
 unfoldable pub serve : Connection → List ℕ → ℕ → List ℕ → ℕ → Told
 serve c store time buf i =
+    let b = c .settings .bundle in
     cond (ltb (length buf) (headerLength + much c i)) (told (refused c 18) buf)
-    (told (record { number = 0; len = headerLength + much c i; connection = withSending c (sentOf (c .sending) (c .settings .send) i (much c i)) })
-    (sets buf 0 (encoded (headed (c .settings .side) time i (much c i)) ++ payloadOf c store i)))
+    (told (record { number = 0; len = headerLength + much c i; connection = withSending c (sentOf b (c .sending) (c .settings .send) i (much c i)) })
+    (sets buf 0 (encoded (headed b (c .settings .side) time i (much c i)) ++ payloadOf c store i)))
 
 abbrev pub byChoice : Connection → List ℕ → ℕ → List ℕ → Choice → Told
 byChoice c store time buf Nobody = told (refused c 4) buf
 byChoice c store time buf (Instance i) = serve c store time buf i
 
+-- who is served: of the bundle's instances, by the bytes waiting and the turn
+abbrev pub chosenOf : Connection → Choice
+chosenOf c = chosen (take (instances (c .settings .bundle)) (c .sending .waiting)) (c .sending .turn)
+
 unfoldable pub nextOf : Connection → List ℕ → ℕ → List ℕ → Told
 nextOf c store time buf =
     cond (sends c (length store))
-    (cond (isOpen (c .gate)) (byChoice c store time buf (chosen (c .sending .waiting) (c .sending .turn))) (told (refused c 20) buf))
+    (cond (isOpen (c .gate)) (byChoice c store time buf (chosenOf c)) (told (refused c 20) buf))
     (told (refused c 23) buf)

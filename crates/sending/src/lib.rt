@@ -15,6 +15,7 @@ use ready::Choice;
 use ready::turn_after;
 use wire::instances::INSTANCES;
 use wire::instances::Side;
+use wire::instances::count;
 use wire::segment::HEADER;
 use wire::segment::Segment;
 ghost use mathlib.Core.Path.{_≡_};
@@ -46,30 +47,31 @@ fn refused(c: Connection, number: u64) -> Made
 }
 
 // The header of n bytes of instance i.
-fn put_header(buf: &mut [u8], side: Side, time: u32, i: usize, n: usize)
-    requires { ⌜ (i < instances) × (n ≤ 65535) × (headerLength ≤ length (now buf)) ⌝ }
-    ensures { λ _. ⌜ now (buf .exit) ≡ sets (now (buf .entry)) 0 (encoded (headed side time i n)) ⌝ }
+fn put_header(buf: &mut [u8], bundle: u64, side: Side, time: u32, i: usize, n: usize)
+    requires { ⌜ (i < instances bundle) × (n ≤ 65535) × (headerLength ≤ length (now buf)) ⌝ }
+    ensures { λ _. ⌜ now (buf .exit) ≡ sets (now (buf .entry)) 0 (encoded (headed bundle side time i n)) ⌝ }
 {
     let header = Segment {
         time,
-        mode: wire::instances::mode(side, i),
-        protocol: wire::instances::protocol(i),
+        mode: wire::instances::mode(bundle, side, i),
+        protocol: wire::instances::protocol(bundle, i),
         len: n as u16,
     };
     wire::segment::write(buf, header);
 }
 
-// n bytes of instance i are sent, and the turn moves.
-fn sent(w: Sending, caps: [u64; INSTANCES], i: usize, n: u64) -> Sending
-    requires { ⌜ (i < instances) × (0 < getD caps i 0) × (getD (w .starts) i 0 + n < 2 ^ 32) × (n ≤ getD (w .waiting) i 0) ⌝ }
-    ensures { λ r. ⌜ r ≡ sentOf w caps i n ⌝ }
+// n bytes of instance i are sent, and the turn moves, round the bundle's instances.
+fn sent(bundle: u64, w: Sending, caps: [u64; INSTANCES], i: usize, n: u64) -> Sending
+    requires { ⌜ (i < instances bundle) × (0 < getD caps i 0) × (getD (w .starts) i 0 + n < 2 ^ 32) × (n ≤ getD (w .waiting) i 0) ⌝ }
+    ensures { λ r. ⌜ r ≡ sentOf bundle w caps i n ⌝ }
 {
     let starts = w.starts;
     let waiting = w.waiting;
+    let many = count(bundle);
     Sending {
         starts: past(caps, starts, i, n),
         waiting: fewer(waiting, i, n),
-        turn: turn_after(i, w.turn),
+        turn: turn_after(many, i, w.turn),
     }
 }
 
@@ -89,12 +91,12 @@ fn serve(c: Connection, store: &[u8], time: u32, buf: &mut [u8], i: usize) -> Ma
         return refused(c, 18);
     }
     let side = settings.side;
-    put_header(buf, side, time, i, n);
+    put_header(buf, settings.bundle, side, time, i, n);
     read(buf, HEADER, store, &caps, i, at(starts, i), n);
     Made {
         number: 0,
         len,
-        connection: with_sending(c, sent(sending, caps, i, n as u64)),
+        connection: with_sending(c, sent(settings.bundle, sending, caps, i, n as u64)),
     }
 }
 
@@ -122,6 +124,8 @@ pub fn next_segment(c: Connection, store: &[u8], time: u32, buf: &mut [u8]) -> M
     }
     let sending = c.sending;
     let waiting = sending.waiting;
-    let choice = ready::choose(ready::word(waiting), sending.turn as usize);
+    let settings = c.settings;
+    let n = count(settings.bundle);
+    let choice = ready::choose(n, ready::word(waiting, n), sending.turn as usize);
     by_choice(c, store, time, buf, choice)
 }

@@ -13,13 +13,13 @@ use lib.Seq.{sets}
 use borrow.Author.Tests.{eq-eqb, ne-eqb, eqb-true, eqb-false, lt-ltb, ltb-true, ltb-false, le-leb, leb-true}
 use Rattle.base.proofs.Conds.{by-test, both-true, exactly-when}
 use Rattle.wire.specs.Instances.{instances}
+use Rattle.wire.proofs.InstanceLaws.{at-most}
 use Rattle.item.specs.declared.Verdict.{Verdict}
 use Rattle.item.specs.declared.Verdict.the-variants.{Whole, Bad, Incomplete}
 use Rattle.item.specs.Verdict.{verdict}
 use Rattle.rows.specs.declared.Next.{Next}
 use Rattle.rows.specs.declared.Next.the-variants.{To, None}
 use Rattle.rows.specs.Rows.{doneOf}
-use Rattle.rows.specs.Spoken.{speaks}
 use Rattle.messages.specs.declared.Message.{Message}
 use Rattle.messages.specs.Reading.{messageOf, read, flagOf}
 use Rattle.connection.specs.declared.Connection.{Connection}
@@ -33,7 +33,7 @@ use Rattle.connection.specs.Parts.{withReceiving, withGate, InReceive, firstHel
 use Rattle.connection.proofs.StoreLaws.{leaves-front}
 use Rattle.connection.proofs.RangeLaws.{Ranged, ranged, in-range, receives-both}
 use Rattle.judging.specs.declared.Judged.{Judged}
-use Rattle.judging.specs.Judging.{stateOf, ours, barred, leadsTo, unjudged, byRow}
+use Rattle.judging.specs.Judging.{spokenBy, stateOf, oursNow, barred, leadsTo, unjudged, byRow}
 use Rattle.judging.proofs.JudgingLaws.{judged-wrong, judged-read, led, Judges, not-read, not-led, message, judges}
 use Rattle.judging.proofs.Moving.{moved-ranged, moved-shaped}
 use Rattle.taking.specs.Taking.{Told, told, earlyOf, byVerdict, judgeOf, refused, undone, freedOf, handed, hand, takeOf}
@@ -58,13 +58,16 @@ module _ (c : Connection) (store : List ℕ) (i : ℕ) (buf : List ℕ) where
   abbrev number : ℕ
   number = out .answer .number
 
+  abbrev count : ℕ
+  count = instances (c .settings .bundle)
+
   abbrev done-state : ℕ
-  done-state = doneOf (speaks i)
+  done-state = doneOf (spokenBy c i)
 
   -- the ways of a call: 23; another refusal, which is a fault only of an instance; or a message
   pub data Way : ℕ → Type 0 where
     unfit : receives c (length store) ≡ false → told (refused c 23) buf ≡ out → Way 23
-    stays : (n : ℕ) → n ≢ 0 → n ≢ 23 → (takeFault n ≡ true → i < instances) → told (undone c i n) buf ≡ out → Way n
+    stays : (n : ℕ) → n ≢ 0 → n ≢ 23 → (takeFault n ≡ true → i < instances (c .settings .bundle)) → told (undone c i n) buf ≡ out → Way n
     gone : (n : ℕ) (m : Message) (next : ℕ) → Spells c store i n m → leadsTo c i m ≡ To next → n ≤ length buf
         → told (record { number = 0; len = n; message = m; connection = handed c i (led n m next) }) (sets buf 0 (firstHeld c store i n)) ≡ out
         → Way 0
@@ -77,7 +80,7 @@ module _ (c : Connection) (store : List ℕ) (i : ℕ) (buf : List ℕ) where
   early-17 : barred (c .talk) i ≡ false → stateOf c i ≡ done-state → getD (c .receiving .held) i 0 ≢ 0 → earlyOf c i ≡ 17
   early-17 b d z = rw (b, eq-eqb (stateOf c i) done-state d, ne-eqb (getD (c .receiving .held) i 0) 0 z)
 
-  early-2 : barred (c .talk) i ≡ false → stateOf c i ≢ done-state → ours (c .settings .side) i (stateOf c i) ≡ true → earlyOf c i ≡ 2
+  early-2 : barred (c .talk) i ≡ false → stateOf c i ≢ done-state → oursNow c i ≡ true → earlyOf c i ≡ 2
   early-2 b d o = rw (b, ne-eqb (stateOf c i) done-state d, o)
 
   pub early-0 : Awaited c store i → earlyOf c i ≡ 0
@@ -90,7 +93,7 @@ module _ (c : Connection) (store : List ℕ) (i : ℕ) (buf : List ℕ) where
 
   by-row : (n : ℕ) (m : Message) (x : Next) → Spells c store i n m → leadsTo c i m ≡ x → byRow n m x ≡ judgeOf c store i
   by-row n m x s e =
-      judged-read (speaks i) (stateOf c i) (firstHeld c store i n) (read m) 0 n (flagOf (speaks i) m) x (sym (s .read)) refl refl
+      judged-read (spokenBy c i) (stateOf c i) (firstHeld c store i n) (read m) 0 n (flagOf (spokenBy c i) m) x (sym (s .read)) refl refl
       (sym (first-long c store i n)) refl (sym e)
       ∙ judged-so (s .awaited) (Whole n) (s .whole)
 
@@ -119,7 +122,7 @@ module _ (c : Connection) (store : List ℕ) (i : ℕ) (buf : List ℕ) where
   goes (bytes-bad {at = at} w e) = refused-as (w .0 .0) 14 (λ z. omega arith) (λ z. omega arith) _ refl (judged-so w (Bad at) e)
   goes (no-message {n = k} w e z) =
       refused-as (w .0 .0) 15 (λ z. omega arith) (λ z. omega arith) (unjudged 15) refl
-      (judged-wrong (speaks i) (stateOf c i) (firstHeld c store i k) (messageOf (speaks i) (firstHeld c store i k)) 15 refl (sym z) (λ z. omega arith)
+      (judged-wrong (spokenBy c i) (stateOf c i) (firstHeld c store i k) (messageOf (spokenBy c i) (firstHeld c store i k)) 15 refl (sym z) (λ z. omega arith)
       ∙ judged-so w (Whole k) e)
   goes (no-row {n = k} {m = m} s e) = refused-as (s .awaited .0 .0) 16 (λ z. omega arith) (λ z. omega arith) (unjudged 16) refl (by-row k m None s e)
   goes (no-room {n = k} {next = next} {m = m} s e l) =
@@ -135,7 +138,7 @@ module _ (c : Connection) (store : List ℕ) (i : ℕ) (buf : List ℕ) where
   Some = (n : ℕ) × When c store i buf n
 
   by-judged : Awaited c store i → (n : ℕ) → verdict (heldOf c store i) ≡ Whole n → (j : Judged)
-      → Judges (speaks i) (stateOf c i) (firstHeld c store i n) j → Some
+      → Judges (spokenBy c i) (stateOf c i) (firstHeld c store i n) j → Some
   by-judged w n e j (not-read z) = (15, no-message w e z)
   by-judged w n e j (not-led m r x) = (16, no-row (record { awaited = w; whole = e; read = r }) x)
   by-judged w n e j (message m next r x) =
@@ -143,7 +146,7 @@ module _ (c : Connection) (store : List ℕ) (i : ℕ) (buf : List ℕ) where
       by-test (ltb (length buf) n) (λ t. (18, no-room s x (ltb-true (length buf) n t))) (λ t. (0, done s x (ltb-false (length buf) n t)))
 
   by-verdict : Awaited c store i → (v : Verdict) → verdict (heldOf c store i) ≡ v → Some
-  by-verdict w (Whole n) e = by-judged w n e _ (judges (speaks i) (stateOf c i) (firstHeld c store i n))
+  by-verdict w (Whole n) e = by-judged w n e _ (judges (spokenBy c i) (stateOf c i) (firstHeld c store i n))
   by-verdict w (Bad at) e = (14, bytes-bad w e)
   by-verdict w Incomplete e = by-test (isOpen (c .gate)) (λ o. (1, waiting w e o)) (λ o. (20, closed w e o))
 
@@ -156,18 +159,18 @@ module _ (c : Connection) (store : List ℕ) (i : ℕ) (buf : List ℕ) where
       (λ z. (17, after-done a d (eqb-false (getD (c .receiving .held) i 0) 0 z))))
       (λ t.
       let d = eqb-false (stateOf c i) done-state t in
-      by-test (ours (c .settings .side) i (stateOf c i)) (λ o. (2, our-turn a d o))
+      by-test (oursNow c i) (λ o. (2, our-turn a d o))
       (λ o. by-verdict (a, d, o) (verdict (heldOf c store i)) refl))
 
   when : Some
   when =
       by-test (receives c (length store))
       (λ r.
-      by-test (ltb i instances)
+      by-test (ltb i count)
       (λ t.
-      let h = ltb-true i instances t in
+      let h = ltb-true i count t in
       by-test (barred (c .talk) i) (λ b. (19, no-accept (r, h) b)) (λ b. by-state ((r, h), b)))
-      (λ t. (10, no-instance r (ltb-false i instances t))))
+      (λ t. (10, no-instance r (ltb-false i count t))))
       (λ r. (23, out-of-range r))
 
   pub way : (n : ℕ) × Way n
@@ -239,13 +242,13 @@ hands-out c store i buf z = let (n, w) = way c store i buf in given c store i bu
 -- ---- the range
 
 -- a fault of an instance leaves a closing that a fault leaves
-closed-ok : (g : Gate) (n i : ℕ) → takeFault n ≡ true → i < instances → gateOk g ≡ true → gateOk (closedBy g (Of n i)) ≡ true
-closed-ok Open n i f h o =
+closed-ok : (b : ℕ) (g : Gate) (n i : ℕ) → takeFault n ≡ true → i < instances b → gateOk b g ≡ true → gateOk b (closedBy g (Of n i)) ≡ true
+closed-ok b Open n i f h o =
     let k = among n f in
-    rw (ne-eqb n 12 (λ z. omega (arith, k .0)), ne-eqb n 13 (λ z. omega (arith, k .0)), f, lt-ltb i instances h)
-closed-ok (Closed y) n i f h o = o
+    rw (lt-ltb i (instances b) h, ne-eqb n 12 (λ z. omega (arith, k .0)), ne-eqb n 13 (λ z. omega (arith, k .0)), f)
+closed-ok b (Closed y) n i f h o = o
 
-gated : (c : Connection) (g : Gate) → Ranged c → gateOk g ≡ true → Ranged (withGate c g)
+gated : (c : Connection) (g : Gate) → Ranged c → gateOk (c .settings .bundle) g ≡ true → Ranged (withGate c g)
 gated c g r o =
     record {
       set = r .set;
@@ -273,19 +276,20 @@ gated-shaped c g s =
     }
 
 -- n bytes freed leave every area in range
-module _ (c : Connection) (s : Shaped c) (r : Ranged c) (i : ℕ) (inside : i < instances) (n : ℕ) where
+module _ (c : Connection) (s : Shaped c) (r : Ranged c) (i : ℕ) (inside : i < instances (c .settings .bundle)) (n : ℕ) where
   abbrev caps : List ℕ
   caps = c .settings .receive
 
   abbrev after : Connection
   after = withReceiving c (freedOf (c .receiving) caps i n) (c .gate)
 
-  areas : (j : ℕ) → j < instances
+  areas : (j : ℕ) → j < instances (c .settings .bundle)
       → (getD (after .receiving .starts) j 0 < getD caps j 0)
       × (getD (after .receiving .held) j 0 + restFor (c .receiving .instance) (c .receiving .rest) j ≤ getD caps j 0)
   areas j h =
       let cap = r .set .receive i inside in
       let q = r .receiving j h in
+      let few = at-most (c .settings .bundle) in
       let (low, less) =
       leaves-front caps (c .receiving .starts) (c .receiving .held) i n (omega arith) (omega (arith, s .receive-starts)) (omega (arith, s .held)) j
       (q .0) in
@@ -326,13 +330,13 @@ keeps-by c store i buf s r (stays n ne k inside e) =
     (by-test (takeFault n)
     (λ t.
     let g = closedBy (c .gate) (Of n i) in
-    rw t (in-range (withGate c g) (gated c g r (closed-ok (c .gate) n i t (inside t) (r .closing))), gated-shaped c g s))
+    rw t (in-range (withGate c g) (gated c g r (closed-ok (c .settings .bundle) (c .gate) n i t (inside t) (r .closing))), gated-shaped c g s))
     (λ t. rw t (in-range c r, s)))
 keeps-by c store i buf s r (gone k m next p x l e) =
     let d = withReceiving c (freedOf (c .receiving) (c .settings .receive) i k) (c .gate) in
     let h = p .awaited .0 .0 .1 in
     rw (← e) (
-      in-range (handed c i (led k m next)) (moved-ranged d i (m .kind) (flagOf (speaks i) m) next h (s .states) (freed-ranged c s r i h k) x),
+      in-range (handed c i (led k m next)) (moved-ranged d i (m .kind) (flagOf (spokenBy c i) m) next h (s .states) (freed-ranged c s r i h k) x),
       moved-shaped d i (m .kind) next (freed-shaped c s r i h k),
     )
 

@@ -24,15 +24,14 @@ use Rattle.item.specs.Grammar.{nesting}
 use Rattle.item.specs.Verdict.{verdict}
 use Rattle.item.proofs.Theorem.{exactly}
 use Rattle.rows.specs.declared.Protocol.{Protocol}
-use Rattle.rows.specs.Spoken.{speaks}
 use Rattle.connection.specs.declared.Connection.{Connection}
 use Rattle.connection.specs.Closings.{isOpen}
 use Rattle.connection.specs.Ranges.{receives}
 use Rattle.connection.specs.Parts.{InReceive, firstHeld, heldOf}
-use Rattle.connection.proofs.StoreLaws.{area-in, receive-area}
+use Rattle.connection.proofs.StoreLaws.{receive-area}
 use Rattle.connection.proofs.RangeLaws.{ranged, receives-both}
 use Rattle.judging.specs.declared.Judged.{Judged}
-use Rattle.judging.specs.Judging.{stateOf, unjudged, judgedOf}
+use Rattle.judging.specs.Judging.{spokenBy, stateOf, unjudged, judgedOf}
 use Rattle.judging.proofs.JudgingLaws.{Judges, not-read, not-led, message, judges}
 use Rattle.taking.specs.Taking.{told, earlyOf, byVerdict, judgeOf, refused, undone, handed, hand, takeOf}
 use Rattle.taking.specs.Inside.{heardAs}
@@ -51,7 +50,7 @@ pub area : (c : Connection) (store : List ℕ) (i : ℕ) → InReceive c store i
 area c store i (ok, h) =
     let k = receive-area c (length store) i ok h in
     let q = ranged c (receives-both c (length store) ok .0) .receiving i h in
-    record { listed = k .listed; stored = area-in _ _ i k; some = k .some; start = q .0; held = omega (arith, q .1) }
+    record { listed = k .listed; stored = k .inside; some = k .some; start = q .0; held = omega (arith, q .1) }
 
 -- the first n bytes held lie around the area, from the start place on
 pub held-around : (c : Connection) (store : List ℕ) (i n : ℕ) → Area c store i → n ≤ getD (c .settings .receive) i 0
@@ -93,11 +92,11 @@ whole-alone xs from n m l e =
 pub heard-held : (c : Connection) (store : List ℕ) (i : ℕ) → Area c store i → (v : Verdict)
     → ((m : ℕ) → v ≡ Whole m → m ≤ getD (c .settings .receive) i 0)
     → heardAs (run store (baseOf (c .settings .receive) i) (getD (c .settings .receive) i 0)) (getD (c .receiving .starts) i 0)
-    (speaks i) (stateOf c i) (isOpen (c .gate)) v
+    (spokenBy c i) (stateOf c i) (isOpen (c .gate)) v
     ≡ byVerdict c store i v
 heard-held c store i a Incomplete h = refl
 heard-held c store i a (Bad at) h = refl
-heard-held c store i a (Whole m) h = ap (judgedOf (speaks i) (stateOf c i)) (held-around c store i m a (h m refl))
+heard-held c store i a (Whole m) h = ap (judgedOf (spokenBy c i) (stateOf c i)) (held-around c store i m a (h m refl))
 
 -- a part of the store that begins where the area does and has its length is the area
 pub part-area : (store : List ℕ) (b k base cap : ℕ) → b ≡ base → k ≡ cap → take (b + k - b) (drop b store) ≡ run store base cap
@@ -109,7 +108,7 @@ part-area store b k base cap e f =
 pub judged-there : (c : Connection) (store : List ℕ) (i : ℕ) → Area c store i
     → (part : List ℕ) (start n : ℕ) (p : Protocol) (state : ℕ) (open′ : Bool)
     → part ≡ run store (baseOf (c .settings .receive) i) (getD (c .settings .receive) i 0) → start ≡ getD (c .receiving .starts) i 0
-    → n ≡ getD (c .receiving .held) i 0 → p ≡ speaks i → state ≡ stateOf c i → open′ ≡ isOpen (c .gate)
+    → n ≡ getD (c .receiving .held) i 0 → p ≡ spokenBy c i → state ≡ stateOf c i → open′ ≡ isOpen (c .gate)
     → heardAs part start p state open′ (verdict (around part start n)) ≡ byVerdict c store i (verdict (heldOf c store i))
 judged-there c store i a part start n p state open′ e f g h s o =
     let caps = c .settings .receive in
@@ -152,7 +151,7 @@ module _ (c : Connection) (store : List ℕ) (i : ℕ) where
       of (Bad at) e = omega arith
       of (Whole m) e =
           let bs : List ℕ = firstHeld c store i m in
-          let short = judged (speaks i) (stateOf c i) bs (judgedOf (speaks i) (stateOf c i) bs) (judges (speaks i) (stateOf c i) bs) in
+          let short = judged (spokenBy c i) (stateOf c i) bs (judgedOf (spokenBy c i) (stateOf c i) bs) (judges (spokenBy c i) (stateOf c i) bs) in
           omega (arith, short, first-long c store i m, held-within c store i m e)
 
 -- ---- handing out
@@ -174,16 +173,16 @@ module _ (c : Connection) (store : List ℕ) (i : ℕ) (buf : List ℕ) where
   unfolding takeOf
   take-range r = rw r
 
-  pub take-instance : receives c (length store) ≡ true → instances ≤ i → told (refused c 10) buf ≡ takeOf c store i buf
+  pub take-instance : receives c (length store) ≡ true → instances (c .settings .bundle) ≤ i → told (refused c 10) buf ≡ takeOf c store i buf
   unfolding takeOf
-  take-instance r h = rw (r, le-ltb i instances h)
+  take-instance r h = rw (r, le-ltb i (instances (c .settings .bundle)) h)
 
-  pub take-refused : (j : Judged) → receives c (length store) ≡ true → i < instances → j ≡ judgeOf c store i → j .number ≢ 0
+  pub take-refused : (j : Judged) → receives c (length store) ≡ true → i < instances (c .settings .bundle) → j ≡ judgeOf c store i → j .number ≢ 0
       → told (undone c i (j .number)) buf ≡ takeOf c store i buf
   unfolding takeOf
-  take-refused j r h e ne = rw (r, lt-ltb i instances h, ← e, ne-eqb (j .number) 0 ne)
+  take-refused j r h e ne = rw (r, lt-ltb i (instances (c .settings .bundle)) h, ← e, ne-eqb (j .number) 0 ne)
 
-  pub take-handed : (j : Judged) → receives c (length store) ≡ true → i < instances → j ≡ judgeOf c store i → j .number ≡ 0
+  pub take-handed : (j : Judged) → receives c (length store) ≡ true → i < instances (c .settings .bundle) → j ≡ judgeOf c store i → j .number ≡ 0
       → hand c store i buf j ≡ takeOf c store i buf
   unfolding takeOf
-  take-handed j r h e z = rw (r, lt-ltb i instances h, ← e, eq-eqb (j .number) 0 z)
+  take-handed j r h e z = rw (r, lt-ltb i (instances (c .settings .bundle)) h, ← e, eq-eqb (j .number) 0 z)

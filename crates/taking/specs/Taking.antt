@@ -1,5 +1,5 @@
--- Take (document 01, "Numbers and their order": 10; 19; at Done, notice 3 with nothing held, else 17; our agency, notice 2; incomplete,
--- notice 1, or 20 if closed; 14; 15; 16; 18; 23 before all others).
+-- Take (document 01, "Numbers and their order", and document 02, K1: 10 above the bundle's last instance; 19 from 1 up; at Done, notice 3 with
+-- nothing held, else 17; our agency, notice 2; incomplete, notice 1, or 20 if closed; 14; 15; 16; 18; 23 before all others).
 use Prim.Native.Nat.{ℕ}
 use mathlib.Core.Bool.{cond}
 use mathlib.Core.List.{List}
@@ -11,7 +11,6 @@ use Rattle.item.specs.declared.Verdict.{Verdict}
 use Rattle.item.specs.declared.Verdict.the-variants.{Whole, Bad, Incomplete}
 use Rattle.item.specs.Verdict.{verdict}
 use Rattle.rows.specs.Rows.{doneOf}
-use Rattle.rows.specs.Spoken.{speaks}
 use Rattle.messages.specs.Matching.{begun}
 use Rattle.connection.specs.declared.Receiving.{Receiving}
 use Rattle.connection.specs.declared.Connection.{Connection}
@@ -21,7 +20,7 @@ use Rattle.connection.specs.Ranges.{receives}
 use Rattle.connection.specs.Areas.{startsPast, countsLess}
 use Rattle.connection.specs.Parts.{withReceiving, withTalk, withGate, firstHeld, heldOf}
 use Rattle.judging.specs.declared.Judged.{Judged}
-use Rattle.judging.specs.Judging.{stateOf, ours, barred, movedBy, unjudged, judgedOf}
+use Rattle.judging.specs.Judging.{spokenBy, stateOf, oursNow, barred, movedBy, unjudged, judgedOf}
 use Rattle.taking.specs.declared.Taken.{Taken}
 
 -- an answer, and what the lent buffer then holds
@@ -38,14 +37,14 @@ told t buf = record { answer = t; buffer = buf }
 abbrev pub earlyOf : Connection → ℕ → ℕ
 earlyOf c i =
     cond (barred (c .talk) i) 19
-    (cond (eqb (stateOf c i) (doneOf (speaks i))) (cond (eqb (getD (c .receiving .held) i 0) 0) 3 17)
-    (cond (ours (c .settings .side) i (stateOf c i)) 2 0))
+    (cond (eqb (stateOf c i) (doneOf (spokenBy c i))) (cond (eqb (getD (c .receiving .held) i 0) 0) 3 17)
+    (cond (oursNow c i) 2 0))
 
 -- incomplete, notice 1, or 20 if closed; 14; 15; 16
 abbrev pub byVerdict : Connection → List ℕ → ℕ → Verdict → Judged
 byVerdict c store i Incomplete = unjudged (cond (isOpen (c .gate)) 1 20)
 byVerdict c store i (Bad at) = unjudged 14
-byVerdict c store i (Whole n) = judgedOf (speaks i) (stateOf c i) (firstHeld c store i n)
+byVerdict c store i (Whole n) = judgedOf (spokenBy c i) (stateOf c i) (firstHeld c store i n)
 
 -- what take answers behind 23 and 10, up to 16
 unfoldable pub judgeOf : Connection → List ℕ → ℕ → Judged
@@ -94,5 +93,5 @@ byJudged c store i buf j = cond (eqb (j .number) 0) (hand c store i buf j) (told
 unfoldable pub takeOf : Connection → List ℕ → ℕ → List ℕ → Told
 takeOf c store i buf =
     cond (receives c (length store))
-    (cond (ltb i instances) (byJudged c store i buf (judgeOf c store i)) (told (refused c 10) buf))
+    (cond (ltb i (instances (c .settings .bundle))) (byJudged c store i buf (judgeOf c store i)) (told (refused c 10) buf))
     (told (refused c 23) buf)

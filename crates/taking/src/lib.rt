@@ -22,6 +22,7 @@ use messages::Message;
 use rows::Protocol;
 use rows::spoken::done;
 use wire::instances::INSTANCES;
+use wire::instances::count;
 ghost use mathlib.Core.Path.{_≡_};
 ghost use mathlib.Core.Bool.{true};
 ghost use Prim.Native.Nat.{_+_, _≤_, _<_, _^_};
@@ -45,18 +46,19 @@ pub struct Taken {
 
 // What is known before any byte is read: no Accept yet; at Done; our agency. Else 0.
 fn early(c: Connection, i: usize) -> u64
-    requires { ⌜ i < instances ⌝ }
+    requires { ⌜ i < instances (c .settings .bundle) ⌝ }
     ensures { λ r. ⌜ r ≡ earlyOf c i ⌝ }
 {
     let settings = c.settings;
+    let bundle = settings.bundle;
     let side = settings.side;
     let talk = c.talk;
     let state = judging::state(talk, i);
     let receiving = c.receiving;
     let held = receiving.held;
     let finished = base::choose(at(held, i) == 0, 3, 17);
-    let our_turn = base::choose(judging::ours(side, i, state), 2, 0);
-    let ends = base::choose(state == done(i), finished, our_turn);
+    let our_turn = base::choose(judging::ours(bundle, side, i, state), 2, 0);
+    let ends = base::choose(state == done(bundle, i), finished, our_turn);
     base::choose(judging::barred(talk, i), 19, ends)
 }
 
@@ -87,7 +89,7 @@ fn judge_held(c: Connection, store: &[u8], i: usize) -> Judged
     let gate = c.gate;
     let base = ring::base_of(&caps, i);
     let end = base + at(caps, i) as usize;
-    let p = rows::spoken::protocol(i);
+    let p = rows::spoken::protocol(settings.bundle, i);
     heard(
         &store[base..end],
         at(starts, i) as usize,
@@ -136,7 +138,7 @@ fn undone(c: Connection, instance: u64, number: u64) -> Taken
 
 // n bytes of instance i are freed.
 fn freed(r: Receiving, caps: [u64; INSTANCES], i: usize, n: u64) -> Receiving
-    requires { ⌜ (i < instances) × (0 < getD caps i 0) × (getD (r .starts) i 0 + n < 2 ^ 32) × (n ≤ getD (r .held) i 0) ⌝ }
+    requires { ⌜ (0 < getD caps i 0) × (getD (r .starts) i 0 + n < 2 ^ 32) × (n ≤ getD (r .held) i 0) ⌝ }
     ensures { λ q. ⌜ q ≡ freedOf r caps i n ⌝ }
 {
     let starts = r.starts;
@@ -153,7 +155,7 @@ fn freed(r: Receiving, caps: [u64; INSTANCES], i: usize, n: u64) -> Receiving
 
 // The record once the message that was judged is handed out.
 fn handed(c: Connection, i: usize, j: Judged) -> Connection
-    requires { ⌜ (inRange c ≡ true) × (i < instances) × (j .len ≤ getD (c .receiving .held) i 0) ⌝ }
+    requires { ⌜ (inRange c ≡ true) × (i < instances (c .settings .bundle)) × (j .len ≤ getD (c .receiving .held) i 0) ⌝ }
     ensures { λ r. ⌜ r ≡ handed c i j ⌝ }
 {
     let settings = c.settings;
@@ -203,7 +205,9 @@ pub fn take(c: Connection, store: &[u8], instance: u64, buf: &mut [u8]) -> Taken
     if !receives(c, store.len()) {
         return refused(c, 23);
     }
-    if INSTANCES as u64 <= instance {
+    let settings = c.settings;
+    let n = count(settings.bundle) as u64;
+    if n <= instance {
         return refused(c, 10);
     }
     let i = instance as usize;

@@ -1,18 +1,22 @@
--- What only this crate's own functions cite: how the tables of instances are read.
+-- What only functions below the operations cite: how many protocol numbers there are, how a table names roles, and what a segment's mode decides.
 use Prim.Native.Nat.{ℕ}
 use mathlib.Core.Bool.{cond}
 use lib.Dec.{eqb}
-use Rattle.wire.specs.Instances.{modeOf}
+use Rattle.wire.specs.Instances.{Role, initiator, responder, ofSide, modeOf}
 use Rattle.wire.specs.declared.instances.Side.{Side}
-use Rattle.wire.specs.declared.instances.Side.the-variants.{Dialler, Accepter}
 use Rattle.wire.specs.declared.instances.Route.{Route}
 use Rattle.wire.specs.declared.instances.Route.the-variants.{Unknown, Wrong, To}
 
--- the column of a side in the table of modes
-abbrev pub columnOf : Side → ℕ
-columnOf Dialler = 0
-columnOf Accepter = 1
+-- every instance's protocol number is below this
+abbrev pub numbers : ℕ
+numbers = 9
+
+-- the number of a role in the code's table
+unfoldable pub markOf : Role → ℕ
+markOf initiator = 0
+markOf responder = 1
+markOf ofSide = 2
 
 -- a segment for instance i, by its mode: it comes from our own end or from the other
-unfoldable pub byMode : Side → ℕ → ℕ → Route
-byMode side m i = cond (eqb m (modeOf side i)) (Wrong i) (To i)
+unfoldable pub byMode : ℕ → Side → ℕ → ℕ → Route
+byMode b side m i = cond (eqb m (modeOf b side i)) (Wrong i) (To i)

@@ -1,11 +1,11 @@
--- Instances (document 01, "What the front holds" and "Segments").
+-- Instances (document 01, "What the front holds" and "Segments"; document 02, K1).
 use Prim.Native.Nat.{ℕ, zero, suc, _<_, _-_}
 use mathlib.Core.Path.{_≡_}
 use mathlib.Core.Bool.{Bool, true, false, cond, not, _&&_}
 use mathlib.Core.List.{List, [], _∷_, _++_}
 use mathlib.Core.Logic.{_↔_}
 use mathlib.Core.Option.{Option, none, some, Option·getD}
-use lib.Dec.{eqb}
+use lib.Dec.{eqb, ltb}
 use lib.ListN.{length, getD}
 use Rattle.wire.specs.declared.instances.Side.{Side}
 use Rattle.wire.specs.declared.instances.Side.the-variants.{Dialler, Accepter}
@@ -20,29 +20,61 @@ pub record Instance : Type 0 where
   pub protocol : ℕ
   pub role : Role
 
+-- whether it is the one that our side has
+abbrev pub sided : Role → Bool
+sided initiator = false
+sided responder = false
+sided ofSide = true
+
 -- our initiator of a protocol, and then our responder
 abbrev pub pair : ℕ → List Instance
 pair p = record { protocol = p; role = initiator } ∷ record { protocol = p; role = responder } ∷ []
 
--- Nine instances: Handshake 0; then for Chain-Sync 2, Block-Fetch 3, TxSubmission 4 and Keep-alive 8 in turn, our initiator and our responder.
-abbrev pub bundle : List Instance
-bundle = record { protocol = 0; role = ofSide } ∷ (pair 2 ++ (pair 3 ++ (pair 4 ++ pair 8)))
+-- the dialler is initiator of a protocol, the accepter responder
+abbrev pub single : ℕ → List Instance
+single p = record { protocol = p; role = ofSide } ∷ []
 
-abbrev pub instances : ℕ
-instances = length bundle
+-- Node to node. Nine instances: Handshake 0; then for Chain-Sync 2, Block-Fetch 3, TxSubmission 4 and Keep-alive 8 in turn, our initiator and our responder.
+abbrev pub nodeToNode : List Instance
+nodeToNode = single 0 ++ (pair 2 ++ (pair 3 ++ (pair 4 ++ pair 8)))
+
+-- Node to client. Handshake 0, Chain-Sync 5, Local TxSubmission 6, Local State Query 7. The dialler has only initiators and the accepter only
+-- responders, so there are four instances, 0 to 3.
+abbrev pub nodeToClient : List Instance
+nodeToClient = single 0 ++ (single 5 ++ (single 6 ++ single 7))
+
+-- A bundle is chosen at open, by its number. An unknown one has no instances.
+abbrev pub bundles : List (List Instance)
+bundles = nodeToNode ∷ nodeToClient ∷ []
+
+abbrev pub known : ℕ → Bool
+known b = ltb b (length bundles)
+
+unfoldable pub bundleOf : ℕ → List Instance
+bundleOf b = getD bundles b []
+
+unfoldable pub instances : ℕ → ℕ
+instances b = length (bundleOf b)
+
+-- no bundle has more
+abbrev pub most : ℕ
+most = length nodeToNode
 
 -- Handshake's
 abbrev pub handshake : ℕ
 handshake = 0
 
 -- what instance i is
-abbrev pub at : ℕ → Instance
-at i = getD bundle i (record { protocol = 0; role = ofSide })
+abbrev pub at : ℕ → ℕ → Instance
+at b i = getD (bundleOf b) i (record { protocol = 0; role = initiator })
 
-abbrev pub protocolOf : ℕ → ℕ
-protocolOf i = at i .protocol
+abbrev pub protocolOf : ℕ → ℕ → ℕ
+protocolOf b i = at b i .protocol
 
--- The dialler is initiator of Handshake.
+abbrev pub roleOf : ℕ → ℕ → Role
+roleOf b i = at b i .role
+
+-- The dialler is initiator of Handshake and, node to client, of every protocol.
 abbrev pub initiates : Side → Role → Bool
 initiates side initiator = true
 initiates side responder = false
@@ -54,8 +86,8 @@ abbrev pub modeFrom : Bool → ℕ
 modeFrom initiates = cond initiates 0 1
 
 -- the mode of what we send as instance i
-abbrev pub modeOf : Side → ℕ → ℕ
-modeOf side i = modeFrom (initiates side (at i .role))
+abbrev pub modeOf : ℕ → Side → ℕ → ℕ
+modeOf b side i = modeFrom (initiates side (roleOf b i))
 
 -- Mode 0 is for our responder, mode 1 for our initiator.
 abbrev pub takes : Side → ℕ → ℕ → Instance → Bool
@@ -71,16 +103,16 @@ orElse (some i) found other = found i
 orElse none found other = other
 
 -- Protocol number and mode together choose the instance. A number that only an instance for the other mode has is wrong there.
-unfoldable pub routeOf : Side → ℕ → ℕ → Route
-routeOf side p m =
-    orElse (find (takes side p m) 0 bundle) To
-    (orElse (find (λ x. eqb (x .protocol) p) 0 bundle) Wrong Unknown)
+unfoldable pub routeOf : ℕ → Side → ℕ → ℕ → Route
+routeOf b side p m =
+    orElse (find (takes side p m) 0 (bundleOf b)) To
+    (orElse (find (λ x. eqb (x .protocol) p) 0 (bundleOf b)) Wrong Unknown)
 
 -- an instance of the bundle
-abbrev pub Within : Route → Type 0
-Within Unknown = Unit {0}
-Within (Wrong i) = i < instances
-Within (To i) = i < instances
+abbrev pub Within : ℕ → Route → Type 0
+Within b Unknown = Unit {0}
+Within b (Wrong i) = i < instances b
+Within b (To i) = i < instances b
 
 -- the other side
 abbrev pub other : Side → Side
@@ -100,16 +132,17 @@ opposite ofSide responder = false
 opposite ofSide ofSide = true
 
 -- the instance of the other side that instance i talks with: the same protocol in the opposite role
-unfoldable pub pairOf : ℕ → ℕ
-pairOf i = Option·getD (find (λ x. eqb (x .protocol) (protocolOf i) && opposite (at i .role) (x .role)) 0 bundle) 0
+unfoldable pub pairOf : ℕ → ℕ → ℕ
+pairOf b i = Option·getD (find (λ x. eqb (x .protocol) (protocolOf b i) && opposite (roleOf b i) (x .role)) 0 (bundleOf b)) 0
 
--- T5, the route. Every instance is reached by one protocol number and one mode, those that its other end sends with;
--- a number is unknown if and only if no instance has it; only a Handshake segment with the mode of our own side is wrong;
--- and what one side sends as i arrives at the other side's instance that i talks with.
-pub record OneWay : Type 0 where
-  pub reached : (side : Side) (i : ℕ) → i < instances → routeOf side (protocolOf i) (1 - modeOf side i) ≡ To i
-  pub only : (side : Side) (p m i : ℕ) → routeOf side p m ≡ To i → (p ≡ protocolOf i) × (m ≡ 1 - modeOf side i)
-  pub unknown : (side : Side) (p m : ℕ) → (routeOf side p m ≡ Unknown) ↔ ((i : ℕ) → i < instances → p ≡ protocolOf i → ⊥)
-  pub wrong : (side : Side) (p m i : ℕ) → m < 2 → (routeOf side p m ≡ Wrong i) ↔ ((i ≡ 0) × (p ≡ protocolOf 0) × (m ≡ modeOf side 0))
-  pub arrives : (side : Side) (i : ℕ) → i < instances → routeOf (other side) (protocolOf i) (modeOf side i) ≡ To (pairOf i)
-  pub paired : (i : ℕ) → i < instances → pairOf (pairOf i) ≡ i
+-- T5, the route, in any bundle. Every instance is reached by one protocol number and one mode, those that its other end sends with;
+-- a number is unknown if and only if no instance has it; only a segment with the mode of our own side is wrong, for a protocol in which our
+-- role is our side's (node to node, Handshake alone); and what one side sends as i arrives at the other side's instance that i talks with.
+pub record OneWay (b : ℕ) : Type 0 where
+  pub reached : (side : Side) (i : ℕ) → i < instances b → routeOf b side (protocolOf b i) (1 - modeOf b side i) ≡ To i
+  pub only : (side : Side) (p m i : ℕ) → routeOf b side p m ≡ To i → (p ≡ protocolOf b i) × (m ≡ 1 - modeOf b side i)
+  pub unknown : (side : Side) (p m : ℕ) → (routeOf b side p m ≡ Unknown) ↔ ((i : ℕ) → i < instances b → p ≡ protocolOf b i → ⊥)
+  pub wrong : (side : Side) (p m i : ℕ) → m < 2
+      → (routeOf b side p m ≡ Wrong i) ↔ ((i < instances b) × (sided (roleOf b i) ≡ true) × (p ≡ protocolOf b i) × (m ≡ modeOf b side i))
+  pub arrives : (side : Side) (i : ℕ) → i < instances b → routeOf b (other side) (protocolOf b i) (modeOf b side i) ≡ To (pairOf b i)
+  pub paired : (i : ℕ) → i < instances b → pairOf b (pairOf b i) ≡ i

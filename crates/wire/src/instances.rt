@@ -1,10 +1,15 @@
-// Which instance a segment is for: protocol number and mode together choose it.
+// Which instance a segment is for: protocol number and mode together choose it, in a bundle of instances.
+//
+// A bundle that is unknown has no instances, and knows no protocol.
 ghost use mathlib.Core.Path.{_≡_};
-ghost use Prim.Native.Nat.{_<_};
-ghost use Rattle.wire.specs.Instances.{instances, protocolOf, modeOf, routeOf, Within};
-ghost use Rattle.wire.specs.Inside.{columnOf, byMode};
+ghost use Prim.Native.Nat.{_<_, _≤_};
+ghost use Rattle.wire.specs.Instances.{ofSide, sided, known, instances, most, roleOf, protocolOf, initiates, modeFrom, modeOf, routeOf, Within};
+ghost use Rattle.wire.specs.Inside.{numbers, markOf, byMode};
 
-// How many instances a connection has.
+// The bundles, by number: 0 node to node, 1 node to client.
+pub const BUNDLES: usize = 2;
+
+// As many instances as the largest bundle has: the length of an array by instance.
 pub const INSTANCES: usize = 9;
 
 // Handshake's.
@@ -24,59 +29,114 @@ pub enum Route {
     To(usize),
 }
 
-// The instance by protocol number, then by mode. Numbers from NUMBERS on have no row, and in the table
-// a number with no instance has NONE.
-const NUMBERS: usize = 9;
+// How many instances a bundle has.
+const COUNTS: [u8; BUNDLES] = [9, 4];
 
+// Every instance's protocol number is below this.
+pub const NUMBERS: usize = 9;
+
+// The instance by bundle, by protocol number, then by mode. A number with no instance has NONE.
 const NONE: u8 = 255;
 
-const ROWS: [[u8; 2]; NUMBERS] = [
-    [0, 0],
-    [NONE, NONE],
-    [2, 1],
-    [4, 3],
-    [6, 5],
-    [NONE, NONE],
-    [NONE, NONE],
-    [NONE, NONE],
-    [8, 7],
+const ROWS: [[[u8; 2]; NUMBERS]; BUNDLES] = [
+    [
+        [0, 0],
+        [NONE, NONE],
+        [2, 1],
+        [4, 3],
+        [6, 5],
+        [NONE, NONE],
+        [NONE, NONE],
+        [NONE, NONE],
+        [8, 7],
+    ],
+    [
+        [0, 0],
+        [NONE, NONE],
+        [NONE, NONE],
+        [NONE, NONE],
+        [NONE, NONE],
+        [1, 1],
+        [2, 2],
+        [3, 3],
+        [NONE, NONE],
+    ],
 ];
 
-// The protocol number by instance.
-const PROTOCOLS: [u16; INSTANCES] = [0, 2, 2, 3, 3, 4, 4, 8, 8];
-
-// The mode of what we send by instance, then by side, the dialler first: 0 as initiator, 1 as responder.
-const MODES: [[u8; 2]; INSTANCES] = [
-    [0, 1],
-    [0, 0],
-    [1, 1],
-    [0, 0],
-    [1, 1],
-    [0, 0],
-    [1, 1],
-    [0, 0],
-    [1, 1],
+// The protocol number by bundle and instance; 0 where there is no instance.
+const PROTOCOLS: [[u16; INSTANCES]; BUNDLES] = [
+    [0, 2, 2, 3, 3, 4, 4, 8, 8],
+    [0, 5, 6, 7, 0, 0, 0, 0, 0],
 ];
+
+// Our role by bundle and instance: I initiator, R responder, O that of our side.
+const I: u8 = 0;
+
+const R: u8 = 1;
+
+const O: u8 = 2;
+
+const ROLES: [[u8; INSTANCES]; BUNDLES] = [
+    [O, I, R, I, R, I, R, I, R],
+    [O, O, O, O, I, I, I, I, I],
+];
+
+// Whether there is such a bundle.
+pub fn known(bundle: u64) -> bool
+    ensures { λ r. ⌜ r ≡ known bundle ⌝ }
+{
+    bundle < BUNDLES as u64
+}
+
+// How many instances a bundle has: none, if it is unknown.
+pub fn count(bundle: u64) -> usize
+    ensures { λ r. ⌜ (r ≡ instances bundle) × (r ≤ most) ⌝ }
+{
+    if BUNDLES as u64 <= bundle {
+        return 0;
+    }
+    COUNTS[bundle as usize] as usize
+}
 
 // The protocol number of an instance.
-pub fn protocol(i: usize) -> u16
-    requires { ⌜ i < instances ⌝ }
-    ensures { λ r. ⌜ r ≡ protocolOf i ⌝ }
+pub fn protocol(bundle: u64, i: usize) -> u16
+    requires { ⌜ i < instances bundle ⌝ }
+    ensures { λ r. ⌜ (r ≡ protocolOf bundle i) × (r < numbers) ⌝ }
 {
-    PROTOCOLS[i]
+    PROTOCOLS[bundle as usize][i]
+}
+
+// Our role in an instance, by its number in the table.
+fn role(bundle: u64, i: usize) -> u8
+    requires { ⌜ i < instances bundle ⌝ }
+    ensures { λ r. ⌜ r ≡ markOf (roleOf bundle i) ⌝ }
+{
+    ROLES[bundle as usize][i]
+}
+
+// Whether our role in an instance is that of our side: then its protocol has no other instance.
+pub fn of_side(bundle: u64, i: usize) -> bool
+    requires { ⌜ i < instances bundle ⌝ }
+    ensures { λ r. ⌜ r ≡ sided (roleOf bundle i) ⌝ }
+{
+    role(bundle, i) == O
 }
 
 // The mode of what we send as an instance.
-pub fn mode(side: Side, i: usize) -> u8
-    requires { ⌜ i < instances ⌝ }
-    ensures { λ r. ⌜ r ≡ modeOf side i ⌝ }
+pub fn mode(bundle: u64, side: Side, i: usize) -> u8
+    requires { ⌜ i < instances bundle ⌝ }
+    ensures { λ r. ⌜ r ≡ modeOf bundle side i ⌝ }
 {
-    let s = column(side);
-    MODES[i][s]
+    let role = role(bundle, i);
+    if role == O {
+        return of(side);
+    }
+    role
 }
 
-fn column(side: Side) -> usize
-    ensures { λ r. ⌜ (r ≡ columnOf side) × (r < 2) ⌝ }
+// The mode of what our side sends.
+fn of(side: Side) -> u8
+    ensures { λ r. ⌜ r ≡ modeFrom (initiates side ofSide) ⌝ }
 {
     match side {
         Side::Dialler => 0,
@@ -85,28 +145,31 @@ fn column(side: Side) -> usize
 }
 
 // Which instance a segment is for.
-pub fn find(side: Side, protocol: u16, mode: u8) -> Route
+pub fn find(bundle: u64, side: Side, protocol: u16, mode: u8) -> Route
     requires { ⌜ mode < 2 ⌝ }
-    ensures { λ r. ⌜ (r ≡ routeOf side protocol mode) × Within r ⌝ }
+    ensures { λ r. ⌜ (r ≡ routeOf bundle side protocol mode) × Within bundle r ⌝ }
 {
     let p = protocol as usize;
     let m = mode as usize;
+    if BUNDLES as u64 <= bundle {
+        return Route::Unknown;
+    }
     if NUMBERS <= p {
         return Route::Unknown;
     }
-    let i = ROWS[p][m];
+    let i = ROWS[bundle as usize][p][m];
     if i == NONE {
         return Route::Unknown;
     }
-    by_mode(side, mode, i as usize)
+    by_mode(bundle, side, mode, i as usize)
 }
 
 // A segment with the mode of our own end did not come from the other.
-fn by_mode(side: Side, m: u8, i: usize) -> Route
-    requires { ⌜ i < instances ⌝ }
-    ensures { λ r. ⌜ (r ≡ byMode side m i) × Within r ⌝ }
+fn by_mode(bundle: u64, side: Side, m: u8, i: usize) -> Route
+    requires { ⌜ i < instances bundle ⌝ }
+    ensures { λ r. ⌜ (r ≡ byMode bundle side m i) × Within bundle r ⌝ }
 {
-    if m == mode(side, i) {
+    if m == mode(bundle, side, i) {
         return Route::Wrong(i);
     }
     Route::To(i)

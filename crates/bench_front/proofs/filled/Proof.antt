@@ -1,16 +1,16 @@
--- `bench_front::filled` is safe and ends: the place is at most the number of instances.
+-- `bench_front::filled` is safe and ends: the place is at most the number of entries.
 -- Assumes nothing.
 use Prim.Native.Nat.{_≤_, _-_}
 use borrow.Author.Needs.{needs}
-use Rattle.wire.specs.Instances.{instances}
+use Rattle.wire.specs.Instances.{most}
 use Rattle.bench_front.proofs.filled.Statement.{statement}
 use Rattle.bench_front.proofs.filled.Tie as tie
 
 abbrev Inv-loop : tie.InvT-loop
-Inv-loop c busy bytes waiting₀ i₀ waiting i = i ≤ instances
+Inv-loop c busy bytes waiting₀ i₀ waiting i = i ≤ most
 
 abbrev μ-loop : tie.MeasureT-loop
-μ-loop c busy bytes waiting₀ i₀ waiting i = instances - i
+μ-loop c busy bytes waiting₀ i₀ waiting i = most - i
 
 pub filled-spec : {M : Type 1} → statement M
 filled-spec =

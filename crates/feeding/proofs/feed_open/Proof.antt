@@ -3,7 +3,7 @@
 use mathlib.Core.Path.{_≡_, sym, subst, _∙_}
 use lib.ListN.{length, length-map}
 use denote.Ref.{now}
-use Rattle.wire.specs.Instances.{instances}
+use Rattle.wire.specs.Instances.{most}
 use Rattle.feeding.specs.declared.Fed.{Fed}
 use Rattle.feeding.specs.Feeding.{Reception, told, answered}
 use Rattle.feeding.specs.Inside.{reception, Sound}
@@ -17,8 +17,8 @@ steps-requires c κs =
     let s = c .before .before .before .before .before .before .before .before .before .before .before .before in
     let k = s .args .c in
     let st = now (s .args .store) in
-    let many : length (k .receiving .held) ≡ instances = simp length-map at (s .good .0 .1 .1 .1 .0 .1 .1 .1 .0 .1 .0 .1) in
-    subst (Sound (k .settings .receive)) (sym (open-parts k st (s .pre .1))) (sound-given k st (s .pre .0) many)
+    let many : length (k .receiving .held) ≡ most = simp length-map at (s .good .0 .1 .1 .1 .0 .1 .1 .1 .0 .1 .0 .1) in
+    subst (Sound (k .settings .bundle) (k .settings .receive)) (sym (open-parts k st (s .pre .1))) (sound-given k st (s .pre .0) many)
 
 returns : tie.Need-returns
 returns c =
@@ -27,8 +27,8 @@ returns c =
     let a = s .args in
     let k = a .c in
     let t = p .steps in
-    let after = t .last .1 .1 .1 .1 .1 .0 in
-    let n : Reception = reception (k .receiving .starts) (t .last .1 .1 .1 .0) (t .result .way) (t .result .gate) after in
+    let after = t .last .1 .1 .1 .1 .1 .1 .0 in
+    let n : Reception = reception (k .receiving .starts) (t .last .1 .1 .1 .1 .0) (t .result .way) (t .result .gate) after in
     let r : Fed = record { number = c .before .left .result; used = t .result .used; connection = c .with-receiving .result } in
     let same : told r after ≡ answered k (t .result .used) n = rw (c .before .left .ensures, c .with-receiving .ensures) in
     same

@@ -3,7 +3,7 @@
 use mathlib.Core.Path.{_≡_, ap, _∙_}
 use mathlib.Core.Bool.{Bool}
 use lib.Dec.{eqb}
-use Rattle.wire.specs.Instances.{at, initiates}
+use Rattle.wire.specs.Instances.{roleOf, initiates}
 use Rattle.judging.specs.Judging.{holds, ours}
 use Rattle.judging.proofs.JudgingLaws.{initiator-mode}
 use borrow.Author.Needs.{needs}
@@ -14,8 +14,8 @@ returns : tie.Need-returns
 unfolding ours
 returns c =
     let a = c .before .before .before .before .args in
-    let initiator : eqb (c .before .mode .result) 0 ≡ initiates (a .side) (at (a .i) .role) =
-    rw (c .before .mode .ensures) (initiator-mode (initiates (a .side) (at (a .i) .role))) in
+    let initiator : eqb (c .before .mode .result) 0 ≡ initiates (a .side) (roleOf (a .bundle) (a .i)) =
+    rw (c .before .mode .ensures) (initiator-mode (initiates (a .side) (roleOf (a .bundle) (a .i)))) in
     c .holds .ensures ∙ ap (λ (b : Bool). holds b (c .before .before .agent .result)) initiator
     ∙ rw (c .before .before .agent .ensures, c .before .before .before .protocol .ensures)
 

@@ -26,6 +26,14 @@ returns-5 : tie.Need-returns-5
 unfolding flagOf
 returns-5 c = ap (λ p. flagOf p (c .before .before .args .m)) (sym (c .enum-told5 .given .1))
 
+returns-6 : tie.Need-returns-6
+unfolding flagOf
+returns-6 c = ap (λ p. flagOf p (c .before .before .args .m)) (sym (c .enum-told6 .given .1))
+
+returns-7 : tie.Need-returns-7
+unfolding flagOf
+returns-7 c = ap (λ p. flagOf p (c .before .before .args .m)) (sym (c .enum-told7 .given .1))
+
 pub flag-spec : {M : Type 1} → statement M
 flag-spec =
     tie.close
@@ -36,8 +44,12 @@ flag-spec =
     (λ c. search needs)
     (λ c κs. search needs)
     (λ c. search needs)
+    (λ c. search needs)
+    (λ c. search needs)
     returns
     returns-2
     returns-3
     returns-4
-    returns-5)
+    returns-5
+    returns-6
+    returns-7)

@@ -14,7 +14,7 @@ returns c =
 
 returns-2 : tie.Need-returns-2
 returns-2 c =
-    let past = c .before .before .before .before in
+    let past = c .before .before .before .before .before in
     let a = past .before .before .before .args in
     let number = past .before .early in
     rw (c .judge-slice .ensures, c .before .before .protocol .ensures, c .before .state .ensures)

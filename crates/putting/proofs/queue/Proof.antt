@@ -25,7 +25,7 @@ after-requires c κs =
     let n = c .before .before .before .before .before .room in
     let z = c .before .before .before .before .if1 .left in
     let f = room-fits (a .c) (a .store .now) (a .i) (a .message .now) (a .j) (n .result) (n .ensures) z in
-    (s .pre .1, count-small (a .c) (a .store .now) (a .i) (a .message .now) (s .pre) f)
+    count-small (a .c) (a .store .now) (a .i) (a .message .now) (s .pre) f
 
 returns-2 : tie.Need-returns-2
 returns-2 c =

@@ -4,7 +4,6 @@ use mathlib.Core.Path.{_≡_, refl, sym, ap, _∙_}
 use mathlib.Core.Bool.{true}
 use Prim.Native.Nat.{_-_, _<_}
 use native.Mathlib.Omega.{arith}
-use Rattle.wire.specs.Instances.{instances}
 use Rattle.ready.specs.Inside.{bitSet, seekIn}
 use Rattle.ready.proofs.ReadyLaws.{seek-hit, seek-on}
 use borrow.Author.Needs.{needs}
@@ -12,10 +11,10 @@ use Rattle.ready.proofs.choose.Statement.{statement}
 use Rattle.ready.proofs.choose.Tie as tie
 
 abbrev Inv-loop : tie.InvT-loop
-Inv-loop word turn i₀ left₀ i left = (i < instances) × (seekIn instances word i left ≡ seekIn instances word turn (instances - 1))
+Inv-loop n word turn i₀ left₀ i left = (i < n) × (seekIn n word i left ≡ seekIn n word turn (n - 1))
 
 abbrev μ-loop : tie.MeasureT-loop
-μ-loop word turn i₀ left₀ i left = left
+μ-loop n word turn i₀ left₀ i left = left
 
 returns : tie.Need-returns Inv-loop μ-loop
 returns c = let first : bitSet (c .before .before .args .word) 0 ≡ true = sym (c .before .is-set .ensures) ∙ c .if1 .taken in rw first
@@ -29,7 +28,7 @@ returns-2 c =
     let l = c .before .before .before .loop in
     let none = sym (c .before .before .before .before .before .is-set .ensures) ∙ c .before .before .before .before .if1 .left in
     let t = sym (c .before .is-set2 .ensures) ∙ c .if2 .taken in
-    rw none (sym (seek-hit instances (a .word) (l .i) (l .left) (search needs) t) ∙ l .inv .1)
+    rw none (sym (seek-hit (a .n) (a .word) (l .i) (l .left) (search needs) t) ∙ l .inv .1)
 
 loop-again : tie.Need-loop-again Inv-loop μ-loop
 loop-again c =
@@ -37,8 +36,8 @@ loop-again c =
     let l = c .before .before .before .before .loop in
     let t = sym (c .before .before .is-set2 .ensures) ∙ c .before .if2 .left in (
       c .after .ensures .1,
-      ap (λ k. seekIn instances (a .word) k (l .left - 1)) (c .after .ensures .0)
-          ∙ sym (seek-on instances (a .word) (l .i) (l .left) (search needs) t) ∙ l .inv .1,
+      ap (λ k. seekIn (a .n) (a .word) k (l .left - 1)) (c .after .ensures .0)
+          ∙ sym (seek-on (a .n) (a .word) (l .i) (l .left) (search needs) t) ∙ l .inv .1,
     )
 
 returns-3 : tie.Need-returns-3 Inv-loop μ-loop

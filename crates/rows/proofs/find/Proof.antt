@@ -30,7 +30,7 @@ loop-holds c =
     let a = c .before .before .args in
     begun rowsOf (leading (a .state) (a .kind) (a .flag)) (a .p) (c .before .first .ensures) (c .count .ensures)
 
-cast-next : tie.Need-cast-t50 Inv-loop μ-loop
+cast-next : tie.Need-cast-next Inv-loop μ-loop
 unfolding entries placeIn
 cast-next c =
     let l = c .before .before .before .before .loop in

@@ -2,6 +2,7 @@
 -- Assumes nothing.
 use mathlib.Core.Path.{_≡_, sym, _∙_}
 use mathlib.Core.Bool.{true}
+use native.Mathlib.Omega.{arith}
 use lib.ListN.{length}
 use borrow.Author.Tests.{not-true, not-false}
 use Rattle.connection.specs.Ranges.{inRange, sends}
@@ -34,25 +35,37 @@ returns-2 c =
     let o = sym (c .before .before .is-open .ensures) ∙ not-true _ (c .before .if2 .taken) in
     rw (c .refused2 .ensures) (next-closed (a .c) (a .store .now) (a .time) (a .buf .now) (fit b) o)
 
+-- once the instances are counted: where the record is in range, and that these are the bundle's
+abbrev ranges : tie.After-count → tie.Else1
+ranges c = c .before .before .before .before .before .before
+
 choose-requires : tie.Need-choose-requires
-choose-requires c κs = let b = c .before .before .before .before .before in ranged (start b .args .c) (in-range b) .turn .1
+choose-requires c κs =
+    let n = c .before .count .ensures in
+    let b = ranges (c .before) in
+    let turn = ranged (start b .args .c) (in-range b) .turn in
+    (omega (arith, n, turn), omega (arith, n), omega (arith, n, turn))
 
 by-choice-requires : tie.Need-by-choice-requires
 by-choice-requires c κs =
-    let b = c .before .before .before .before .before .before .before in
+    let n = c .before .before .before .count in
+    let b = ranges (c .before .before .before) in
     let a = start b .args in
-    is-chosen (a .c) (a .store .now) (c .before .before .word .result) (c .before .choose .result) (fit b) (c .before .choose .ensures)
+    is-chosen (a .c) (a .store .now) (n .result) (c .before .before .word .result) (c .before .choose .result) (fit b) (n .ensures .0)
+    (c .before .choose .ensures)
 
 returns-3 : tie.Need-returns-3
 returns-3 c =
-    let b = c .before .before .before .before .before .before .before .before .before .before in
+    let m = c .before .before .before .before .before .before in
+    let b = ranges m in
     let a = start b .args in
     let o =
-    sym (c .before .before .before .before .before .before .before .before .before .is-open .ensures)
-    ∙ not-false _ (c .before .before .before .before .before .before .before .before .if2 .left) in
+    sym (m .before .before .before .before .before .is-open .ensures) ∙ not-false _ (m .before .before .before .before .if2 .left) in
     let word = c .before .before .before .before .before .word in
     let x = c .before .before .before .before .choose in
-    let e = by-word (a .c) (word .result) (x .result) (in-range b) (word .ensures .2) (word .ensures .0) (x .ensures) in
+    let e =
+    by-word (a .c) (m .count .result) (word .result) (x .result) (in-range b) (m .count .ensures .0) (word .ensures .2) (word .ensures .0)
+    (x .ensures) in
     c .before .before .by-choice .ensures ∙ next-served (a .c) (a .store .now) (a .time) (a .buf .now) (fit b) o (x .result) e
 
 pub next-segment-spec : {M : Type 1} → statement M
@@ -65,6 +78,7 @@ next-segment-spec =
     (λ c κs. search needs)
     (λ c κs. search needs)
     returns-2
+    (λ c κs. search needs)
     (λ c κs. search needs)
     choose-requires
     by-choice-requires

@@ -11,14 +11,14 @@ write-requires c κs =
     let s = c .before .before .before .before in
     let a = s .args in (
       s .pre .2,
-      rw (c .before .before .mode .ensures, c .before .protocol .ensures)
-          (header-fits (a .side) (a .i) (a .time) (a .n) (s .pre .0) (search needs) (s .pre .1)),
+      rw (c .before .before .mode .ensures, c .before .protocol .ensures .0)
+          (header-fits (a .bundle) (a .side) (a .i) (a .time) (a .n) (s .pre .0) (search needs) (s .pre .1)),
     )
 
 returns : tie.Need-returns
 returns c =
     c .before .before .write .ensures
-    ∙ rw (c .before .before .before .before .before .mode .ensures, c .before .before .before .before .protocol .ensures)
+    ∙ rw (c .before .before .before .before .before .mode .ensures, c .before .before .before .before .protocol .ensures .0)
 
 pub put-header-spec : {M : Type 1} → statement M
 put-header-spec =

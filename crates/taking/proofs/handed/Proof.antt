@@ -14,7 +14,7 @@ freed-requires c κs =
     let r = ranged (a .c) ok in
     let q = r .receiving (a .i) h in
     let cap = r .set .receive (a .i) h in
-    (h, omega arith, omega arith, within)
+    (omega arith, omega arith, within)
 
 returns : tie.Need-returns
 returns c =

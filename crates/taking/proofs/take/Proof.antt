@@ -1,7 +1,10 @@
 -- `taking::take` meets its contract: each way out is one of the laws of take.
 -- Assumes nothing.
 use mathlib.Core.Path.{sym, ap, _∙_}
+use Prim.Native.Nat.{_≤_}
+use native.Mathlib.Omega.{arith}
 use borrow.Author.Tests.{not-true, not-false}
+use Rattle.wire.specs.Instances.{instances}
 use Rattle.connection.specs.Parts.{InReceive}
 use Rattle.judging.specs.declared.Judged.{Judged}
 use Rattle.taking.proofs.TakingLaws.{judged-held, take-range, take-instance, take-refused, take-handed}
@@ -11,10 +14,12 @@ use Rattle.taking.proofs.take.Tie as tie
 
 -- past both tests: where the call began, and that the instance is one of a record in range with its store
 abbrev start : tie.Else2 → tie.Start
-start c = c .before .before .before .before .before
+start c = c .before .before .before .before .before .before .before
 
 asked : (c : tie.Else2) → InReceive (start c .args .c) (start c .args .store .now) (start c .args .instance)
-asked c = (sym (c .before .before .receives .ensures) ∙ not-false _ (c .before .if1 .left), c .if2 .left)
+asked c =
+    let first = c .before .before .before in
+    (sym (first .before .receives .ensures) ∙ not-false _ (first .if1 .left), omega (arith, c .if2 .left, c .before .count .ensures .0))
 
 returns : tie.Need-returns
 returns c =
@@ -24,9 +29,11 @@ returns c =
 
 returns-2 : tie.Need-returns-2
 returns-2 c =
-    let a = c .before .before .before .before .before .before .args in
-    let r = sym (c .before .before .before .receives .ensures) ∙ not-false _ (c .before .before .if1 .left) in
-    rw (c .refused2 .ensures) (take-instance (a .c) (a .store .now) (a .instance) (a .buf .now) r (c .before .if2 .taken))
+    let first = c .before .before .before .before in
+    let a = first .before .before .before .before .args in
+    let r = sym (first .before .receives .ensures) ∙ not-false _ (first .if1 .left) in
+    let above : instances (a .c .settings .bundle) ≤ a .instance = omega (arith, c .before .if2 .taken, c .before .before .count .ensures .0) in
+    rw (c .refused2 .ensures) (take-instance (a .c) (a .store .now) (a .instance) (a .buf .now) r above)
 
 returns-3 : tie.Need-returns-3
 returns-3 c =
@@ -60,6 +67,7 @@ take-spec =
     (λ c κs. search needs)
     (λ c κs. search needs)
     returns
+    (λ c κs. search needs)
     (λ c κs. search needs)
     returns-2
     (λ c κs. asked c)

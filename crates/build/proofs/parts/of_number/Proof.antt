@@ -14,6 +14,9 @@ returns-6 c = number-by _ (c .before .enum-told6 .given .1) (c .bool-argument .e
 returns-7 : tie.Need-returns-7
 returns-7 c = number-by _ (c .before .enum-told7 .given .1) (c .argument-if2 .ensures)
 
+returns-8 : tie.Need-returns-8
+returns-8 c = number-by _ (c .before .enum-told8 .given .1) (c .argument-if3 .ensures)
+
 pub of-number-spec : {M : Type 1} → statement M
 of-number-spec =
     tie.close
@@ -29,9 +32,12 @@ of-number-spec =
     (λ c. search needs)
     (λ c κs. search needs)
     (λ c. search needs)
+    (λ c κs. search needs)
+    (λ c. search needs)
     (λ c. search needs)
     (λ c. search needs)
     (λ c. search needs)
     returns-5
     returns-6
-    returns-7)
+    returns-7
+    returns-8)

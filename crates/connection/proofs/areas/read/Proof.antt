@@ -1,9 +1,7 @@
 -- `connection::areas::read` meets its contract: the area lies in the store.
 -- Assumes nothing.
-use denote.Ref.{now}
 use mathlib.Core.Path.{_∙_}
 use native.Mathlib.Omega.{arith}
-use Rattle.connection.proofs.StoreLaws.{area-in}
 use borrow.Author.Needs.{needs}
 use Rattle.connection.proofs.areas.read.Statement.{statement}
 use Rattle.connection.proofs.areas.read.Tie as tie
@@ -12,13 +10,13 @@ base-of-requires : tie.Need-base-of-requires
 base-of-requires c κs =
     let s = c .before .before .before in
     let area = s .pre .0 in
-    (omega (arith, area .listed), omega (arith, area-in (now (s .args .caps)) _ (s .args .i) area))
+    (omega (arith, area .listed), omega (arith, area .inside))
 
 read-requires : tie.Need-read-requires
 read-requires c κs =
     let s = c .before .before .before .before .before .before in
     let (area, within, fits) = s .pre in
-    (within, area .some, rw (c .before .before .base-of .ensures) (area-in (now (s .args .caps)) _ (s .args .i) area), fits)
+    (within, area .some, rw (c .before .before .base-of .ensures) (area .inside), fits)
 
 returns : tie.Need-returns
 returns c = c .before .before .read .ensures ∙ rw (c .before .before .before .before .before .base-of .ensures)

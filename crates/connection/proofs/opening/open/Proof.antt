@@ -14,32 +14,34 @@ returns c = let e = sym (c .before .before .settings-ok .ensures) ∙ not-true _
 
 together-requires : tie.Need-together-requires
 together-requires c κs =
-    let s = c .before .before .before .before .before .before .args .settings in
-    let e = sym (c .before .before .before .settings-ok .ensures) ∙ not-false _ (c .before .before .if1 .left) in
-    λ i h. settings-set s e .receive i h .1
+    let tested = c .before .before in
+    let e = sym (tested .before .settings-ok .ensures) ∙ not-false _ (tested .if1 .left) in
+    λ i h. settings-set _ e .receive i h .1
 
 together-requires-2 : tie.Need-together-requires-2
 together-requires-2 c κs =
-    let s = c .before .before .before .before .before .before .before .args .settings in
-    let e = sym (c .before .before .before .before .settings-ok .ensures) ∙ not-false _ (c .before .before .before .if1 .left) in
-    λ i h. settings-set s e .send i h .1
+    let tested = c .before .before .before in
+    let e = sym (tested .before .settings-ok .ensures) ∙ not-false _ (tested .if1 .left) in
+    λ i h. settings-set _ e .send i h .1
 
 returns-2 : tie.Need-returns-2
 unfolding openOf
 returns-2 c =
-    let b = c .before .before .before .before .before .before .before in
-    let e = sym (b .before .settings-ok .ensures) ∙ not-false _ (b .if1 .left) in
+    let sends = c .before .before .before in
+    let tested = sends .before .before .before .before in
+    let e = sym (tested .before .settings-ok .ensures) ∙ not-false _ (tested .if1 .left) in
     let stores = sym (c .before .before .and .ensures) ∙ c .before .if2 .taken in
-    let q = rw (c .before .before .before .together2 .ensures, c .before .before .before .before .together .ensures) at stores in
+    let q = rw (sends .together2 .ensures, sends .before .together .ensures) at stores in
     rw (e, q, c .fresh .ensures)
 
 returns-3 : tie.Need-returns-3
 unfolding openOf
 returns-3 c =
-    let b = c .before .before .before .before .before .before .before in
-    let e = sym (b .before .settings-ok .ensures) ∙ not-false _ (b .if1 .left) in
+    let sends = c .before .before .before in
+    let tested = sends .before .before .before .before in
+    let e = sym (tested .before .settings-ok .ensures) ∙ not-false _ (tested .if1 .left) in
     let stores = sym (c .before .before .and .ensures) ∙ c .before .if2 .left in
-    let q = rw (c .before .before .before .together2 .ensures, c .before .before .before .before .together .ensures) at stores in
+    let q = rw (sends .together2 .ensures, sends .before .together .ensures) at stores in
     rw (e, q) (c .refused2 .ensures)
 
 pub open-spec : {M : Type 1} → statement M

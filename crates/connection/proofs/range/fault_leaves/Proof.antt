@@ -7,10 +7,10 @@ use Rattle.connection.proofs.range.fault_leaves.Statement.{statement}
 use Rattle.connection.proofs.range.fault_leaves.Tie as tie
 
 returns : tie.Need-returns
-returns c = sym (ap faultLeaves (c .before .x .given .1))
+returns c = sym (ap (faultLeaves (c .before .before .before .args .bundle)) (c .before .x .given .1))
 
 returns-2 : tie.Need-returns-2
-returns-2 c = c .named .ensures ∙ sym (ap faultLeaves (c .before .before .x2 .given .1))
+returns-2 c = c .named .ensures ∙ sym (ap (faultLeaves (c .before .before .before .before .args .bundle)) (c .before .before .x2 .given .1))
 
 pub fault-leaves-spec : {M : Type 1} → statement M
 fault-leaves-spec =

@@ -8,8 +8,8 @@ use native.Mathlib.Omega.{arith}
 use lib.Dec.{leb}
 use lib.ListN.{getD}
 use borrow.Author.Tests.{not-true, not-false}
-use Rattle.base.specs.Below.{allBelow}
 use Rattle.wire.specs.Instances.{instances}
+use Rattle.base.specs.Below.{allBelow}
 use Rattle.connection.specs.Ranges.{restFor}
 use Rattle.connection.specs.Inside.{receivingIn, sendingIn}
 use Rattle.connection.proofs.AreaLaws.{below-not, below-more, area-count, area-not, roomOf, room-first, room-next, rest-decides}
@@ -18,59 +18,60 @@ use Rattle.connection.proofs.range.receiving_ok.Statement.{statement}
 use Rattle.connection.proofs.range.receiving_ok.Tie as tie
 
 abbrev Inv-loop : tie.InvT-loop
-Inv-loop instance rest caps starts held room₀ i₀ room i =
-    (i ≤ instances) × (allBelow (sendingIn caps starts held) i ≡ true) × (room ≡ roomOf caps held instance rest i)
+Inv-loop bundle instance rest caps starts held n room₀ i₀ room i =
+    (i ≤ n) × (allBelow (sendingIn caps starts held) i ≡ true) × (room ≡ roomOf caps held instance rest i)
 
 abbrev μ-loop : tie.MeasureT-loop
-μ-loop instance rest caps starts held room₀ i₀ room i = instances - i
+μ-loop bundle instance rest caps starts held n room₀ i₀ room i = n - i
 
 loop-holds : tie.Need-loop-holds Inv-loop μ-loop
 unfolding allBelow
-loop-holds c = let a = c .args in (search needs, refl, room-first (a .t1) (a .t3) (a .instance) (a .rest))
+loop-holds c = let a = c .before .args in (search needs, refl, room-first (a .t2) (a .t4) (a .instance) (a .rest))
 
 returns : tie.Need-returns Inv-loop μ-loop
 returns c =
-    let a = c .before .before .before .before .args in
+    let a = c .before .before .before .before .before .args in
     let i = c .before .before .before .loop .i in
     let e = sym (c .before .area-ok .ensures) ∙ not-true _ (c .if1 .taken) in
     sym (below-not
-    (receivingIn (a .t1) (a .t2) (a .t3) (a .instance) (a .rest))
-    instances
+    (receivingIn (a .t2) (a .t3) (a .t4) (a .instance) (a .rest))
+    (instances (a .bundle))
     i
-    (c .before .before .loop-test .taken)
-    (area-not (getD (a .t1) i 0) (getD (a .t2) i 0) (getD (a .t3) i 0) (restFor (a .instance) (a .rest) i) e))
+    (search needs)
+    (area-not (getD (a .t2) i 0) (getD (a .t3) i 0) (getD (a .t4) i 0) (restFor (a .instance) (a .rest) i) e))
 
 sub-choose : tie.Need-sub-choose Inv-loop μ-loop
 sub-choose c =
-    let a = c .before .before .before .before .args in
+    let a = c .before .before .before .before .before .args in
     let i = c .before .before .before .loop .i in
     let e = sym (c .before .area-ok .ensures) ∙ not-false _ (c .if1 .left) in
-    let h : getD (a .t3) i 0 ≤ getD (a .t1) i 0 = area-count (getD (a .t1) i 0) (getD (a .t2) i 0) (getD (a .t3) i 0) e in
+    let h : getD (a .t4) i 0 ≤ getD (a .t2) i 0 = area-count (getD (a .t2) i 0) (getD (a .t3) i 0) (getD (a .t4) i 0) e in
     omega (arith, h)
 
 loop-again : tie.Need-loop-again Inv-loop μ-loop
 loop-again c =
-    let a = c .before .before .before .before .before .args in
+    let a = c .before .before .before .before .before .before .args in
     let l = c .before .before .before .before .loop in
     let e = sym (c .before .before .area-ok .ensures) ∙ not-false _ (c .before .if1 .left) in (
       search needs,
-      below-more (sendingIn (a .t1) (a .t2) (a .t3)) (l .i) (l .inv .1) e,
-      cc (c .choose .ensures, l .inv .2, room-next (a .t1) (a .t3) (a .instance) (a .rest) (l .i)),
+      below-more (sendingIn (a .t2) (a .t3) (a .t4)) (l .i) (l .inv .1) e,
+      cc (c .choose .ensures, l .inv .2, room-next (a .t2) (a .t4) (a .instance) (a .rest) (l .i)),
     )
 
 returns-2 : tie.Need-returns-2 Inv-loop μ-loop
 returns-2 c =
-    let a = c .before .before .args in
+    let a = c .before .before .before .args in
     let l = c .before .loop in
-    let e : l .i ≡ instances = omega arith in
-    ap (leb (a .rest)) (l .inv .2 ∙ ap (roomOf (a .t1) (a .t3) (a .instance) (a .rest)) e)
+    let e : l .i ≡ instances (a .bundle) = omega arith in
+    ap (leb (a .rest)) (l .inv .2 ∙ ap (roomOf (a .t2) (a .t4) (a .instance) (a .rest)) e)
     ∙ rest-decides
-    (a .t1)
+    (instances (a .bundle))
     (a .t2)
     (a .t3)
+    (a .t4)
     (a .instance)
     (a .rest)
-    (sym (ap (allBelow (sendingIn (a .t1) (a .t2) (a .t3))) e) ∙ l .inv .1)
+    (sym (ap (allBelow (sendingIn (a .t2) (a .t3) (a .t4))) e) ∙ l .inv .1)
 
 pub receiving-ok-spec : {M : Type 1} → statement M
 receiving-ok-spec =
@@ -78,6 +79,7 @@ receiving-ok-spec =
     (tie.spec
     Inv-loop
     μ-loop
+    (λ c κs. search needs)
     loop-holds
     (λ c. search needs)
     (λ c. search needs)

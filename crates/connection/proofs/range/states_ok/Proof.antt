@@ -12,10 +12,10 @@ use Rattle.connection.proofs.range.states_ok.Statement.{statement}
 use Rattle.connection.proofs.range.states_ok.Tie as tie
 
 abbrev Inv-loop : tie.InvT-loop
-Inv-loop states ok₀ i₀ ok i = (i ≤ instances) × (ok ≡ allBelow (statesIn states) i)
+Inv-loop bundle states n ok₀ i₀ ok i = (i ≤ n) × (ok ≡ allBelow (statesIn bundle states) i)
 
 abbrev μ-loop : tie.MeasureT-loop
-μ-loop states ok₀ i₀ ok i = instances - i
+μ-loop bundle states n ok₀ i₀ ok i = n - i
 
 loop-holds : tie.Need-loop-holds Inv-loop μ-loop
 unfolding allBelow
@@ -23,16 +23,16 @@ loop-holds c = (search needs, refl)
 
 loop-again : tie.Need-loop-again Inv-loop μ-loop
 loop-again c =
-    let a = c .before .before .before .before .args in
+    let a = c .before .before .before .before .before .args in
     let l = c .before .before .before .loop in
-    (search needs, (cc (below-next (statesIn (a .t1)) (l .i))))
+    (search needs, (cc (below-next (statesIn (a .bundle) (a .t2)) (l .i))))
 
 returns : tie.Need-returns Inv-loop μ-loop
 returns c =
-    let a = c .before .before .args in
+    let a = c .before .before .before .args in
     let l = c .before .loop in
-    let e : l .i ≡ instances = omega arith in
-    l .inv .1 ∙ ap (allBelow (statesIn (a .t1))) e
+    let e : l .i ≡ instances (a .bundle) = omega arith in
+    l .inv .1 ∙ ap (allBelow (statesIn (a .bundle) (a .t2))) e
 
 pub states-ok-spec : {M : Type 1} → statement M
 states-ok-spec =
@@ -40,6 +40,7 @@ states-ok-spec =
     (tie.spec
     Inv-loop
     μ-loop
+    (λ c κs. search needs)
     loop-holds
     (λ c. search needs)
     (λ c. search needs)

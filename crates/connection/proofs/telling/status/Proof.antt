@@ -14,9 +14,10 @@ returns c = let e = sym (c .before .in-range .ensures) ∙ not-true _ (c .if1 .t
 returns-2 : tie.Need-returns-2
 unfolding statusOf
 returns-2 c =
-    let b = c .before .before .before .before .before in
-    let e = sym (b .before .in-range .ensures) ∙ not-false _ (b .if1 .left) in
-    rw (e, c .ready-of .ensures)
+    let ready = c .before .before in
+    let tested = ready .before .before .before .before .before .before .before in
+    let e = sym (tested .before .in-range .ensures) ∙ not-false _ (tested .if1 .left) in
+    rw (e, c .up-to2 .ensures, c .before .up-to .ensures, ready .ready-of .ensures, ready .before .before .before .before .before .count .ensures .0)
 
 pub status-spec : {M : Type 1} → statement M
 status-spec =
@@ -24,5 +25,8 @@ status-spec =
     (tie.spec
     (λ c κs. search needs)
     returns
+    (λ c κs. search needs)
+    (λ c κs. search needs)
+    (λ c κs. search needs)
     (λ c κs. search needs)
     returns-2)

@@ -1,7 +1,7 @@
 -- `messages::elements::part_at` meets its contract: each kind of field is read as the definition reads it.
 -- Assumes nothing.
 use mathlib.Core.Path.{ap, _∙_}
-use Rattle.messages.specs.Matching.{words, versions}
+use Rattle.messages.specs.Matching.{words, versions, failures}
 use Rattle.messages.specs.Reading.{upTo, below, partOf}
 use Rattle.messages.proofs.Steps.{part-by}
 use borrow.Author.Needs.{needs}
@@ -33,6 +33,10 @@ returns-7 : tie.Need-returns-7
 unfolding partOf
 returns-7 c = part-by _ _ (c .before .before .enum-told7 .given .1) (c .limited2 .ensures ∙ ap (below versions) (c .before .unsigned-at2 .ensures))
 
+returns-8 : tie.Need-returns-8
+unfolding partOf
+returns-8 c = part-by _ _ (c .before .before .enum-told8 .given .1) (c .limited3 .ensures ∙ ap (below failures) (c .before .unsigned-at3 .ensures))
+
 pub part-at-spec : {M : Type 1} → statement M
 part-at-spec =
     tie.close
@@ -54,10 +58,14 @@ part-at-spec =
     (λ c. search needs)
     (λ c κs. search needs)
     (λ c κs. search needs)
+    (λ c. search needs)
+    (λ c κs. search needs)
+    (λ c κs. search needs)
     returns
     returns-2
     returns-3
     returns-4
     returns-5
     returns-6
-    returns-7)
+    returns-7
+    returns-8)

@@ -1,4 +1,4 @@
--- `messages::forms::at` meets its contract: the table is that of document 01's forms, column by column.
+-- `messages::forms::at` meets its contract: the table is that of the forms, column by column.
 -- Assumes nothing.
 use mathlib.Core.Path.{ap}
 use mathlib.Core.List.{List}

@@ -25,6 +25,9 @@ returns-6 c = search tests
 returns-7 : tie.Need-returns-7
 returns-7 c = search tests
 
+returns-8 : tie.Need-returns-8
+returns-8 c = search tests
+
 pub field-of-spec : {M : Type 1} → statement M
 field-of-spec =
     tie.close
@@ -35,4 +38,5 @@ field-of-spec =
     returns-4
     returns-5
     returns-6
-    returns-7)
+    returns-7
+    returns-8)

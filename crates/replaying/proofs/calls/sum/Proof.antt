@@ -1,16 +1,16 @@
--- `calls::sum` ends, and is safe: the index stays below the number of instances.
+-- `calls::sum` ends, and is safe: the index stays below the number of the bundle's instances.
 -- Assumes nothing.
 use Prim.Native.Nat.{_≤_, _-_}
-use Rattle.wire.specs.Instances.{instances}
+use Rattle.wire.specs.Instances.{most}
 use borrow.Author.Needs.{needs}
 use Rattle.replaying.proofs.calls.sum.Statement.{statement}
 use Rattle.replaying.proofs.calls.sum.Tie as tie
 
 abbrev Inv-loop : tie.InvT-loop
-Inv-loop caps sum₀ i₀ sum i = i ≤ instances
+Inv-loop bundle caps n sum₀ i₀ sum i = (i ≤ n) × (n ≤ most)
 
 abbrev μ-loop : tie.MeasureT-loop
-μ-loop caps sum₀ i₀ sum i = instances - i
+μ-loop bundle caps n sum₀ i₀ sum i = n - i
 
 pub sum-spec : {M : Type 1} → statement M
 sum-spec =
@@ -18,6 +18,7 @@ sum-spec =
     (tie.spec
     Inv-loop
     μ-loop
+    (λ c κs. search needs)
     (λ c. search needs)
     (λ c. search needs)
     (λ c. search needs)

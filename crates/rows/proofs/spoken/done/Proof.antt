@@ -8,9 +8,4 @@ returns : tie.Need-returns
 returns c = cc
 
 pub done-spec : {M : Type 1} → statement M
-done-spec =
-    tie.close
-    (tie.spec
-    (λ c κs. search needs)
-    (λ c κs. search needs)
-    returns)
+done-spec = tie.close (tie.spec (λ c κs. search needs) (λ c κs. search needs) returns)

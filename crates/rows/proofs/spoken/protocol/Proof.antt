@@ -1,19 +1,25 @@
--- `rows::spoken::protocol` meets its contract: the table is a map over the bundle, by each instance's number.
+-- `rows::spoken::protocol` meets its contract: the table has the protocol of each number.
 -- Assumes nothing.
+use mathlib.Core.Path.{_≡_, ap, _∙_}
+use Prim.Native.Nat.{ℕ, zero, suc, _<_}
 use borrow.Author.Needs.{needs}
-use Rattle.base.proofs.ListLaws.{getD-map}
-use Rattle.wire.specs.Instances.{Instance, ofSide, bundle}
+use native.Mathlib.Omega.{arith}
+use lib.ListN.{getD}
+use Rattle.wire.specs.Inside.{numbers}
 use Rattle.rows.specs.Spoken.{spoken, speaks}
+use Rattle.rows.proofs.SpokenLaws.{by-number, spoken-right}
 use Rattle.rows.proofs.spoken.protocol.Statement.{statement}
 use Rattle.rows.proofs.spoken.protocol.Tie as tie
 
 returns : tie.Need-returns
-unfolding speaks
-returns c = getD-map (λ (x : Instance). spoken (x .protocol)) bundle (c .before .args .i) (record { protocol = 0; role = ofSide }) _ (c .before .pre)
+unfolding speaks by-number
+returns c = spoken-right _ (c .before .protocol .ensures .1) ∙ ap spoken (c .before .protocol .ensures .0)
 
 pub protocol-spec : {M : Type 1} → statement M
 protocol-spec =
     tie.close
     (tie.spec
+    (λ c κs. search needs)
+    (λ c. search needs)
     (λ c. search needs)
     returns)

@@ -1,43 +1,43 @@
--- `wire::instances::find` meets its contract: a number past the table is unknown, and within it the entry is right.
+-- `wire::instances::find` meets its contract: an unknown bundle knows no number, a number past the table is unknown, and
+-- within it the entry is right.
 -- Assumes nothing.
 use mathlib.Core.Path.{_∙_}
 use native.Mathlib.Omega.{arith}
 use borrow.Author.Needs.{needs}
-use Rattle.wire.proofs.InstanceLaws.{table, past, none-known, one-known}
+use Rattle.wire.proofs.InstanceLaws.{table, no-bundle, past, none-known, one-known, at-most}
 use Rattle.wire.proofs.instances.find.Statement.{statement}
 use Rattle.wire.proofs.instances.find.Tie as tie
-use Rattle.wire.proofs.instances.find.Reads as reads
-use Rattle.wire.proofs.instances.find.Lts as lts
-use Rattle.wire.proofs.instances.by_mode.Reads as by-mode-reads
 
 returns : tie.Need-returns
-unfolding table
-returns c = let a = c .before .args in (past (a .side) (a .protocol) (a .mode) (c .if1 .taken), tt)
+returns c = let a = c .before .args in (no-bundle (a .bundle) (a .side) (a .protocol) (a .mode) (c .if1 .taken), tt)
 
 returns-2 : tie.Need-returns-2
-unfolding table
-returns-2 c =
-    let a = c .before .before .before .args in
-    (none-known (a .side) (a .protocol) (a .mode) (search needs) (search needs) (c .if2 .taken), tt)
-
-cast-by-mode : tie.Need-cast-by-mode
-unfolding table
-cast-by-mode c =
-    let a = c .before .before .before .args in
-    let low = one-known (a .side) (a .protocol) (a .mode) (search needs) (search needs) (c .if2 .left) .0 in
-    record { fits = omega arith }
-
-by-mode-requires : tie.Need-by-mode-requires
-unfolding table
-by-mode-requires c κs =
-    let a = c .before .before .before .args in
-    one-known (a .side) (a .protocol) (a .mode) (search needs) (search needs) (c .if2 .left) .0
+returns-2 c = let a = c .before .before .args in (past (a .bundle) (a .side) (a .protocol) (a .mode) (c .if2 .taken), tt)
 
 returns-3 : tie.Need-returns-3
 unfolding table
 returns-3 c =
     let a = c .before .before .before .before .args in
-    let known = one-known (a .side) (a .protocol) (a .mode) (search needs) (search needs) (c .before .if2 .left) in
+    (none-known (a .bundle) (a .side) (a .protocol) (a .mode) (search needs) (search needs) (search needs) (c .if3 .taken), tt)
+
+cast-by-mode : tie.Need-cast-by-mode
+unfolding table
+cast-by-mode c =
+    let a = c .before .before .before .before .args in
+    let low = one-known (a .bundle) (a .side) (a .protocol) (a .mode) (search needs) (search needs) (search needs) (c .if3 .left) .0 in
+    record { fits = omega (arith, at-most (a .bundle)) }
+
+by-mode-requires : tie.Need-by-mode-requires
+unfolding table
+by-mode-requires c κs =
+    let a = c .before .before .before .before .args in
+    one-known (a .bundle) (a .side) (a .protocol) (a .mode) (search needs) (search needs) (search needs) (c .if3 .left) .0
+
+returns-4 : tie.Need-returns-4
+unfolding table
+returns-4 c =
+    let a = c .before .before .before .before .before .args in
+    let known = one-known (a .bundle) (a .side) (a .protocol) (a .mode) (search needs) (search needs) (search needs) (c .before .if3 .left) in
     (c .by-mode .ensures .0 ∙ known .1, c .by-mode .ensures .1)
 
 pub find-spec : {M : Type 1} → statement M
@@ -45,10 +45,13 @@ find-spec =
     tie.close
     (tie.spec
     returns
-    (λ c. search needs)
-    (λ c. search needs)
-    (λ c. search needs)
     returns-2
+    (λ c. search needs)
+    (λ c. search needs)
+    (λ c. search needs)
+    (λ c. search needs)
+    (λ c. search needs)
+    returns-3
     cast-by-mode
     by-mode-requires
-    returns-3)
+    returns-4)
