@@ -2,6 +2,7 @@
 use connection::Closing;
 use connection::Gate;
 use connection::telling::Report;
+use messages::MOST_PLACES;
 use messages::Message;
 use wire::instances::INSTANCES;
 
@@ -61,11 +62,15 @@ fn message(out: &mut [u8], at: usize, m: Message) -> usize {
 
 // A place is a start and a length.
 fn twice(parts: usize) -> usize {
-    if parts <= 2 { parts + parts } else { 4 }
+    if parts <= MOST_PLACES {
+        parts + parts
+    } else {
+        2 * MOST_PLACES
+    }
 }
 
 // Starts and lengths.
-fn places_of(m: Message) -> [u64; 4] {
+fn places_of(m: Message) -> [u64; 2 * MOST_PLACES] {
     let p = m.places;
     [p[0] as u64, p[1] as u64, p[2] as u64, p[3] as u64]
 }
@@ -78,6 +83,7 @@ fn listed(out: &mut [u8], at: usize, numbers: &[u64], n: usize) -> usize {
     answers::list(out, at, &numbers[0..n])
 }
 
+// What status tells.
 pub fn told(out: &mut [u8], r: Report) {
     let ready = r.ready;
     let gate = r.gate;
