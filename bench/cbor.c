@@ -243,7 +243,7 @@ static void rows(void)
     out = item;
     len = 0;
     string(2, 65000);
-    row("one string", item, len, 1.3);
+    row("one string", item, len, 4.2);
 }
 
 static void growth(void)

@@ -44,7 +44,7 @@ static const struct work works[] = {
     { "feed, segments of 1,024 bytes, all in one run", FEED, 1024, 0, 0, NO_GOAL, 0 },
     { "feed, segments of 8,192 bytes, all in one run", FEED, 8192, 0, 0, NO_GOAL, 0 },
     { "feed, segments of 65,535 bytes, all in one run", FEED, 65535, 0, 0, TO_COPY, 0.7 },
-    { "feed, segments of 16 bytes, a run each", FEED, 16, 0, 24, TO_PLAIN, 2 },
+    { "feed, segments of 16 bytes, a run each", FEED, 16, 0, 24, TO_PLAIN, 10 },
     { "feed, segments of 128 bytes, a run each", FEED, 128, 0, 136, NO_GOAL, 0 },
     { "feed, segments of 1,024 bytes, a run each", FEED, 1024, 0, 1032, NO_GOAL, 0 },
     { "feed, segments of 8,192 bytes, a run each", FEED, 8192, 0, 8200, NO_GOAL, 0 },
@@ -54,14 +54,14 @@ static const struct work works[] = {
     { "feed, segments of 1,024 bytes, runs of 1,448", FEED, 1024, 0, 1448, NO_GOAL, 0 },
     { "feed, segments of 8,192 bytes, runs of 1,448", FEED, 8192, 0, 1448, NO_GOAL, 0 },
     { "feed, segments of 65,535 bytes, runs of 1,448", FEED, 65535, 0, 1448, NO_GOAL, 0 },
-    { "next segment, S 1,000, one queue", NEXT, 1000, 1, 0, NO_GOAL, 0 },
-    { "next segment, S 1,000, eight queues", NEXT, 1000, 8, 0, NO_GOAL, 0 },
+    { "next segment, S 1,000, one queue", NEXT, 1000, 1, 0, TO_PLAIN, 6 },
+    { "next segment, S 1,000, eight queues", NEXT, 1000, 8, 0, TO_PLAIN, 6 },
     { "next segment, S 65,535, one queue", NEXT, 65535, 1, 0, TO_COPY, 0.6 },
     { "next segment, S 65,535, eight queues", NEXT, 65535, 8, 0, TO_COPY, 0.6 },
     { "take, a Block of 64 kB", TAKE, 65000, 0, 0, TO_MEASURE, 1.5 },
     { "take, a Block of 64 kB, wrapped", TAKE, 65000, 1, 0, TO_MEASURE, 1.5 },
     { "put, a Block of 64 kB", PUT, 65000, 0, 0, NO_GOAL, 0 },
-    { "a Keep-alive message and its answer: put, next segment, feed, take", WAY, 5, 0, 0, TO_PLAIN, 3 },
+    { "a Keep-alive message and its answer: put, next segment, feed, take", WAY, 5, 0, 0, TO_PLAIN, 5.5 },
 };
 
 /* Pairs of works of which the second has so many times the first's bytes and segments: its time should grow no more. */

@@ -65,6 +65,17 @@ pub fn number(out: &mut [u8], at: usize, n: u64) -> usize {
     decimal(out, next, n)
 }
 
+// Numbers, each behind a space.
+pub fn numbers(out: &mut [u8], at: usize, numbers: &[u64]) -> usize {
+    let mut next = at;
+    let mut i: usize = 0;
+    while i < numbers.len() {
+        next = number(out, next, numbers[i]);
+        i += 1;
+    }
+    next
+}
+
 // A space and a list of numbers.
 pub fn list(out: &mut [u8], at: usize, numbers: &[u64]) -> usize {
     let mut next = byte(out, at, b' ');

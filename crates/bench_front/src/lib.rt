@@ -7,13 +7,13 @@ use connection::Receiving;
 use connection::Sending;
 use connection::Settings;
 use connection::Talk;
-use connection::opening::open;
 use connection::parts::at;
 use connection::parts::changed;
 use connection::parts::with_receiving;
 use connection::parts::with_sending;
 use connection::parts::with_talk;
 use feeding::feed;
+use opening::open;
 use putting::put;
 use rows::Protocol;
 use sending::Made;
@@ -21,6 +21,7 @@ use sending::next_segment;
 use taking::take;
 use wire::instances::HANDSHAKE;
 use wire::instances::INSTANCES;
+use wire::instances::Party;
 use wire::instances::Side;
 
 // Every capacity, and the largest payload limit.
@@ -42,9 +43,9 @@ const ANSWERS: u64 = 8;
 // An opened connection whose Handshake ended in Accept and whose Block-Fetch streams; all else is in its first state.
 fn talking(side: Side, limit: u64, receive: &[u8], send: &[u8]) -> Connection {
     let caps = [CAPACITY; INSTANCES];
+    let party = Party { bundle: 0, side };
     let settings = Settings {
-        bundle: 0,
-        side,
+        party,
         limit,
         receive: caps,
         send: caps,

@@ -15,18 +15,22 @@ use Rattle.wire.specs.Instances.{known, instances}
 use Rattle.head.specs.Write.{shortest}
 use Rattle.rows.specs.declared.Protocol.{Protocol}
 use Rattle.rows.specs.Spoken.{speaks}
-use Rattle.messages.specs.declared.forms.Field.{Field}
+use Rattle.elements.specs.declared.Field.{Field}
 use Rattle.messages.specs.declared.forms.Listed.{Listed}
 use Rattle.messages.specs.declared.forms.Listed.the-variants.{Row, Unknown}
 use Rattle.messages.specs.Inside.{formAt, Finds}
-use Rattle.messages.specs.Matching.{array}
+use Rattle.elements.specs.Matching.{array}
 use Rattle.messages.proofs.FormLaws.{at-most}
-use Rattle.build.specs.declared.parts.Plan.{Plan}
-use Rattle.build.specs.Made.{onSome, made, encoded}
-use Rattle.build.specs.Building.{Told, told, allGiven, given, bytesOf, handed, buildOf}
-use Rattle.build.specs.Inside.{refusal, nothing, planned, planOf, bodyOf, wholeOf, madeBy, allHeads, HeadsAndRuns}
-use Rattle.build.proofs.Counting.{Found}
-use Rattle.build.proofs.LayoutLaws.{whole-long}
+use Rattle.parts.specs.declared.Plan.{Plan}
+use Rattle.parts.specs.Given.{allGiven}
+use Rattle.parts.specs.Counting.{onSome}
+use Rattle.parts.specs.Inside.{nothing, planned, planOf}
+use Rattle.parts.proofs.Counting.{Found}
+use Rattle.layout.specs.Inside.{bodyOf, wholeOf, allHeads}
+use Rattle.layout.proofs.LayoutLaws.{whole-long}
+use Rattle.build.specs.Made.{made, encoded}
+use Rattle.build.specs.Building.{told, given, bytesOf, handed, buildOf}
+use Rattle.build.specs.Inside.{refusal, madeBy, HeadsAndRuns}
 use Rattle.build.proofs.PlanLaws.{lent, plan-makes, plan-long, all-lent}
 
 -- ---- the message of a form
@@ -88,61 +92,45 @@ module _ (first second : List ℕ) (fs : List Field) (kind : ℕ) (args buf : Li
 
 -- ---- the parts of a form
 
-module _ (ns : List ℕ) (runs : ℕ) (first second : List ℕ) (kind : ℕ) (fs : List Field) (buf : List ℕ) (p : Plan)
+module _ (ns : List ℕ) (runs : ℕ) (first second : List ℕ) (kind : ℕ) (fs : List Field) (p : Plan)
     (e : planOf p ≡ planned ns runs first second fs 0 0 0 nothing) where
-  pub unplanned : p .made ≡ false → told (refusal 15) buf ≡ handed buf (madeBy ns runs first second fs kind)
+  pub unplanned : p .made ≡ false → madeBy ns runs first second fs kind ≡ none
   unfolding madeBy
   unplanned t = rw (← e, t)
 
   pub plan-is : p .made ≡ true → planned ns runs first second fs 0 0 0 nothing ≡ some (p .arguments)
   plan-is t = sym e ∙ rw t
 
-  pub planned-so : {x : Told} → p .made ≡ true → x ≡ handed buf (some (wholeOf first second fs kind (p .arguments)))
-      → x ≡ handed buf (madeBy ns runs first second fs kind)
+  pub planned-so : p .made ≡ true → some (wholeOf first second fs kind (p .arguments)) ≡ madeBy ns runs first second fs kind
   unfolding madeBy
-  planned-so t g = rw (plan-is t) g
+  planned-so t = rw (plan-is t)
 
 -- ---- a kind, and its row
 
-module _ (p : Protocol) (kind : ℕ) (ns : List ℕ) (runs : ℕ) (first second buf : List ℕ) where
-  abbrev message : Told
-  message = handed buf (bytesOf p kind ns runs first second)
+module _ (p : Protocol) (kind : ℕ) (ns : List ℕ) (runs : ℕ) (first second : List ℕ) where
+  abbrev message : Option (List ℕ)
+  message = bytesOf p kind ns runs first second
 
-  pub kind-not-given : allGiven runs first second ≡ false → told (refusal 15) buf ≡ message
+  pub kind-not-given : allGiven runs first second ≡ false → message ≡ none
   unfolding bytesOf given
   kind-not-given g = rw g
 
   module _ (g : allGiven runs first second ≡ true) {w : Listed} (found : Finds p kind w) where
-    pub kind-unknown : w ≡ Unknown → told (refusal 15) buf ≡ message
+    pub kind-unknown : w ≡ Unknown → message ≡ none
     unfolding bytesOf given encoded
     kind-unknown e = rw (g, subst (Finds p kind) e found)
 
-    pub kind-known : (row : ℕ) {x : Told} → w ≡ Row row → x ≡ handed buf (madeBy ns runs first second (formAt row .fields) kind) → x ≡ message
+    pub kind-known : (row : ℕ) → w ≡ Row row → madeBy ns runs first second (formAt row .fields) kind ≡ message
     unfolding bytesOf given encoded
-    kind-known row e h =
+    kind-known row e =
         let row-found : Finds p kind (Row row) = subst (Finds p kind) e found in
-        h
-        ∙ sym
+        sym
         (rw (g, row-found .1)
-        (ap (handed buf) (plan-whole ns runs first second kind (formAt row .fields) (at-most-two runs first second g)
-        (at-most row (row-found .0)))))
+        (plan-whole ns runs first second kind (formAt row .fields) (at-most-two runs first second g) (at-most row (row-found .0))))
 
 -- ---- the bundle, and its instance
 
-module _ (bundle instance kind : ℕ) (ns : List ℕ) (runs : ℕ) (first second buf : List ℕ) where
-  abbrev out : Told
-  out = buildOf bundle instance kind ns runs first second buf
-
-  pub build-no-bundle : known bundle ≡ false → told (refusal 23) buf ≡ out
-  unfolding buildOf
-  build-no-bundle k = rw k
-
-  pub build-above : known bundle ≡ true → instances bundle ≤ instance → told (refusal 10) buf ≡ out
-  unfolding buildOf
-  build-above k h = rw (k, le-ltb instance (instances bundle) h)
-
-  pub build-spoken : known bundle ≡ true → instance < instances bundle → {p : Protocol} {x : Told} → p ≡ speaks bundle instance
-      → x ≡ handed buf (bytesOf p kind ns runs first second) → x ≡ out
-  unfolding buildOf
-  build-spoken k low s e =
-      e ∙ ap (λ p. handed buf (bytesOf p kind ns runs first second)) s ∙ sym (rw (k, lt-ltb instance (instances bundle) low))
+pub build-spoken : (bundle instance kind : ℕ) (ns : List ℕ) (runs : ℕ) (first second buf : List ℕ) → known bundle ≡ true → instance < instances bundle
+    → handed buf (bytesOf (speaks bundle instance) kind ns runs first second) ≡ buildOf bundle instance kind ns runs first second buf
+unfolding buildOf
+build-spoken bundle instance kind ns runs first second buf k low = sym (rw (k, lt-ltb instance (instances bundle) low))

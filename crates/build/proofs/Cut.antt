@@ -13,8 +13,8 @@ use Rattle.head.specs.declared.read.Head.the-variants.{Definite}
 use Rattle.head.proofs.ReadLaws.{definite-within, head-front, head-behind}
 use Rattle.item.specs.Grammar.{Frame, Reads}
 use Rattle.item.proofs.Local.{shorter}
-use Rattle.messages.specs.Matching.{Stands, PairsAt, no-pair, pair, VersionsAt, no-version, version}
-use Rattle.messages.proofs.ElementLaws.{pairs-items, versions-items}
+use Rattle.elements.specs.Matching.{Stands, PairsAt, no-pair, pair, VersionsAt, no-version, version}
+use Rattle.elements.proofs.ElementLaws.{pairs-items, versions-items}
 
 -- the run from place a up to place e
 module _ (bs : List ℕ) (a e : ℕ) (h : a ≤ e) (l : e ≤ length bs) where

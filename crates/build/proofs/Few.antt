@@ -13,11 +13,12 @@ use Rattle.base.proofs.Conds.{cond-cases, and-left, and-right}
 use Rattle.rows.specs.declared.Protocol.{Protocol}
 use Rattle.rows.proofs.ByProtocol.{each-protocol}
 use Rattle.item.proofs.Derivative.{nothing}
-use Rattle.messages.specs.declared.forms.Field.{Field}
+use Rattle.elements.specs.declared.Field.{Field}
 use Rattle.messages.specs.Forms.{Form, forms, formIn, formOf}
-use Rattle.messages.specs.Matching.{Value, FieldAt, FieldsAt, no-field, a-field}
-use Rattle.messages.specs.Matching as matching
-use Rattle.build.specs.Made.{numeric}
+use Rattle.elements.specs.Matching.{Value, FieldAt}
+use Rattle.messages.specs.Matching.{FieldsAt, no-field, a-field}
+use Rattle.elements.specs.Matching as matching
+use Rattle.parts.specs.Given.{numeric}
 use Rattle.build.specs.Theorem.{runsOf}
 
 -- how many fields are given by runs

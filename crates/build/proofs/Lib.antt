@@ -1,14 +1,11 @@
 pub mod Shift
 pub mod Cut
-pub mod Counting
 pub mod Few
 pub mod MadeBytes
 pub mod Written
 pub mod Pieces
 pub mod Theorem
 pub mod Rebuilt
-pub mod PartLaws
-pub mod LayoutLaws
 pub mod PlanLaws
 pub mod BuildLaws
 pub mod NumberLaws

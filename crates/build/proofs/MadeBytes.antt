@@ -13,15 +13,17 @@ use Rattle.base.proofs.NumberLaws.{bytes-append}
 use Rattle.head.specs.Write.{shortest}
 use Rattle.head.proofs.WriteLaws.{shortest-bytes}
 use Rattle.rows.specs.declared.Protocol.{Protocol}
-use Rattle.messages.specs.declared.forms.Field.{Field}
-use Rattle.messages.specs.declared.forms.Field.the-variants as field
-use Rattle.messages.specs.declared.elements.End.{End}
-use Rattle.messages.specs.declared.elements.End.the-variants.{At, Nowhere}
+use Rattle.elements.specs.declared.Field.{Field}
+use Rattle.elements.specs.declared.Field.the-variants as field
+use Rattle.elements.specs.declared.End.{End}
+use Rattle.elements.specs.declared.End.the-variants.{At, Nowhere}
 use Rattle.messages.specs.Forms.{formOf}
-use Rattle.messages.specs.Matching.{array, map, words, versions, failures, inMessage}
-use Rattle.messages.specs.Reading.{onEnd, itemEnd}
-use Rattle.build.specs.Made.{onSome, elementsOf, nextItem, nextPair, nextVersion, headed, limited, truth, oneItem, ofNumber, ofRun, numeric, firstOf, allUsed, made, encoded}
-use Rattle.build.proofs.Counting.{Found, some-cases}
+use Rattle.elements.specs.Matching.{array, map, words, versions, failures, inMessage}
+use Rattle.elements.specs.Reading.{onEnd, itemEnd}
+use Rattle.parts.specs.Given.{numeric}
+use Rattle.parts.specs.Counting.{onSome, elementsOf, nextItem, nextPair, nextVersion}
+use Rattle.parts.proofs.Counting.{Found}
+use Rattle.build.specs.Made.{headed, limited, ofNumber, ofRun, firstOf, allUsed, made, encoded}
 
 -- ---- fields
 

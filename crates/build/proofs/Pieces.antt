@@ -1,7 +1,7 @@
 -- A message is made again of what it says: each number and run is taken, and no head of the same meaning is shorter than
 -- the one made.
 -- Assumes nothing.
-use Prim.Native.Nat.{ℕ, zero, suc, _+_, _-_, _≤_, _<_}
+use Prim.Native.Nat.{ℕ, _+_, _-_, _≤_, _<_}
 use mathlib.Core.Path.{_≡_, refl, sym, ap, _∙_}
 use mathlib.Core.Logic.{_↔_}
 use mathlib.Core.List.{List, [], _∷_, _++_}
@@ -19,59 +19,18 @@ use Rattle.head.specs.Write.{shortest}
 use Rattle.head.proofs.ReadLaws.{definite-within}
 use Rattle.head.proofs.WriteLaws.{none-shorter}
 use Rattle.rows.specs.declared.Protocol.{Protocol}
-use Rattle.messages.specs.declared.forms.Field.{Field}
-use Rattle.messages.specs.declared.elements.Number.{Number}
-use Rattle.messages.specs.declared.elements.Number.the-variants.{Is, Not}
-use Rattle.messages.specs.declared.elements.End.{End}
-use Rattle.messages.specs.Matching.{Value, number, place, ItemsAt, Opens, array, False, True, inMessage, inList, PairsAt, no-pair, pair, VersionsAt, no-version, version, FieldAt, FieldsAt, no-field, a-field, Matches}
-use Rattle.messages.specs.Matching as matching
-use Rattle.messages.specs.Reading.{onNumber, onEnd}
-use Rattle.messages.proofs.ElementLaws.{item-found, pair-found, version-found, ahead, no-items, first-item, pairs-items, versions-items}
-use Rattle.messages.proofs.Theorem.{field-item}
-use Rattle.build.specs.Made.{onSome, elementsOf, nextItem, nextPair, nextVersion, headed, limited, ofNumber, ofRun, made, encoded}
+use Rattle.elements.specs.declared.Field.{Field}
+use Rattle.elements.specs.Matching.{Value, number, place, Opens, array, False, True, FieldAt}
+use Rattle.messages.specs.Matching.{FieldsAt, no-field, a-field, Matches}
+use Rattle.elements.specs.Matching as matching
+use Rattle.elements.proofs.ElementLaws.{item-found, pairs-items, versions-items}
+use Rattle.elements.proofs.ElementLaws.{field-item}
+use Rattle.parts.specs.declared.runs.Element.the-variants as element
+use Rattle.parts.specs.Counting.{onSome}
+use Rattle.parts.proofs.Counted.{counts}
+use Rattle.build.specs.Made.{headed, limited, ofNumber, ofRun, made, encoded}
 use Rattle.build.specs.Theorem.{numbersOf, runsOf, Least, FieldLeast, FieldsLeast, OwnLeast}
 use Rattle.build.proofs.Cut.{stands-alone, pairs-alone, versions-alone}
-use Rattle.build.proofs.Counting.{count-found}
-
--- ---- the elements of a run are counted
-
-items-counted : (r : List ℕ) {k : ℕ} → ItemsAt r inList k 0 (length r) → elementsOf (nextItem r) r ≡ some k
-items-counted r {k} s =
-    count-found (nextItem r) (length r) (λ left k p. ItemsAt r inList k p (length r)) (λ left p s. no-items r s)
-    (λ left k p s.
-    let f = first-item r s in
-    (0, f .0, ap (λ (e : End). onEnd Not e (λ q. Is 0 q)) (item-found r (f .1)), ahead r (f .1), f .1 .inside, f .2))
-    k (length r) 0 0 s (omega arith)
-
-pairs-counted : (r : List ℕ) {k : ℕ} → PairsAt r k 0 (length r) → elementsOf (nextPair r) r ≡ some k
-pairs-counted r {k} s =
-    count-found (nextPair r) (length r) (λ left k p. PairsAt r k p (length r)) (λ left p s. none-left s) (λ left k p s. one-more left s)
-    k (length r) 0 0 s (omega arith)
-  where
-    none-left : {p : ℕ} → PairsAt r zero p (length r) → p ≡ length r
-    none-left no-pair = refl
-
-    one-more : (left : ℕ) {k p : ℕ} → PairsAt r (suc k) p (length r)
-        → (l : ℕ) × (q : ℕ) × (nextPair r left p ≡ Is l q) × (p < q) × (q ≤ length r) × PairsAt r k q (length r)
-    one-more left {p = p} (pair {b = b} {c = c} o i u less rest) =
-        let w = definite-within r p o in
-        let w′ = definite-within r b u in
-        (0, c, ap (λ (e : End). onEnd Not e (λ q. Is 0 q)) (pair-found r p o i u less), omega (arith, w .0, i .forward, w′ .0), w′ .1, rest)
-
-versions-counted : (r : List ℕ) {k : ℕ} → VersionsAt r 0 k 0 (length r) → elementsOf (nextVersion r) r ≡ some k
-versions-counted r {k} s =
-    count-found (nextVersion r) (length r) (λ low k p. VersionsAt r low k p (length r)) (λ low p s. none-left s) (λ low k p s. one-more s)
-    k (length r) 0 0 s (omega arith)
-  where
-    none-left : {low p : ℕ} → VersionsAt r low zero p (length r) → p ≡ length r
-    none-left no-version = refl
-
-    one-more : {low k p : ℕ} → VersionsAt r low (suc k) p (length r)
-        → (l : ℕ) × (q : ℕ) × (nextVersion r low p ≡ Is l q) × (p < q) × (q ≤ length r) × VersionsAt r l k q (length r)
-    one-more {low} {p = p} (version {v = v} {b = b} u l h i rest) =
-        let w = definite-within r p u in
-        let found = version-found r low p u l h i in
-        (v + 1, b, ap (λ (n : Number). onNumber Not n (λ v q. Is (v + 1) q)) found, omega (arith, w .0, i .forward), i .inside, rest)
 
 -- ---- pieces
 
@@ -161,14 +120,17 @@ module _ (bs : List ℕ) where
       let r : List ℕ = run bs p (q - p) in
       let n : ℕ = length r in
       (r, rw (item-found r (stands-alone bs p q (i .forward) (i .inside) i), eq-eqb n n refl), run-piece (i .forward) (i .inside) refl)
-  field-made bytes (matching.list {a = a} {q = q} o s) =
-      list-made bytes o (s .forward) (s .inside) (items-counted (run bs a (q - a)) (stands-alone bs a q (s .forward) (s .inside) s))
-  field-made bytes (matching.pairs {p = p} {a = a} {q = q} o s) =
+  field-made bytes (matching.list {k = k} {a = a} {q = q} o s) =
+      list-made bytes o (s .forward) (s .inside)
+      (counts element.Item (run bs a (q - a)) k .1 (stands-alone bs a q (s .forward) (s .inside) s))
+  field-made bytes (matching.pairs {p = p} {k = k} {a = a} {q = q} o s) =
       let i = pairs-items bs (definite-within bs p o .1) s in
-      list-made bytes o (i .forward) (i .inside) (pairs-counted (run bs a (q - a)) (pairs-alone bs a q (i .forward) (i .inside) s))
-  field-made bytes (matching.version-map {p = p} {a = a} {q = q} o s) =
+      list-made bytes o (i .forward) (i .inside)
+      (counts element.Pair (run bs a (q - a)) k .1 (pairs-alone bs a q (i .forward) (i .inside) s))
+  field-made bytes (matching.version-map {p = p} {k = k} {a = a} {q = q} o s) =
       let i = versions-items bs (definite-within bs p o .1) s in
-      list-made bytes o (i .forward) (i .inside) (versions-counted (run bs a (q - a)) (versions-alone bs a q (i .forward) (i .inside) s))
+      list-made bytes o (i .forward) (i .inside)
+      (counts element.Version (run bs a (q - a)) k .1 (versions-alone bs a q (i .forward) (i .inside) s))
   field-made bytes (matching.word u l) = number-made bytes u l
   field-made bytes (matching.false e) = (False ∷ [], refl, byte-piece False e (field-item bs (matching.false e) .inside))
   field-made bytes (matching.true e) = (True ∷ [], refl, byte-piece True e (field-item bs (matching.true e) .inside))

@@ -5,7 +5,6 @@ use mathlib.Core.Path.{_≡_, refl, sym, ap, subst, _∙_}
 use mathlib.Core.Bool.{Bool, true, false, true≢false, false≢true, cond, _&&_}
 use mathlib.Core.List.{List, [], _∷_, _++_, append-nil}
 use mathlib.Core.Option.{Option, none, some}
-use mathlib.Core.Logic.{_≢_}
 use native.Mathlib.Omega.{arith}
 use native.Mathlib.Numerals.{add-one}
 use lib.Dec.{eqb, ltb, leb}
@@ -15,17 +14,19 @@ use borrow.Author.Tests.{eqb-true, eqb-false, ltb-true, ltb-false, leb-true, eq-
 use Rattle.base.specs.Numbers.{octets}
 use Rattle.base.proofs.Conds.{by-test, cond-cases, so, is, and-left, and-right}
 use Rattle.head.specs.Write.{shortest}
-use Rattle.messages.specs.declared.forms.Field.{Field}
-use Rattle.messages.specs.declared.forms.Field.the-variants as field
-use Rattle.messages.specs.declared.elements.End.{End}
-use Rattle.messages.specs.declared.elements.End.the-variants.{At, Nowhere}
-use Rattle.messages.specs.Matching.{words, versions, failures, inMessage}
-use Rattle.messages.specs.Reading.{onEnd, itemEnd}
-use Rattle.build.specs.Made.{onSome, numeric, ofNumber, ofRun, allUsed, made}
-use Rattle.build.specs.Building.{allGiven, empty}
-use Rattle.build.specs.Inside.{numberArgument, runArgument, runAt, numberAfter, runAfter, numberAt, argumentOf, planned, nothing, headLength, tailOf, pieceOf, bodyOf, headsOf}
-use Rattle.build.proofs.Counting.{Found, some-cases}
-use Rattle.build.proofs.LayoutLaws.{piece-long}
+use Rattle.elements.specs.declared.Field.{Field}
+use Rattle.elements.specs.declared.Field.the-variants as field
+use Rattle.elements.specs.declared.End.{End}
+use Rattle.elements.specs.declared.End.the-variants.{At, Nowhere}
+use Rattle.elements.specs.Matching.{words, versions, failures, inMessage}
+use Rattle.elements.specs.Reading.{onEnd, itemEnd}
+use Rattle.parts.specs.Given.{numeric, allGiven, empty}
+use Rattle.parts.specs.Counting.{onSome}
+use Rattle.parts.specs.Inside.{numberArgument, runArgument, runAt, numberAfter, runAfter, numberAt, argumentOf, planned, nothing}
+use Rattle.parts.proofs.Counting.{Found, some-cases}
+use Rattle.layout.specs.Inside.{headLength, tailOf, pieceOf, bodyOf, headsOf}
+use Rattle.layout.proofs.LayoutLaws.{piece-long}
+use Rattle.build.specs.Made.{ofNumber, ofRun, allUsed, made}
 
 -- ---- one field
 

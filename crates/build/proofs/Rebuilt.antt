@@ -9,7 +9,7 @@ use native.Mathlib.Nat.{min-le-right}
 use lib.ListN.{length, drop, length-take, length-drop}
 use lib.Seq.{take-all}
 use Rattle.ring.specs.Ring.{run}
-use Rattle.messages.specs.Matching.{Value, number, place}
+use Rattle.elements.specs.Matching.{Value, number, place}
 use Rattle.build.specs.Theorem.{runsOf, numbersOf, Slices, Rebuilds}
 use Rattle.build.proofs.Pieces.{message-made}
 use Rattle.build.proofs.Theorem.{read-back}

@@ -11,7 +11,7 @@ use Rattle.head.specs.declared.read.Head.the-variants.{Definite}
 use Rattle.head.proofs.ReadLaws.{moved, cut-short, head-longer, head-moved}
 use Rattle.item.specs.Grammar.{Frame, Reads}
 use Rattle.item.proofs.Local.{longer}
-use Rattle.messages.specs.Matching.{Stands, PairsAt, no-pair, pair, VersionsAt, no-version, version}
+use Rattle.elements.specs.Matching.{Stands, PairsAt, no-pair, pair, VersionsAt, no-version, version}
 
 module _ (xs bs ys : List ℕ) where
   abbrev whole : List ℕ

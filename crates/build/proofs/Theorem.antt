@@ -12,12 +12,15 @@ use Rattle.head.specs.declared.read.Head.the-variants.{Definite}
 use Rattle.head.specs.Write.{shortest}
 use Rattle.head.proofs.WriteLaws.{reads-back}
 use Rattle.rows.specs.declared.Protocol.{Protocol}
-use Rattle.messages.specs.declared.forms.Field.{Field}
+use Rattle.elements.specs.declared.Field.{Field}
 use Rattle.messages.specs.Forms.{formOf}
-use Rattle.messages.specs.Matching.{Value, number, place, FieldsAt, no-field, a-field, Matches, array}
-use Rattle.build.specs.Made.{onSome, ofNumber, ofRun, numeric, firstOf, allUsed, made, encoded}
+use Rattle.elements.specs.Matching.{Value, number, place, array}
+use Rattle.messages.specs.Matching.{FieldsAt, no-field, a-field, Matches}
+use Rattle.parts.specs.Given.{numeric}
+use Rattle.parts.specs.Counting.{onSome}
+use Rattle.parts.proofs.Counting.{Found, some-cases}
+use Rattle.build.specs.Made.{ofNumber, ofRun, firstOf, allUsed, made, encoded}
 use Rattle.build.specs.Theorem.{numbersOf, runsOf, Slices, FieldsLeast, OwnLeast, ReadsBack}
-use Rattle.build.proofs.Counting.{Found, some-cases}
 use Rattle.build.proofs.Few.{Few, form-few}
 use Rattle.build.proofs.Written.{LeastAt, run-there, number-says, run-holds}
 

@@ -1,10 +1,10 @@
 -- A field that is made stands where it is put, says what it was made of, and has own heads as short as can be.
 -- Assumes nothing.
-use Prim.Native.Nat.{ℕ, suc, _+_, _-_, _^_, _≤_, _<_}
+use Prim.Native.Nat.{ℕ, _+_, _-_, _^_, _≤_, _<_}
 use mathlib.Core.Path.{_≡_, refl, sym, ap, subst, subst⁻¹, _∙_}
 use mathlib.Core.Bool.{Bool, true, false, cond}
 use mathlib.Core.List.{List, _∷_, _++_, append-assoc}
-use mathlib.Core.Option.{Option, none, some}
+use mathlib.Core.Option.{none, some}
 use native.Mathlib.Omega.{arith}
 use lib.Dec.{eqb, ltb}
 use lib.ListN.{length, take, length-append}
@@ -17,17 +17,21 @@ use Rattle.head.specs.declared.read.Head.the-variants.{Definite}
 use Rattle.head.specs.Write.{shortest}
 use Rattle.head.proofs.WriteLaws.{reads-back}
 use Rattle.item.specs.Grammar.{Frame}
-use Rattle.messages.specs.declared.forms.Field.{Field}
-use Rattle.messages.specs.declared.forms.Field.the-variants as field
-use Rattle.messages.specs.declared.elements.Number.the-variants.{Is}
-use Rattle.messages.specs.Matching.{Value, number, place, Stands, ItemAt, ItemsAt, Opens, UnsignedAt, array, map, versions, words, failures, False, True, inMessage, inList, PairsAt, no-pair, pair, VersionsAt, no-version, version, FieldAt}
-use Rattle.messages.specs.Matching as matching
-use Rattle.messages.specs.Reading.{itemEnd, pairEnd, versionAt}
-use Rattle.messages.proofs.ElementLaws.{end-cases, number-cases, Numbers, item-sound, pair-sound, version-sound, none-at, item-then, number-item}
-use Rattle.build.specs.Made.{elementsOf, nextItem, nextPair, nextVersion, oneItem, headed, limited, truth, ofNumber, ofRun}
+use Rattle.elements.specs.declared.Field.{Field}
+use Rattle.elements.specs.declared.Field.the-variants as field
+use Rattle.elements.specs.Matching.{Value, number, place, Stands, ItemAt, Opens, UnsignedAt, array, map, versions, words, failures, False, True, inMessage, PairsAt, VersionsAt, FieldAt}
+use Rattle.elements.specs.Matching as matching
+use Rattle.elements.specs.Reading.{itemEnd}
+use Rattle.elements.proofs.ElementLaws.{end-cases, item-sound}
+use Rattle.parts.specs.declared.runs.Element.{Element}
+use Rattle.parts.specs.declared.runs.Element.the-variants as element
+use Rattle.parts.specs.Counting.{countOf}
+use Rattle.parts.specs.Theorem.{Elements}
+use Rattle.parts.proofs.Counting.{Found, some-cases}
+use Rattle.parts.proofs.Counted.{counted}
+use Rattle.build.specs.Made.{oneItem, headed, limited, truth, ofNumber, ofRun}
 use Rattle.build.specs.Theorem.{Least, FieldLeast}
 use Rattle.build.proofs.Shift.{shift, pairs-shift, versions-shift}
-use Rattle.build.proofs.Counting.{Found, some-cases, count-sound, count-small}
 
 -- a field stands there, and its own heads are as short as can be
 abbrev pub LeastAt : List ℕ → Field → ℕ → Value → ℕ → Type 0
@@ -127,18 +131,14 @@ headed-holds f major r k low small here xs ys =
       ap (λ (bs : List ℕ). run bs a l) (sym same) ∙ run-there (xs ++ h) r ys l (omega arith),
     )
 
-found-both : {A : Type 0} (R S : A → Type 0) (o : Option A) → Found R o → Found S o → Found (λ a. R a × S a) o
-found-both R S none r s = tt
-found-both R S (some a) r s = (r, s)
-
--- a list or map whose elements stand in the run: R says so, and then the field stands behind its head
-list-holds : (f : Field) (major : ℕ) (r : List ℕ) (R : ℕ → Type 0) (o : Option ℕ) → major < 7 → length r < 2 ^ 64
-    → Found R o → Found (λ k. k ≤ length r) o
-    → ((k : ℕ) (xs ys : List ℕ) (p : ℕ) → R k → Opens (xs ++ (r ++ ys)) major p k (length xs) → Least (xs ++ (r ++ ys)) major k p (length xs)
+-- a list or map whose elements stand in the run, where the field then stands behind its head
+list-holds : (f : Field) (major : ℕ) (e : Element) (r : List ℕ) → major < 7 → length r < 2 ^ 64
+    → ((k : ℕ) (xs ys : List ℕ) (p : ℕ) → Elements e r 0 k 0 → Opens (xs ++ (r ++ ys)) major p k (length xs)
+    → Least (xs ++ (r ++ ys)) major k p (length xs)
     → LeastAt (xs ++ (r ++ ys)) f p (place (length xs) (length xs + length r - length xs)) (length xs + length r))
-    → Found (Holds f r) (headed major r o)
-list-holds f major r R o low small s few here =
-    some-cases (Found (Holds f r)) (λ k. some (shortest major k ++ r)) o (found-both R (λ k. k ≤ length r) o s few) tt
+    → Found (Holds f r) (headed major r (countOf e r))
+list-holds f major e r low small here =
+    some-cases (Found (Holds f r)) (λ k. some (shortest major k ++ r)) (countOf e r) (counted e r) tt
     (λ k (x, h). headed-holds f major r k low (omega arith) (λ xs ys p o s. here k xs ys p x o s))
 
 -- from the front of the run to its end, in the whole
@@ -147,47 +147,17 @@ at-front xs r ys {d} {g} s =
     let z : length xs + 0 ≡ length xs = omega arith in
     subst (λ (n : ℕ). Stands (xs ++ (r ++ ys)) d g n (length xs + length r)) z (shift xs r ys s)
 
-items-count : (r : List ℕ) → Found (λ k. ItemsAt r inList k 0 (length r)) (elementsOf (nextItem r) r)
-items-count r =
-    count-sound (nextItem r) (length r) (λ left k p n. ItemsAt r inList k p n) (λ left p l q. ItemAt r inList p q)
-    (λ left p h.
-    end-cases (Numbers (λ l q. ItemAt r inList p q × (q ≤ length r))) (λ q. Is 0 q) (itemEnd r inList p) (item-sound r inList p h) tt
-    (λ q i. (i, i .inside)))
-    (λ left. none-at r (omega arith)) (λ left p l q k s rest. item-then r s rest) (length r) 0 0 (omega arith)
-
-pairs-count : (r : List ℕ) → Found (λ k. PairsAt r k 0 (length r)) (elementsOf (nextPair r) r)
-pairs-count r =
-    let S : ℕ → ℕ → ℕ → ℕ → Type 0 = λ left p l q. (k : ℕ) → PairsAt r k q (length r) → PairsAt r (suc k) p (length r) in
-    count-sound (nextPair r) (length r) (λ left k p n. PairsAt r k p n) S
-    (λ left p h.
-    end-cases (Numbers (λ l q. S left p l q × (q ≤ length r))) (λ q. Is 0 q) (pairEnd r p) (pair-sound r p) tt
-    (λ q (a, o, (b, i, (v, u, l))). (λ k rest. pair o i u l rest, number-item r {d = 0} u .inside)))
-    (λ left. no-pair) (λ left p l q k s rest. s k rest) (length r) 0 0 (omega arith)
-
-versions-count : (r : List ℕ) → Found (λ k. VersionsAt r 0 k 0 (length r)) (elementsOf (nextVersion r) r)
-versions-count r =
-    let S : ℕ → ℕ → ℕ → ℕ → Type 0 = λ low p l q. (k : ℕ) → VersionsAt r l k q (length r) → VersionsAt r low (suc k) p (length r) in
-    count-sound (nextVersion r) (length r) (λ low k p n. VersionsAt r low k p n) S
-    (λ low p h.
-    number-cases (Numbers (λ l q. S low p l q × (q ≤ length r))) (λ v q. Is (v + 1) q) (versionAt r low p) (version-sound r low p) tt
-    (λ v q (a, (u, l, l′), i). (λ k rest. version u l l′ i rest, i .inside)))
-    (λ low. no-version) (λ low p l q k s rest. s k rest) (length r) 0 0 (omega arith)
-
 pub run-holds : (f : Field) (r : List ℕ) → length r < 2 ^ 64 → Found (Holds f r) (ofRun f r)
 run-holds field.Item r small = item-holds r
 run-holds field.Items r small =
-    list-holds field.Items array r (λ k. ItemsAt r inList k 0 (length r)) (elementsOf (nextItem r) r) (omega arith) small (items-count r)
-    (count-small (nextItem r) (length r) (length r) 0 0)
-    (λ k xs ys p s o t. (matching.list o (at-front xs r ys s), t))
+    list-holds field.Items array element.Item r (omega arith) small (λ k xs ys p s o t. (matching.list o (at-front xs r ys s), t))
 run-holds field.Pairs r small =
-    list-holds field.Pairs array r (λ k. PairsAt r k 0 (length r)) (elementsOf (nextPair r) r) (omega arith) small (pairs-count r)
-    (count-small (nextPair r) (length r) (length r) 0 0)
+    list-holds field.Pairs array element.Pair r (omega arith) small
     (λ k xs ys p s o t.
     let z : length xs + 0 ≡ length xs = omega arith in
     (matching.pairs o (subst (λ (n : ℕ). PairsAt (xs ++ (r ++ ys)) k n (length xs + length r)) z (pairs-shift xs r ys s)), t))
 run-holds field.Versions r small =
-    list-holds field.Versions map r (λ k. VersionsAt r 0 k 0 (length r)) (elementsOf (nextVersion r) r) (omega arith) small (versions-count r)
-    (count-small (nextVersion r) (length r) (length r) 0 0)
+    list-holds field.Versions map element.Version r (omega arith) small
     (λ k xs ys p s o t.
     let z : length xs + 0 ≡ length xs = omega arith in
     (matching.version-map o (subst (λ (n : ℕ). VersionsAt (xs ++ (r ++ ys)) 0 k n (length xs + length r)) z (versions-shift xs r ys s)), t))

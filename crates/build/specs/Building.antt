@@ -1,16 +1,18 @@
 -- Build (document 01, "CBOR" and "Numbers and their order": 10; 15; 18; document 02, K1: 23 for an unknown bundle).
 use Prim.Native.Nat.{ℕ}
-use mathlib.Core.Bool.{Bool, cond, _&&_, _||_}
+use mathlib.Core.Bool.{cond}
 use mathlib.Core.List.{List, [], _∷_}
 use mathlib.Core.Option.{Option, none, some}
-use lib.Dec.{eqb, ltb, leb}
+use lib.Dec.{ltb}
 use lib.ListN.{length, take}
 use lib.Seq.{sets}
 use Rattle.wire.specs.Instances.{known, instances}
 use Rattle.rows.specs.declared.Protocol.{Protocol}
 use Rattle.rows.specs.Spoken.{speaks}
+use Rattle.parts.specs.Given.{allGiven}
+use Rattle.parts.specs.Counting.{onSome}
 use Rattle.build.specs.declared.Built.{Built}
-use Rattle.build.specs.Made.{onSome, encoded}
+use Rattle.build.specs.Made.{encoded}
 
 -- an answer, and what the lent buffer then holds
 pub record Told : Type 0 where
@@ -23,14 +25,6 @@ told b buf = record { answer = b; buffer = buf }
 -- a refusal writes nothing
 abbrev pub refused : List ℕ → ℕ → Told
 refused buf n = told (record { number = n; len = 0 }) buf
-
--- a run of no bytes
-abbrev pub empty : List ℕ → Bool
-empty run = eqb (length run) 0
-
--- at most two runs are given, since no form has more, and a run above their count is empty
-abbrev pub allGiven : ℕ → List ℕ → List ℕ → Bool
-allGiven runs first second = leb runs 2 && ((leb 1 runs || empty first) && (leb 2 runs || empty second))
 
 -- the runs given: none, the first, or both
 unfoldable pub given : ℕ → List ℕ → List ℕ → Option (List (List ℕ))

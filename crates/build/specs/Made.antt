@@ -1,43 +1,21 @@
 -- What build makes of a kind, numbers and runs (document 01, "CBOR"): own heads as short as can be, runs byte for byte.
-use Prim.Native.Nat.{ℕ, zero, suc, _+_}
-use mathlib.Core.Bool.{Bool, true, false, cond}
+use Prim.Native.Nat.{ℕ, _+_}
+use mathlib.Core.Bool.{Bool, cond}
 use mathlib.Core.List.{List, [], _∷_, _++_}
 use mathlib.Core.Option.{Option, none, some}
 use lib.Dec.{eqb, ltb}
 use lib.ListN.{length}
 use Rattle.head.specs.Write.{shortest}
 use Rattle.rows.specs.declared.Protocol.{Protocol}
-use Rattle.messages.specs.declared.forms.Field.{Field}
-use Rattle.messages.specs.declared.forms.Field.the-variants as field
-use Rattle.messages.specs.declared.elements.Number.{Number}
-use Rattle.messages.specs.declared.elements.Number.the-variants.{Is, Not}
+use Rattle.elements.specs.declared.Field.{Field}
+use Rattle.elements.specs.declared.Field.the-variants as field
 use Rattle.messages.specs.Forms.{formOf}
-use Rattle.messages.specs.Matching.{array, map, versions, words, failures, False, True, inMessage, inList}
-use Rattle.messages.specs.Reading.{onNumber, onEnd, itemEnd, pairEnd, versionAt}
-
-abbrev pub onSome : {A B : Type 0} → Option A → (A → Option B) → Option B
-onSome none k = none
-onSome (some a) k = k a
-
--- How many elements stand end to end from place p up to place n: each is passed by `next`, which is told what the one
--- before left. There are no more of them than bytes.
-unfoldable pub howMany : (ℕ → ℕ → Number) → ℕ → ℕ → ℕ → ℕ → Option ℕ
-howMany next n zero left p = cond (eqb p n) (some 0) none
-howMany next n (suc bytes) left p =
-    cond (eqb p n) (some 0) (onNumber none (next left p) (λ l q. onSome (howMany next n bytes l q) (λ k. some (k + 1))))
-
-abbrev pub elementsOf : (ℕ → ℕ → Number) → List ℕ → Option ℕ
-elementsOf next run = howMany next (length run) (length run) 0 0
-
--- A list's run is its items end to end, or its pairs; a map's its keys and values, where a key is above the one before.
-abbrev pub nextItem : List ℕ → ℕ → ℕ → Number
-nextItem run left p = onEnd Not (itemEnd run inList p) (λ q. Is 0 q)
-
-abbrev pub nextPair : List ℕ → ℕ → ℕ → Number
-nextPair run left p = onEnd Not (pairEnd run p) (λ q. Is 0 q)
-
-abbrev pub nextVersion : List ℕ → ℕ → ℕ → Number
-nextVersion run low p = onNumber Not (versionAt run low p) (λ v q. Is (v + 1) q)
+use Rattle.elements.specs.Matching.{array, map, versions, words, failures, False, True, inMessage}
+use Rattle.elements.specs.Reading.{onEnd, itemEnd}
+use Rattle.parts.specs.Given.{numeric}
+use Rattle.parts.specs.Counting.{onSome, elementsOf, nextItem, nextPair, nextVersion}
+-- How many elements a run has is said in `parts`; who computes with what is made unfolds it too.
+unfoldable pub use Rattle.parts.specs.Counting.{howMany}
 
 -- An item's run is exactly one item.
 abbrev pub oneItem : List ℕ → Option (List ℕ)
@@ -74,17 +52,6 @@ ofRun field.Word run = none
 ofRun field.Bool run = none
 ofRun field.Version run = none
 ofRun field.Failure run = none
-
--- A field is given by a number, or by a run.
-abbrev pub numeric : Field → Bool
-numeric field.Item = false
-numeric field.Items = false
-numeric field.Pairs = false
-numeric field.Versions = false
-numeric field.Word = true
-numeric field.Bool = true
-numeric field.Version = true
-numeric field.Failure = true
 
 -- The bytes of the fields, each from the next number or the next run; nothing is left over.
 abbrev pub firstOf : {A : Type 0} → List A → (A → List A → Option (List ℕ)) → Option (List ℕ)

@@ -11,7 +11,8 @@ use Rattle.base.specs.Numbers.{Bytes}
 use Rattle.wire.specs.Instances.{known, instances}
 use Rattle.rows.specs.declared.Protocol.{Protocol}
 use Rattle.rows.specs.Spoken.{speaks}
-use Rattle.messages.specs.Matching.{Value, Matches}
+use Rattle.elements.specs.Matching.{Value}
+use Rattle.messages.specs.Matching.{Matches}
 use Rattle.build.specs.declared.Built.{Built}
 use Rattle.build.specs.Building.{told, given, bytesOf, buildOf}
 use Rattle.build.specs.Theorem.{numbersOf, runsOf, OwnLeast}

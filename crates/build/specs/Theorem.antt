@@ -9,9 +9,10 @@ use Rattle.base.specs.Numbers.{Bytes}
 use Rattle.ring.specs.Ring.{run}
 use Rattle.head.specs.Write.{shortest}
 use Rattle.rows.specs.declared.Protocol.{Protocol}
-use Rattle.messages.specs.declared.forms.Field.{Field}
-use Rattle.messages.specs.Matching.{Value, number, place, array, map, FieldAt, FieldsAt, no-field, a-field, Matches}
-use Rattle.messages.specs.Matching as matching
+use Rattle.elements.specs.declared.Field.{Field}
+use Rattle.elements.specs.Matching.{Value, number, place, array, map, FieldAt}
+use Rattle.messages.specs.Matching.{FieldsAt, no-field, a-field, Matches}
+use Rattle.elements.specs.Matching as matching
 use Rattle.build.specs.Made.{encoded}
 
 -- The numbers of the values, and the bytes at the places, in their order.

@@ -2,9 +2,6 @@
 //
 // One equation says the answer and every byte of the lent buffer, on every input. The specs also say that what is made
 // of parts reads back as the message that says them.
-mod layout;
-mod parts;
-
 use messages::forms::Listed;
 use messages::forms::MOST_FIELDS;
 use rows::Protocol;
@@ -13,8 +10,10 @@ ghost use mathlib.Core.Bool.{true};
 ghost use mathlib.Core.Option.{some};
 ghost use Prim.Native.Nat.{_<_};
 ghost use Rattle.messages.specs.Inside.{formCount, formAt};
-ghost use Rattle.build.specs.Building.{told, allGiven, bytesOf, handed, buildOf};
-ghost use Rattle.build.specs.Inside.{refusal, wholeOf, HeadsAndRuns, madeBy};
+ghost use Rattle.parts.specs.Given.{allGiven};
+ghost use Rattle.layout.specs.Inside.{wholeOf};
+ghost use Rattle.build.specs.Building.{told, bytesOf, handed, buildOf};
+ghost use Rattle.build.specs.Inside.{refusal, HeadsAndRuns, madeBy};
 
 // The number; where it is 0, how long the message is.
 pub struct Built {

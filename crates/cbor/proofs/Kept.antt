@@ -3,7 +3,7 @@
 use Prim.Native.Nat.{ℕ, zero, suc, _+_, _-_, _≤_}
 use mathlib.Core.List.{List, [], _++_, append-nil, append-assoc}
 use mathlib.Core.Path.{_≡_, refl, sym, ap, ap₂, subst, subst⁻¹, _∙_}
-use lib.ListN.{drop, getD, replicate}
+use lib.ListN.{drop, replicate}
 use native.Mathlib.Omega.{arith}
 use Rattle.base.proofs.ListLaws.{zeros}
 use Rattle.item.specs.declared.Verdict.{Verdict}
@@ -12,8 +12,9 @@ use Rattle.item.specs.Verdict.{Stack, nil, push, judge, start, verdict, headsOf
 use Rattle.item.proofs.Derivative.{Rest, then}
 use Rattle.item.proofs.Parts.{judge-same}
 use Rattle.cbor.specs.declared.Walk.{Walk}
-use Rattle.cbor.specs.Walk.{frameOf, levels, stackOf, tell, comes, Sound, Resumed, firstAt}
-use Rattle.cbor.proofs.Tell.{pair, tell-one, tell-empty}
+use Rattle.moves.specs.Levels.{frameOf, tell}
+use Rattle.cbor.specs.Walk.{levels, stackOf, comes, Sound, Resumed, firstAt}
+use Rattle.moves.proofs.Tell.{pair, tell-one, tell-empty}
 
 pub first-sound : (at d : ℕ) → Sound (firstAt at d)
 unfolding firstAt
@@ -90,7 +91,6 @@ kept-told xs w u v r k =
     (ap (λ (t : Verdict × ℕ). t .0) e, ap (λ (t : Verdict × ℕ). t .1) e)
 
 -- The verdict of a walk from its beginning.
-pub first-told : (xs : List ℕ) (at d : ℕ) (w u : Walk) (v : Verdict) → d ≤ nesting → w ≡ firstAt at d → Resumed xs w v u
+pub first-told : (xs : List ℕ) (at d n : ℕ) (v : Verdict) → d ≤ nesting → _≡_ {A = Verdict × ℕ} (v, n) (comes xs (firstAt at d))
     → v ≡ judge (drop at xs) at (start d)
-first-told xs at d w u v h e r =
-    ap (λ (t : Verdict × ℕ). t .0) (r .told) ∙ ap (λ (w : Walk). comes xs w .0) e ∙ first-verdict xs at d h
+first-told xs at d n v h e = ap (λ (t : Verdict × ℕ). t .0) e ∙ first-verdict xs at d h

@@ -1,46 +1,29 @@
 -- A walk from head to head: where it is comes to what it began with comes to, whatever bytes come after.
 -- Assumes nothing.
-use Prim.Native.Nat.{ℕ, zero, suc, _+_, _-_, _^_, _≤_, _<_}
+use Prim.Native.Nat.{ℕ, zero, suc, _+_, _-_, _≤_, _<_}
 use mathlib.Core.List.{List, [], _++_, append-nil}
 use mathlib.Core.Bool.{Bool, true, false}
 use mathlib.Core.Path.{_≡_, refl, sym, ap, ap₂, subst, _∙_}
-use lib.Dec.{eqb, ltb}
+use lib.Dec.{eqb}
 use lib.ListN.{length, getD, set, length-append, length-set}
 use lib.Seq.{getD-set-same, getD-set-other}
 use native.Mathlib.Omega.{arith}
 use native.Mathlib.Numerals.{add-one}
-use borrow.Author.Tests.{eqb-true, eqb-false, ltb-true, ltb-false}
+use borrow.Author.Tests.{eqb-true, eqb-false}
 use Rattle.item.specs.declared.Verdict.{Verdict}
 use Rattle.item.specs.declared.Verdict.the-variants.{Whole, Bad, Incomplete}
-use Rattle.item.specs.Grammar.{Frame, Content, nesting}
+use Rattle.item.specs.Grammar.{Content, nesting}
 use Rattle.item.specs.Verdict.{Stack, push}
-use Rattle.cbor.specs.declared.Level.{Level}
+use Rattle.moves.specs.declared.Level.{Level}
 use Rattle.cbor.specs.declared.Walk.{Walk}
-use Rattle.cbor.specs.Walk.{frameOf, levels, stackOf, tell, comes, Good, Outer, Sound, Resumed, walkOf}
-use Rattle.cbor.specs.Inside.Frames.{breakable}
-use Rattle.cbor.specs.declared.Move.{Move}
-use Rattle.cbor.specs.declared.Move.the-variants.{Stay, Down, Skip, Fault, Lack}
-use Rattle.cbor.specs.declared.Quick.{Quick}
-use Rattle.cbor.specs.declared.Quick.the-variants.{Past, Asks, Opens, Ends}
-use Rattle.cbor.specs.Inside.Moves.{Stays, Downs, Skips, Stops, Moves, Passes, Enters, Breaks, Quickly}
-use Rattle.cbor.proofs.Tell.{tell-nil, tell-none, tell-empty, tell-content, tell-string, tell-starved}
-use Rattle.cbor.proofs.Frames.{level-wants, level-less}
-use Rattle.cbor.proofs.AnyHead.{ends}
+use Rattle.moves.specs.Levels.{frameOf, tell, Good}
+use Rattle.cbor.specs.Walk.{levels, stackOf, comes, Outer, Sound, Resumed, walkOf}
+use Rattle.moves.specs.declared.Move.{Move}
+use Rattle.moves.specs.declared.Move.the-variants.{Stay, Down, Skip, Fault, Lack}
+use Rattle.moves.specs.Inside.Moves.{Stays, Downs, Skips, Stops, Moves}
+use Rattle.moves.proofs.Tell.{tell-nil, tell-none, tell-empty, tell-content, tell-string, tell-starved}
 
 -- What was promised of an answer, by what the answer is.
-module _ {xs : List ℕ} {at : ℕ} (d : ℕ) {q : Quick} (h : Quickly xs at d q) where
-  pub if-past : {p : ℕ} → q ≡ Past p → Passes xs at d p
-  if-past e = subst (Quickly xs at d) e h
-
-  pub if-asks : {p c : ℕ} → q ≡ Asks p c → Enters xs at d p 0 c
-  if-asks e = subst (Quickly xs at d) e h
-
-  pub if-opens : {p k : ℕ} → q ≡ Opens p k → Enters xs at d p k (2 ^ 63)
-  if-opens e = subst (Quickly xs at d) e h
-
-  pub if-ends : {p : ℕ} → q ≡ Ends p → Breaks xs at p
-  if-ends e = subst (Quickly xs at d) e h
-
 module _ {xs : List ℕ} {at k c d : ℕ} {m : Move} (h : Moves xs at k c d m) where
   pub if-stay : {p : ℕ} {l : Level} → m ≡ Stay p l → Stays xs at k c d p l
   if-stay e = subst (Moves xs at k c d) e h
@@ -65,20 +48,34 @@ now : {xs : List ℕ} {w : Walk} {at h k c d : ℕ} {ks cs : List ℕ} → Under
 now {xs} {w} {at} {h} {k} {c} {d} {ks} {cs} u =
     subst (λ (zs : List ℕ). tell zs at h (push (nesting - d) (frameOf k c) (levels ks cs d)) ≡ comes zs w) (append-nil xs) (u .same [])
 
--- The rest of a string is there, or not all of it.
-pub starts : (xs : List ℕ) (w : Walk) → Sound w → w .at ≤ length xs → w .skip ≤ length xs - w .at
-    → Under xs w (w .at + w .skip) (w .heads) (w .kind) (w .count) (w .depth) (w .kinds) (w .counts)
+-- A walk that has nothing to skip is under way.
+pub begins : (xs : List ℕ) (at h k c d : ℕ) (ks cs : List ℕ) → Sound (walkOf at 0 h k c d ks cs) → at ≤ length xs
+    → Under xs (walkOf at 0 h k c d ks cs) at h k c d ks cs
 unfolding stackOf
-starts xs w s a l =
-    let f = s .few in
+begins xs at h k c d ks cs s a =
     record {
-      place = omega arith;
-      few = omega arith;
+      place = a;
+      few = s .few;
       good = s .good;
       outer = s .outer;
-      same = λ ys.
-          sym (tell-string (xs ++ ys) (w .at) (w .heads) (w .skip) 0
-          (push (nesting - w .depth) (frameOf (w .kind) (w .count)) (levels (w .kinds) (w .counts) (w .depth))) (omega (arith, length-append xs ys)));
+      same = λ ys. sym (tell-empty (xs ++ ys) at h 0 (push (nesting - d) (frameOf k c) (levels ks cs d)));
+    }
+
+-- The rest of a string is there, and the walk goes on after it; or not all of it is there.
+past-string : (zs : List ℕ) (at h n : ℕ) (fs : Stack) → n ≤ length zs - at
+    → tell zs (at + n) h (push 0 (Content 0) fs) ≡ tell zs at h (push 0 (Content n) fs)
+past-string zs at h n fs l = tell-empty zs (at + n) h 0 fs ∙ sym (tell-string zs at h n 0 fs l)
+
+pub starts : (xs : List ℕ) (w u : Walk) (v : Verdict) → w .skip ≤ length xs - w .at
+    → Resumed xs (walkOf (w .at + w .skip) 0 (w .heads) (w .kind) (w .count) (w .depth) (w .kinds) (w .counts)) v u → Resumed xs w v u
+unfolding stackOf
+starts xs w u v l r =
+    let fs : Stack = push (nesting - w .depth) (frameOf (w .kind) (w .count)) (levels (w .kinds) (w .counts) (w .depth)) in
+    record {
+      told = r .told ∙ past-string xs (w .at) (w .heads) (w .skip) fs l;
+      more = λ ys. r .more ys ∙ past-string (xs ++ ys) (w .at) (w .heads) (w .skip) fs (omega (arith, length-append xs ys));
+      place = r .place;
+      sound = r .sound;
     }
 
 pub starts-cut : (xs : List ℕ) (w : Walk) (n r : ℕ) → length xs ≡ n → Sound w → w .at ≤ n → n - w .at < w .skip → r ≡ w .skip - (n - w .at)
@@ -130,14 +127,6 @@ set-each ks d k h l e i q = of (eqb i d) refl
     of : (t : Bool) → eqb i d ≡ t → getD (set ks d k) i 0 < 4
     of true p = let z : i ≡ d = eqb-true i d p in rw (z, getD-set-same ks d k 0 h) l
     of false p = let z : i ≡ d → ⊥ = eqb-false i d p in rw (getD-set-other ks d i k 0 z) (e i (omega arith))
-
--- a level that has a count is of items
-pub counted : (k c d : ℕ) → Good k c d → 0 < c → k < 4
-counted k c d g h = of (ltb k 4) refl
-  where
-    of : (t : Bool) → ltb k 4 ≡ t → k < 4
-    of true q = ltb-true _ _ q
-    of false q = let z : c ≡ 0 = g .none (ltb-false _ _ q) in absurd (omega arith)
 
 module _ {xs : List ℕ} {w : Walk} {at h k c d : ℕ} {ks cs : List ℕ} (u : Under xs w at h k c d ks cs) where
   -- The level becomes another; one is opened within it; it is spent.
@@ -229,44 +218,3 @@ module _ {xs : List ℕ} {w : Walk} {at h k c d : ℕ} {ks cs : List ℕ} (u : U
         place = omega arith;
         sound = record { few = omega arith; good = m .good; outer = u .outer };
       }
-
-  -- The usual heads, at a level that has a count: one is passed; one opens a level; one is a break.
-  pub passes : {p : ℕ} → 0 < c → Passes xs at d p → Under xs w p (h + 1) k (c - 1) d ks cs
-  passes {p} z q =
-      let g = u .good in
-      let b = counted k c d g z in
-      stays
-      (record {
-        on = q .on;
-        inside = q .inside;
-        good = record { tall = g .tall; low = λ a m. g .low a (omega arith); none = λ a. absurd (omega arith) };
-        same = λ ys fs n.
-            q .same (frameOf k c) (level-wants k c b (omega arith)) ys fs n
-            ∙ ap (λ (f : Frame). tell (xs ++ ys) p (n + 1) (push (nesting - d) f fs)) (sym (level-less k c z));
-      })
-
-  pub enters : {p i j : ℕ} → 0 < c → Enters xs at d p i j → Under xs w p (h + 1) i j (d + 1) (set ks d k) (set cs d (c - 1))
-  enters {p} {i} {j} z q =
-      let b = counted k c d (u .good) z in
-      let r = q .room in
-      let y = q .items in
-      downs
-      (record {
-        on = q .on;
-        inside = q .inside;
-        items = b;
-        room = omega arith;
-        good = record { tall = omega arith; low = λ a m. omega arith; none = λ a. absurd (omega arith) };
-        same = λ ys fs n.
-            q .same (frameOf k c) (level-wants k c b (omega arith)) ys fs n
-            ∙ ap (λ (f : Frame). tell (xs ++ ys) p (n + 1) (push (nesting - (d + 1)) (frameOf i j) (push (nesting - d) f fs)))
-            (sym (level-less k c z));
-      })
-
-  pub breaks-off : {p : ℕ} → 0 < c → Breaks xs at p → breakable (frameOf k c) ≡ true → Under xs w p (h + 1) 0 0 d ks cs
-  breaks-off {p} z q t =
-      let i = q .inside in
-      let e = q .next in
-      stays
-      (subst (λ (n : ℕ). Stays xs at k c d n (record { kind = 0; count = 0 })) (sym e)
-      (ends xs at k c d (omega arith) (omega arith) (u .good) (q .is) t))

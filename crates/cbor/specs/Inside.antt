@@ -1,3 +1,1 @@
-pub mod Frames
-pub mod Moves
-pub mod Pieces
+pub mod Stops

@@ -1,23 +1,13 @@
 -- What a walk under way stands for, and what taking it up again gives.
-use Prim.Native.Nat.{ℕ, zero, suc, _+_, _-_, _^_, _≤_, _<_, _%_}
+use Prim.Native.Nat.{ℕ, zero, suc, _+_, _-_, _≤_, _<_}
 use mathlib.Core.List.{List, _++_}
-use mathlib.Core.Bool.{true, false, cond}
 use mathlib.Core.Path.{_≡_}
-use lib.Dec.{eqb}
-use lib.ListN.{length, drop, getD, replicate}
+use lib.ListN.{length, getD, replicate}
 use Rattle.item.specs.declared.Verdict.{Verdict}
-use Rattle.item.specs.Grammar.{Frame, Items, Elements, Pairs, Value, Chunks, Content, nesting}
-use Rattle.item.specs.Verdict.{Stack, nil, push, judge, heads}
+use Rattle.item.specs.Grammar.{Content, nesting}
+use Rattle.item.specs.Verdict.{Stack, nil, push}
+use Rattle.moves.specs.Levels.{frameOf, tell, Good}
 use Rattle.cbor.specs.declared.Walk.{Walk}
-
--- What a level wants, by its kind and its count.
-abbrev pub frameOf : ℕ → ℕ → Frame
-frameOf zero c = Items c
-frameOf (suc zero) c = Items (c + 2 ^ 64)
-frameOf (suc (suc zero)) c = Elements
-frameOf (suc (suc (suc zero))) c = cond (eqb (c % 2) 0) Pairs Value
-frameOf (suc (suc (suc (suc zero)))) c = Chunks false
-frameOf (suc (suc (suc (suc (suc k))))) c = Chunks true
 
 -- The levels around: the i-th, the outermost being 0, is within a nesting that is i less.
 unfoldable pub levels : List ℕ → List ℕ → ℕ → Stack
@@ -29,19 +19,9 @@ unfoldable pub stackOf : Walk → Stack
 stackOf w =
     push 0 (Content (w .skip)) (push (nesting - w .depth) (frameOf (w .kind) (w .count)) (levels (w .kinds) (w .counts) (w .depth)))
 
--- The verdict on the bytes xs, and the number of complete heads in them, from a place on, with h heads before it.
-abbrev pub tell : List ℕ → ℕ → ℕ → Stack → Verdict × ℕ
-tell xs at h fs = (judge (drop at xs) at fs, h + heads (drop at xs) fs)
-
 -- What a walk comes to on the bytes xs.
 abbrev pub comes : List ℕ → Walk → Verdict × ℕ
 comes xs w = tell xs (w .at) (w .heads) (stackOf w)
-
--- A level that wants items is within as many others as the nesting has, a string within one more; a string has no count.
-pub record Good (k c d : ℕ) : Type 0 where
-  pub tall : d ≤ nesting + 1
-  pub low : k < 4 → 0 < k + c → d ≤ nesting
-  pub none : 4 ≤ k → c ≡ 0
 
 -- The levels around want items.
 pub record Outer (d : ℕ) (ks cs : List ℕ) : Type 0 where

@@ -2,8 +2,4 @@ pub mod Shapes
 pub mod Closings
 pub mod Areas
 pub mod Parts
-pub mod Ranges
-pub mod Openings
-pub mod Statuses
 pub mod Inside
-pub mod Numbers

@@ -1,17 +1,13 @@
 -- A record with one of its parts replaced, and the bytes of an instance.
-use Prim.Native.Nat.{ℕ, _<_}
-use mathlib.Core.Path.{_≡_}
-use mathlib.Core.Bool.{true}
+use Prim.Native.Nat.{ℕ}
 use mathlib.Core.List.{List}
-use lib.ListN.{length, getD}
-use Rattle.wire.specs.Instances.{instances}
+use lib.ListN.{getD}
 use Rattle.connection.specs.declared.Receiving.{Receiving}
 use Rattle.connection.specs.declared.Sending.{Sending}
 use Rattle.connection.specs.declared.Talk.{Talk}
 use Rattle.connection.specs.declared.Gate.{Gate}
 use Rattle.connection.specs.declared.Connection.{Connection}
 use Rattle.connection.specs.Areas.{bytesOf}
-use Rattle.connection.specs.Ranges.{receives, sends}
 
 abbrev pub withReceiving : Connection → Receiving → Gate → Connection
 withReceiving c r g = record { settings = c .settings; receiving = r; sending = c .sending; talk = c .talk; gate = g }
@@ -26,13 +22,6 @@ abbrev pub withGate : Connection → Gate → Connection
 withGate c g = record { settings = c .settings; receiving = c .receiving; sending = c .sending; talk = c .talk; gate = g }
 
 -- ---- the bytes of an instance
-
--- an instance of a record in range with its receive store, and with its send store
-abbrev pub InReceive : Connection → List ℕ → ℕ → Type 0
-InReceive c store i = (receives c (length store) ≡ true) × (i < instances (c .settings .bundle))
-
-abbrev pub InSend : Connection → List ℕ → ℕ → Type 0
-InSend c store i = (sends c (length store) ≡ true) × (i < instances (c .settings .bundle))
 
 -- the first n bytes held of instance i, and all of them
 abbrev pub firstHeld : Connection → List ℕ → ℕ → ℕ → List ℕ

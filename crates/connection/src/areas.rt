@@ -1,13 +1,12 @@
 // The areas of a store, one for each instance: bytes of an instance's stream read and written, and those at the front
 // let go.
-use crate::parts::at;
-use crate::parts::changed;
 use wire::instances::INSTANCES;
 ghost use mathlib.Core.Path.{_≡_};
 ghost use Prim.Native.Nat.{_+_, _≤_, _<_, _^_};
 ghost use lib.ListN.{length, getD};
 ghost use lib.Seq.{sets};
 ghost use Rattle.ring.specs.Ring.{run};
+ghost use Rattle.wire.specs.Instances.{most};
 ghost use Rattle.connection.specs.Areas.{bytesOf, laidIn, startsPast, countsLess};
 ghost use Rattle.connection.specs.Inside.{Area};
 
@@ -47,20 +46,19 @@ pub fn write(
     ring::write(store, base, cap, n as usize, src, from, k);
 }
 
-// n bytes leave the front of the area of instance i: where its first byte then is, and how many bytes are left. Place and
-// bytes are small, so that their sum fits.
-pub fn past(caps: [u64; INSTANCES], starts: [u64; INSTANCES], i: usize, n: u64) -> [u64; INSTANCES]
-    requires { ⌜ (0 < getD caps i 0) × (getD starts i 0 + n < 2 ^ 32) ⌝ }
-    ensures { λ r. ⌜ r ≡ startsPast caps starts i n ⌝ }
+// n bytes leave the front of the area of instance i: its first byte is further on, round the area, and fewer are left.
+// Place and bytes are small, so that their sum fits.
+pub fn leave(
+    caps: &[u64; INSTANCES],
+    starts: &mut [u64; INSTANCES],
+    counts: &mut [u64; INSTANCES],
+    i: usize,
+    n: u64,
+)
+    requires { ⌜ (i < most) × (0 < getD (now caps) i 0) × (getD (now starts) i 0 + n < 2 ^ 32) × (n ≤ getD (now counts) i 0) ⌝ }
+    ensures { λ _. ⌜ (now (starts .exit) ≡ startsPast (now (caps .entry)) (now (starts .entry)) i n)
+        × (now (counts .exit) ≡ countsLess (now (counts .entry)) i n) ⌝ }
 {
-    let start = (at(starts, i) + n) % at(caps, i);
-    changed(starts, i, start)
-}
-
-pub fn fewer(counts: [u64; INSTANCES], i: usize, n: u64) -> [u64; INSTANCES]
-    requires { ⌜ n ≤ getD counts i 0 ⌝ }
-    ensures { λ r. ⌜ r ≡ countsLess counts i n ⌝ }
-{
-    let left = at(counts, i) - n;
-    changed(counts, i, left)
+    starts[i] = (starts[i] + n) % caps[i];
+    counts[i] = counts[i] - n;
 }

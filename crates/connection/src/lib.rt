@@ -1,22 +1,19 @@
-// One connection: its record, what of it is in range, opening it, and its status.
+// One connection: its record, the gate that a fault closes, and the areas of its stores.
 //
 // The record goes into each call and comes back by value. It is grouped by what changes together: settings never,
 // receiving by feed and take, sending by put and next segment, talk by take and put, the gate by a fault.
 use wire::instances::INSTANCES;
-use wire::instances::Side;
+use wire::instances::Party;
 use wire::segment::Header;
 
 pub mod areas;
-pub mod opening;
+pub mod closings;
 pub mod parts;
-pub mod range;
-pub mod telling;
 
-// Set at open: the bundle, by number, our side, the payload limit S, and the capacities by instance. Arrays by instance
-// have room for the largest bundle.
+// Set at open: which end we are, the payload limit S, and the capacities by instance. Arrays by instance have room for
+// the largest bundle.
 pub struct Settings {
-    pub bundle: u64,
-    pub side: Side,
+    pub party: Party,
     pub limit: u64,
     pub receive: [u64; INSTANCES],
     pub send: [u64; INSTANCES],

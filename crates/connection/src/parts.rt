@@ -1,5 +1,4 @@
-// A record with one of its parts replaced, its gate, a closing's number, and its arrays by instance.
-use crate::Closing;
+// A record with one of its parts replaced, and its arrays by instance.
 use crate::Connection;
 use crate::Gate;
 use crate::Receiving;
@@ -8,7 +7,6 @@ use crate::Talk;
 use wire::instances::INSTANCES;
 ghost use lib.ListN.{getD, set};
 ghost use mathlib.Core.Path.{_≡_};
-ghost use Rattle.connection.specs.Closings.{closedBy, isOpen, numberOf};
 ghost use Rattle.connection.specs.Parts.{withReceiving, withSending, withTalk, withGate};
 
 // What was received is replaced, and the gate with it, which feed closes at a fault.
@@ -73,36 +71,6 @@ pub fn with_gate(c: Connection, gate: Gate) -> Connection
         sending,
         talk,
         gate,
-    }
-}
-
-// Only the first closing is kept.
-pub fn close(gate: Gate, why: Closing) -> Gate
-    ensures { λ r. ⌜ r ≡ closedBy gate why ⌝ }
-{
-    match gate {
-        Gate::Open => Gate::Closed(why),
-        Gate::Closed(_) => gate,
-    }
-}
-
-// Whether no fault has closed the connection.
-pub fn is_open(gate: Gate) -> bool
-    ensures { λ r. ⌜ r ≡ isOpen gate ⌝ }
-{
-    match gate {
-        Gate::Open => true,
-        Gate::Closed(_) => false,
-    }
-}
-
-// The refusal number that a closing names.
-pub fn number_of(x: Closing) -> u64
-    ensures { λ r. ⌜ r ≡ numberOf x ⌝ }
-{
-    match x {
-        Closing::Bare(n) => n,
-        Closing::Of(n, _) => n,
     }
 }
 

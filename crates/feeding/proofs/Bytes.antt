@@ -18,7 +18,7 @@ use Rattle.ring.proofs.Stores.{laid-length}
 use Rattle.ring.proofs.Areas.{area-in-store}
 use Rattle.wire.specs.declared.segment.Header.{Header}
 use Rattle.wire.specs.declared.segment.Segment.{Segment}
-use Rattle.wire.specs.declared.instances.Side.{Side}
+use Rattle.wire.specs.declared.instances.Party.{Party}
 use Rattle.wire.specs.declared.instances.Route.{Route}
 use Rattle.wire.specs.declared.instances.Route.the-variants.{Unknown, Wrong, To}
 use Rattle.wire.specs.Segments.{headerLength, added, decoded}
@@ -30,9 +30,9 @@ use Rattle.connection.specs.declared.Gate.the-variants.{Open, Closed}
 use Rattle.connection.specs.declared.Connection.{Connection}
 use Rattle.connection.specs.Areas.{laidIn}
 use Rattle.connection.specs.Closings.{isOpen}
-use Rattle.connection.specs.Ranges.{inRange, receives}
-use Rattle.connection.proofs.RangeLaws.{Ranged, ranged}
-use Rattle.connection.proofs.StoreLaws.{area-of}
+use Rattle.range.specs.Ranges.{inRange, receives}
+use Rattle.range.proofs.RangeLaws.{Ranged, ranged}
+use Rattle.range.proofs.StoreLaws.{area-of}
 use Rattle.feeding.specs.declared.Admission.{Admission}
 use Rattle.feeding.specs.declared.Admission.the-variants.{Fault, Payload}
 use Rattle.feeding.specs.declared.Way.{Way}
@@ -47,47 +47,47 @@ open-is (Closed x) e = cc
 
 -- ---- one byte
 
-module _ (b : ℕ) (side : Side) (caps : List ℕ) where
-  pub step-closed : (s : Reception) (x : ℕ) → isOpen (s .gate) ≡ false → step b side caps s x ≡ s
+module _ (us : Party) (caps : List ℕ) where
+  pub step-closed : (s : Reception) (x : ℕ) → isOpen (s .gate) ≡ false → step us caps s x ≡ s
   unfolding step
   step-closed s x g = rw g
 
-  pub step-headed : (s : Reception) (x : ℕ) → isOpen (s .gate) ≡ true → s .receiving .rest ≡ 0 → step b side caps s x ≡ headed b side caps s x
+  pub step-headed : (s : Reception) (x : ℕ) → isOpen (s .gate) ≡ true → s .receiving .rest ≡ 0 → step us caps s x ≡ headed us caps s x
   unfolding step
   step-headed s x g z = rw (g, eq-eqb (s .receiving .rest) 0 z)
 
-  pub step-kept : (s : Reception) (x : ℕ) → isOpen (s .gate) ≡ true → 0 < s .receiving .rest → step b side caps s x ≡ kept caps s (x ∷ [])
+  pub step-kept : (s : Reception) (x : ℕ) → isOpen (s .gate) ≡ true → 0 < s .receiving .rest → step us caps s x ≡ kept caps s (x ∷ [])
   unfolding step
   step-kept s x g h = rw (g, ne-eqb (s .receiving .rest) 0 (λ e. omega arith))
 
   -- ---- a run
 
   -- a closed connection takes nothing
-  pub fed-closed : (s : Reception) (xs : List ℕ) → isOpen (s .gate) ≡ false → fed b side caps s xs ≡ s
+  pub fed-closed : (s : Reception) (xs : List ℕ) → isOpen (s .gate) ≡ false → fed us caps s xs ≡ s
   unfolding fed
   fed-closed s [] g = refl
-  fed-closed s (x ∷ xs) g = ap (λ (t : Reception). fed b side caps t xs) (step-closed s x g) ∙ fed-closed s xs g
+  fed-closed s (x ∷ xs) g = ap (λ (t : Reception). fed us caps t xs) (step-closed s x g) ∙ fed-closed s xs g
 
-  pub used-closed : (s : Reception) (xs : List ℕ) → isOpen (s .gate) ≡ false → used b side caps s xs ≡ 0
+  pub used-closed : (s : Reception) (xs : List ℕ) → isOpen (s .gate) ≡ false → used us caps s xs ≡ 0
   unfolding used
   used-closed s [] g = refl
   used-closed s (x ∷ xs) g = rw g
 
   -- the bytes of a run in two parts
-  pub fed-append : (s : Reception) (xs ys : List ℕ) → fed b side caps s (xs ++ ys) ≡ fed b side caps (fed b side caps s xs) ys
+  pub fed-append : (s : Reception) (xs ys : List ℕ) → fed us caps s (xs ++ ys) ≡ fed us caps (fed us caps s xs) ys
   unfolding fed
   fed-append s [] ys = refl
-  fed-append s (x ∷ xs) ys = fed-append (step b side caps s x) xs ys
+  fed-append s (x ∷ xs) ys = fed-append (step us caps s x) xs ys
 
   pub used-append : (s : Reception) (xs ys : List ℕ)
-      → used b side caps s (xs ++ ys) ≡ used b side caps s xs + used b side caps (fed b side caps s xs) ys
+      → used us caps s (xs ++ ys) ≡ used us caps s xs + used us caps (fed us caps s xs) ys
   unfolding fed used
-  used-append s [] ys = sym (zero-add (used b side caps s ys))
+  used-append s [] ys = sym (zero-add (used us caps s ys))
   used-append s (x ∷ xs) ys =
-      by-test (isOpen (s .gate)) (λ g. rw g (omega (arith, used-append (step b side caps s x) xs ys)))
+      by-test (isOpen (s .gate)) (λ g. rw g (omega (arith, used-append (step us caps s x) xs ys)))
       (λ g.
-      let one : step b side caps s x ≡ s = step-closed s x g in
-      let stays : fed b side caps (step b side caps s x) xs ≡ s = fed-closed (step b side caps s x) xs (rw one g) ∙ one in
+      let one : step us caps s x ≡ s = step-closed s x g in
+      let stays : fed us caps (step us caps s x) xs ≡ s = fed-closed (step us caps s x) xs (rw one g) ∙ one in
       rw (g, stays, used-closed s ys g))
 
   -- ---- a payload
@@ -121,25 +121,25 @@ module _ (b : ℕ) (side : Side) (caps : List ℕ) where
   -- payload bytes fed one after the other are kept as a run
   pub fed-kept : (s : Reception) (xs ys : List ℕ) → isOpen (s .gate) ≡ true → 0 < length xs → length xs ≤ s .receiving .rest
       → s .receiving .instance < length (s .receiving .held)
-      → (fed b side caps s (xs ++ ys) ≡ fed b side caps (kept caps s xs) ys)
-      × (used b side caps s (xs ++ ys) ≡ length xs + used b side caps (kept caps s xs) ys)
+      → (fed us caps s (xs ++ ys) ≡ fed us caps (kept caps s xs) ys)
+      × (used us caps s (xs ++ ys) ≡ length xs + used us caps (kept caps s xs) ys)
   unfolding fed used
   fed-kept s [] ys g p l h = absurd (omega arith)
   fed-kept s (x ∷ []) ys g p l h =
-      let one : step b side caps s x ≡ kept caps s (x ∷ []) = step-kept s x g (omega arith) in
-      (ap (λ (t : Reception). fed b side caps t ys) one, rw (g, one) (omega arith))
+      let one : step us caps s x ≡ kept caps s (x ∷ []) = step-kept s x g (omega arith) in
+      (ap (λ (t : Reception). fed us caps t ys) one, rw (g, one) (omega arith))
   fed-kept s (x ∷ y ∷ xs) ys g p l h =
       let s1 : Reception = kept caps s (x ∷ []) in
-      let one : step b side caps s x ≡ s1 = step-kept s x g (omega arith) in
+      let one : step us caps s x ≡ s1 = step-kept s x g (omega arith) in
       let on = kept-on s (x ∷ []) (omega arith) in
       let many : length (s1 .receiving .held) ≡ length (s .receiving .held) = kept-many s (x ∷ []) in
       let h1 : s1 .receiving .instance < length (s1 .receiving .held) = rw (on .2, many) h in
       let l1 : length (y ∷ xs) ≤ s1 .receiving .rest = omega (arith, on .1) in
       let rest = fed-kept s1 (y ∷ xs) ys (rw (on .0) g) (omega arith) l1 h1 in
       let all : kept caps s1 (y ∷ xs) ≡ kept caps s (x ∷ y ∷ xs) = kept-more s x (y ∷ xs) (omega arith) h in
-      let after : used b side caps (kept caps s1 (y ∷ xs)) ys ≡ used b side caps (kept caps s (x ∷ y ∷ xs)) ys =
-      ap (λ (t : Reception). used b side caps t ys) all in (
-        ap (λ (t : Reception). fed b side caps t (y ∷ xs ++ ys)) one ∙ rest .0 ∙ ap (λ (t : Reception). fed b side caps t ys) all,
+      let after : used us caps (kept caps s1 (y ∷ xs)) ys ≡ used us caps (kept caps s (x ∷ y ∷ xs)) ys =
+      ap (λ (t : Reception). used us caps t ys) all in (
+        ap (λ (t : Reception). fed us caps t (y ∷ xs ++ ys)) one ∙ rest .0 ∙ ap (λ (t : Reception). fed us caps t ys) all,
         rw (g, one) (omega (arith, rest .1, after)),
       )
 
@@ -155,21 +155,21 @@ pub room-short : (caps held : List ℕ) (n i : ℕ) (t : Bool) → t ≡ leb (ge
 room-short caps held n i t e y = let q : leb (getD held i 0 + n) (getD caps i 0) ≡ false = sym e ∙ y in rw q
 
 -- by what the header says
-pub admission-by : (b : ℕ) (side : Side) (caps held : List ℕ) (h : Header) (d : Segment) (r : Route) → d ≡ decoded (h .bytes)
-    → r ≡ routeOf b side (d .protocol) (d .mode) → admitted caps held (d .len) r ≡ admission b side caps held h
+pub admission-by : (us : Party) (caps held : List ℕ) (h : Header) (d : Segment) (r : Route) → d ≡ decoded (h .bytes)
+    → r ≡ routeOf us (d .protocol) (d .mode) → admitted caps held (d .len) r ≡ admission us caps held h
 unfolding admission
-admission-by b side caps held h d r e f = rw (f, e)
+admission-by us caps held h d r e f = rw (f, e)
 
-pub heads-whole : (b : ℕ) (side : Side) (caps held : List ℕ) (w : Way) (x : ℕ) (h : Header) (a : Admission) (t : Step) → h ≡ added (w .header) x
-    → leb headerLength (h .count) ≡ true → a ≡ admission b side caps held h → Settles w a 1 t → Heads b side caps held w x t
+pub heads-whole : (us : Party) (caps held : List ℕ) (w : Way) (x : ℕ) (h : Header) (a : Admission) (t : Step) → h ≡ added (w .header) x
+    → leb headerLength (h .count) ≡ true → a ≡ admission us caps held h → Settles w a 1 t → Heads us caps held w x t
 unfolding headed
-heads-whole b side caps held w x h a t e q f k =
+heads-whole us caps held w x h a t e q f k =
     record { one = k .uses; leaves = λ starts store. k .leaves starts held store ∙ rw (← e, q, f) }
 
-pub heads-part : (b : ℕ) (side : Side) (caps held : List ℕ) (w : Way) (x : ℕ) (h : Header) → h ≡ added (w .header) x
-    → leb headerLength (h .count) ≡ false → Heads b side caps held w x (record { way = record { header = h; instance = w .instance; rest = w .rest }; gate = Open; used = 1 })
+pub heads-part : (us : Party) (caps held : List ℕ) (w : Way) (x : ℕ) (h : Header) → h ≡ added (w .header) x
+    → leb headerLength (h .count) ≡ false → Heads us caps held w x (record { way = record { header = h; instance = w .instance; rest = w .rest }; gate = Open; used = 1 })
 unfolding headed
-heads-part b side caps held w x h e q = record { one = refl; leaves = λ starts store. rw (← e, q) }
+heads-part us caps held w x h e q = record { one = refl; leaves = λ starts store. rw (← e, q) }
 
 -- ---- a run of payload bytes, as the code goes
 
@@ -202,19 +202,19 @@ sound-settled b caps s n (To i) w r =
     })
     (λ e. record { areas = r .areas; many = r .many; each = r .each; under = r .under })
 
-pub sound-admission : (b : ℕ) (side : Side) (caps : List ℕ) (s : Reception) (h : Header) → Sound b caps s
-    → Sound b caps (settled s (admission b side caps (s .receiving .held) h))
+pub sound-admission : (us : Party) (caps : List ℕ) (s : Reception) (h : Header) → Sound (us .bundle) caps s
+    → Sound (us .bundle) caps (settled s (admission us caps (s .receiving .held) h))
 unfolding admission
-sound-admission b side caps s h r =
+sound-admission us caps s h r =
     let d = decoded (h .bytes) in
-    sound-settled b caps s (d .len) (routeOf b side (d .protocol) (d .mode)) (route-within b side (d .protocol) (d .mode)) r
+    sound-settled (us .bundle) caps s (d .len) (routeOf us (d .protocol) (d .mode)) (route-within us (d .protocol) (d .mode)) r
 
-pub sound-headed : (b : ℕ) (side : Side) (caps : List ℕ) (s : Reception) (x : ℕ) → Sound b caps s → Sound b caps (headed b side caps s x)
+pub sound-headed : (us : Party) (caps : List ℕ) (s : Reception) (x : ℕ) → Sound (us .bundle) caps s → Sound (us .bundle) caps (headed us caps s x)
 unfolding headed
-sound-headed b side caps s x r =
+sound-headed us caps s x r =
     let h = added (s .receiving .header) x in
-    cond-cases (Sound b caps) (leb headerLength (h .count))
-    (λ e. sound-admission b side caps s h r)
+    cond-cases (Sound (us .bundle) caps) (leb headerLength (h .count))
+    (λ e. sound-admission us caps s h r)
     (λ e. record { areas = r .areas; many = r .many; each = r .each; under = r .under })
 
 pub sound-kept : (b : ℕ) (caps : List ℕ) (s : Reception) (xs : List ℕ) → Sound b caps s → 0 < s .receiving .rest → length xs ≤ s .receiving .rest
@@ -250,39 +250,39 @@ sound-under {b} {caps} {w = w} {store} r more =
 
 -- ---- the steps of feed's loop
 
-module _ {b : ℕ} {side : Side} {caps starts held : List ℕ} {w : Way} {store xs : List ℕ} {at : ℕ} {t : Step}
-    (r : Sound b caps (reception starts held w Open store)) where
+module _ {us : Party} {caps starts held : List ℕ} {w : Way} {store xs : List ℕ} {at : ℕ} {t : Step}
+    (r : Sound (us .bundle) caps (reception starts held w Open store)) where
   -- a header byte
-  pub steps-header : at < length xs → w .rest ≡ 0 → Heads b side caps held w (getD xs at 0) t
-      → Steps b side caps starts held held w store store xs at t
+  pub steps-header : at < length xs → w .rest ≡ 0 → Heads us caps held w (getD xs at 0) t
+      → Steps us caps starts held held w store store xs at t
   unfolding fed used
   steps-header h z k =
       let s : Reception = reception starts held w Open store in
       let n : Reception = reception starts held (t .way) (t .gate) store in
-      let leads : step b side caps s (getD xs at 0) ≡ n = step-headed b side caps s (getD xs at 0) refl z ∙ sym (k .leaves starts store) in
+      let leads : step us caps s (getD xs at 0) ≡ n = step-headed us caps s (getD xs at 0) refl z ∙ sym (k .leaves starts store) in
       let e : suc at ≡ at + t .used = omega (arith, k .one) in
       record {
         some = omega (arith, k .one);
         ends = omega (arith, k .one);
         leaves =
-            ap (λ (l : List ℕ). fed b side caps s l) (drop-cons xs at 0 h)
-            ∙ ap (λ (m : Reception). fed b side caps m (drop (suc at) xs)) leads
-            ∙ ap (λ (m : ℕ). fed b side caps n (drop m xs)) e;
+            ap (λ (l : List ℕ). fed us caps s l) (drop-cons xs at 0 h)
+            ∙ ap (λ (m : Reception). fed us caps m (drop (suc at) xs)) leads
+            ∙ ap (λ (m : ℕ). fed us caps n (drop m xs)) e;
         counts =
-            ap (λ (l : List ℕ). used b side caps s l) (drop-cons xs at 0 h)
-            ∙ ap (λ (m : Reception). suc (used b side caps m (drop (suc at) xs))) leads
-            ∙ ap (λ (m : ℕ). suc (used b side caps n (drop m xs))) e
+            ap (λ (l : List ℕ). used us caps s l) (drop-cons xs at 0 h)
+            ∙ ap (λ (m : Reception). suc (used us caps m (drop (suc at) xs))) leads
+            ∙ ap (λ (m : ℕ). suc (used us caps n (drop m xs))) e
             ∙ omega (arith, k .one);
-        sound = subst (Sound b caps) (sym (k .leaves starts store)) (sound-headed b side caps s (getD xs at 0) r);
+        sound = subst (Sound (us .bundle) caps) (sym (k .leaves starts store)) (sound-headed us caps s (getD xs at 0) r);
       }
 
   -- a run of bytes whose law says to which reception it leads
   pub steps-run : {held′ store′ : List ℕ} (m : Reception) → 0 < t .used → at + t .used ≤ length xs
-      → reception starts held′ (t .way) (t .gate) store′ ≡ m → Sound b caps m
+      → reception starts held′ (t .way) (t .gate) store′ ≡ m → Sound (us .bundle) caps m
       → ((ys : List ℕ)
-      → (fed b side caps (reception starts held w Open store) (run xs at (t .used) ++ ys) ≡ fed b side caps m ys)
-      × (used b side caps (reception starts held w Open store) (run xs at (t .used) ++ ys) ≡ length (run xs at (t .used)) + used b side caps m ys))
-      → Steps b side caps starts held held′ w store store′ xs at t
+      → (fed us caps (reception starts held w Open store) (run xs at (t .used) ++ ys) ≡ fed us caps m ys)
+      × (used us caps (reception starts held w Open store) (run xs at (t .used) ++ ys) ≡ length (run xs at (t .used)) + used us caps m ys))
+      → Steps us caps starts held held′ w store store′ xs at t
   steps-run {held′} {store′} m more ends leads ready law =
       let s : Reception = reception starts held w Open store in
       let p : List ℕ = run xs at (t .used) in
@@ -293,38 +293,38 @@ module _ {b : ℕ} {side : Side} {caps starts held : List ℕ} {w : Way} {store 
       record {
         some = more;
         ends = ends;
-        leaves = ap (λ (l : List ℕ). fed b side caps s l) cut ∙ all .0 ∙ ap (λ (n : Reception). fed b side caps n behind) (sym leads);
+        leaves = ap (λ (l : List ℕ). fed us caps s l) cut ∙ all .0 ∙ ap (λ (n : Reception). fed us caps n behind) (sym leads);
         counts =
-            ap (λ (l : List ℕ). used b side caps s l) cut ∙ all .1
-            ∙ ap (λ (n : Reception). length p + used b side caps n behind) (sym leads)
-            ∙ ap (λ (n : ℕ). n + used b side caps (reception starts held′ (t .way) (t .gate) store′) behind) long;
-        sound = subst (Sound b caps) (sym leads) ready;
+            ap (λ (l : List ℕ). used us caps s l) cut ∙ all .1
+            ∙ ap (λ (n : Reception). length p + used us caps n behind) (sym leads)
+            ∙ ap (λ (n : ℕ). n + used us caps (reception starts held′ (t .way) (t .gate) store′) behind) long;
+        sound = subst (Sound (us .bundle) caps) (sym leads) ready;
       }
 
   -- a run of payload bytes
   pub steps-kept : {held′ store′ : List ℕ} → 0 < w .rest → Lays caps starts held held′ w store store′ xs at t
-      → Steps b side caps starts held held′ w store store′ xs at t
+      → Steps us caps starts held held′ w store store′ xs at t
   steps-kept more k =
       let s : Reception = reception starts held w Open store in
       let p : List ℕ = run xs at (t .used) in
       let long : length p ≡ t .used = run-length xs at (t .used) (k .ends) in
-      steps-run (kept caps s p) (k .some) (k .ends) (k .leaves) (sound-kept b caps s p r more (omega (arith, k .within)))
-      (λ ys. fed-kept b side caps s p ys refl (omega (arith, k .some)) (omega (arith, k .within)) (omega (arith, r .under more .0, at-most b, r .many)))
+      steps-run (kept caps s p) (k .some) (k .ends) (k .leaves) (sound-kept (us .bundle) caps s p r more (omega (arith, k .within)))
+      (λ ys. fed-kept us caps s p ys refl (omega (arith, k .some)) (omega (arith, k .within)) (omega (arith, r .under more .0, at-most (us .bundle), r .many)))
 
 -- the loop: what is left to feed leaves what all of it does
-pub record Running (b : ℕ) (side : Side) (caps : List ℕ) (s₀ : Reception) (xs : List ℕ) (s : Reception) (at : ℕ) : Type 0 where
+pub record Running (us : Party) (caps : List ℕ) (s₀ : Reception) (xs : List ℕ) (s : Reception) (at : ℕ) : Type 0 where
   pub ends : at ≤ length xs
   pub long : length (s .store) ≡ length (s₀ .store)
-  pub sound : Sound b caps s
-  pub leaves : fed b side caps s₀ xs ≡ fed b side caps s (drop at xs)
-  pub counts : used b side caps s₀ xs ≡ at + used b side caps s (drop at xs)
+  pub sound : Sound (us .bundle) caps s
+  pub leaves : fed us caps s₀ xs ≡ fed us caps s (drop at xs)
+  pub counts : used us caps s₀ xs ≡ at + used us caps s (drop at xs)
 
-module _ {b : ℕ} {side : Side} {caps : List ℕ} {s₀ : Reception} {xs starts held : List ℕ} {w : Way} {store : List ℕ} {at : ℕ}
-    (v : Running b side caps s₀ xs (reception starts held w Open store) at) where
-  pub run-more : {held′ store′ : List ℕ} {t : Step} → Steps b side caps starts held held′ w store store′ xs at t → isOpen (t .gate) ≡ true
-      → Running b side caps s₀ xs (reception starts held′ (t .way) Open store′) (at + t .used)
+module _ {us : Party} {caps : List ℕ} {s₀ : Reception} {xs starts held : List ℕ} {w : Way} {store : List ℕ} {at : ℕ}
+    (v : Running us caps s₀ xs (reception starts held w Open store) at) where
+  pub run-more : {held′ store′ : List ℕ} {t : Step} → Steps us caps starts held held′ w store store′ xs at t → isOpen (t .gate) ≡ true
+      → Running us caps s₀ xs (reception starts held′ (t .way) Open store′) (at + t .used)
   run-more {held′} {store′} {t} k g =
-      subst (λ (o : Gate). Running b side caps s₀ xs (reception starts held′ (t .way) o store′) (at + t .used)) (open-is (t .gate) g)
+      subst (λ (o : Gate). Running us caps s₀ xs (reception starts held′ (t .way) o store′) (at + t .used)) (open-is (t .gate) g)
       (record {
         ends = k .ends;
         long = k .sound .areas ∙ sym (v .sound .areas) ∙ v .long;
@@ -334,41 +334,38 @@ module _ {b : ℕ} {side : Side} {caps : List ℕ} {s₀ : Reception} {xs starts
       })
 
   -- at the byte that closes
-  pub run-shut : {held′ store′ : List ℕ} {t : Step} → Steps b side caps starts held held′ w store store′ xs at t → isOpen (t .gate) ≡ false
-      → (reception starts held′ (t .way) (t .gate) store′ ≡ fed b side caps s₀ xs) × (at + t .used ≡ used b side caps s₀ xs)
+  pub run-shut : {held′ store′ : List ℕ} {t : Step} → Steps us caps starts held held′ w store store′ xs at t → isOpen (t .gate) ≡ false
+      → (reception starts held′ (t .way) (t .gate) store′ ≡ fed us caps s₀ xs) × (at + t .used ≡ used us caps s₀ xs)
   run-shut {held′} {store′} {t} k g =
       let n : Reception = reception starts held′ (t .way) (t .gate) store′ in
       let behind : List ℕ = drop (at + t .used) xs in (
-        sym (v .leaves ∙ k .leaves ∙ fed-closed b side caps n behind g),
-        omega (arith, v .counts, k .counts, used-closed b side caps n behind g),
+        sym (v .leaves ∙ k .leaves ∙ fed-closed us caps n behind g),
+        omega (arith, v .counts, k .counts, used-closed us caps n behind g),
       )
 
   -- at the end of the run
-  pub run-end : length xs ≤ at → (reception starts held w Open store ≡ fed b side caps s₀ xs) × (at ≡ used b side caps s₀ xs)
+  pub run-end : length xs ≤ at → (reception starts held w Open store ≡ fed us caps s₀ xs) × (at ≡ used us caps s₀ xs)
   unfolding fed used
   run-end h =
       let e : drop at xs ≡ [] = drop-of-length-le xs h in
       let s : Reception = reception starts held w Open store in (
-        sym (v .leaves ∙ ap (λ (l : List ℕ). fed b side caps s l) e),
-        sym (v .counts ∙ ap (λ (l : List ℕ). at + used b side caps s l) e ∙ add-zero at),
+        sym (v .leaves ∙ ap (λ (l : List ℕ). fed us caps s l) e),
+        sym (v .counts ∙ ap (λ (l : List ℕ). at + used us caps s l) e ∙ add-zero at),
       )
 
 -- ---- a call, as the code goes
 
 -- a record in range and its store are ready
 pub sound-given : (c : Connection) (st : List ℕ) → receives c (length st) ≡ true → length (c .receiving .held) ≡ most
-    → Sound (c .settings .bundle) (c .settings .receive) (given c st)
+    → Sound (c .settings .party .bundle) (c .settings .receive) (given c st)
 sound-given c st e many =
-    let r = c .receiving in
     let p = and-equal {a = inRange c} e in
     let k : Ranged c = ranged c (p .0) in
     record {
       areas = p .1;
       many = many;
       each = λ i h. (k .receiving i h .0, k .set .receive i h .1);
-      under = λ more.
-          let i : r .instance < instances (c .settings .bundle) = k .under-way more .1 in
-          (i, rw (eq-eqb (r .instance) (r .instance) refl) at (k .receiving (r .instance) i .1));
+      under = λ more. let (none, inside, fit) = k .under-way more in (inside, fit);
     }
 
 -- the parts of a record that is open
@@ -379,8 +376,8 @@ pub open-parts : (c : Connection) (st : List ℕ) → c .gate ≡ Open
 open-parts c st o = ap (λ (g : Gate). record { receiving = c .receiving; gate = g; store = st }) (sym o)
 
 pub open-by : (c : Connection) (st xs : List ℕ) (n : ℕ) (s s₀ : Reception) → s₀ ≡ given c st
-    → s ≡ fed (c .settings .bundle) (c .settings .side) (c .settings .receive) s₀ xs
-    → n ≡ used (c .settings .bundle) (c .settings .side) (c .settings .receive) s₀ xs → answered c n s ≡ feedOpen c st xs
+    → s ≡ fed (c .settings .party) (c .settings .receive) s₀ xs
+    → n ≡ used (c .settings .party) (c .settings .receive) s₀ xs → answered c n s ≡ feedOpen c st xs
 unfolding feedOpen
 open-by c st xs n s s₀ e f g = rw (f, g, e)
 

@@ -10,7 +10,7 @@ use lib.Dec.{eqb, leb}
 use lib.ListN.{length, getD}
 use Rattle.base.proofs.Conds.{by-test}
 use Rattle.wire.specs.declared.segment.Header.{Header}
-use Rattle.wire.specs.declared.instances.Side.{Side}
+use Rattle.wire.specs.declared.instances.Party.{Party}
 use Rattle.wire.specs.declared.instances.Route.{Route}
 use Rattle.wire.specs.declared.instances.Route.the-variants.{Unknown, Wrong, To}
 use Rattle.wire.specs.Segments.{headerLength, added, decoded}
@@ -62,16 +62,16 @@ cause-number (overflow i h) = (omega arith, omega arith)
 
 -- ---- which byte
 
-module _ {b : ℕ} {side : Side} {caps : List ℕ} {s : Reception} {xs : List ℕ} {P : List ℕ → ℕ → Route → Type 0} where
+module _ {us : Party} {caps : List ℕ} {s : Reception} {xs : List ℕ} {P : List ℕ → ℕ → Route → Type 0} where
   -- Q holds of the counts, the length and the route of an eighth byte
-  abbrev pub Holds : Eighth b side caps s xs P → (List ℕ → ℕ → Route → Type 0) → Type 0
+  abbrev pub Holds : Eighth us caps s xs P → (List ℕ → ℕ → Route → Type 0) → Type 0
   Holds k Q =
-      let m = fed b side caps s (k .front) .receiving in
+      let m = fed us caps s (k .front) .receiving in
       let d = decoded (added (m .header) (k .byte) .bytes) in
-      Q (m .held) (d .len) (routeOf b side (d .protocol) (d .mode))
+      Q (m .held) (d .len) (routeOf us (d .protocol) (d .mode))
 
   -- the same byte, of which more is known
-  pub eighth-with : {Q : List ℕ → ℕ → Route → Type 0} (k : Eighth b side caps s xs P) → Holds k Q → Eighth b side caps s xs Q
+  pub eighth-with : {Q : List ℕ → ℕ → Route → Type 0} (k : Eighth us caps s xs P) → Holds k Q → Eighth us caps s xs Q
   eighth-with k q =
       record {
         front = k .front;
@@ -86,22 +86,22 @@ module _ {b : ℕ} {side : Side} {caps : List ℕ} {s : Reception} {xs : List �
 
   -- what follows from what it says
   pub eighth-so : {Q : List ℕ → ℕ → Route → Type 0} → ((held : List ℕ) (n : ℕ) (to : Route) → P held n to → Q held n to)
-      → Eighth b side caps s xs P → Eighth b side caps s xs Q
+      → Eighth us caps s xs P → Eighth us caps s xs Q
   eighth-so {Q} f k = eighth-with {Q = Q} k (f _ _ _ (k .says))
 
 -- what an eighth byte says
 abbrev pub Refuses : List ℕ → Closing → List ℕ → ℕ → Route → Type 0
 Refuses caps x held n to = admitted caps held n to ≡ Fault x
 
-module _ (b : ℕ) (side : Side) (caps : List ℕ) where
+module _ (us : Party) (caps : List ℕ) where
   settled-closes : (s : Reception) (a : Admission) (x : Closing) → isOpen (s .gate) ≡ true → settled s a .gate ≡ Closed x → a ≡ Fault x
   settled-closes s (Fault y) x o e = let q : y ≡ x = cc in ap Fault q
   settled-closes s (Payload i n) x o e = never (s .gate) x o e
 
   -- a byte that closes is the eighth of a header that is a fault
-  step-closes : (s : Reception) (y : ℕ) (x : Closing) → isOpen (s .gate) ≡ true → step b side caps s y .gate ≡ Closed x
+  step-closes : (s : Reception) (y : ℕ) (x : Closing) → isOpen (s .gate) ≡ true → step us caps s y .gate ≡ Closed x
       → (s .receiving .rest ≡ 0) × (headerLength ≤ added (s .receiving .header) y .count)
-      × (admission b side caps (s .receiving .held) (added (s .receiving .header) y) ≡ Fault x)
+      × (admission us caps (s .receiving .held) (added (s .receiving .header) y) ≡ Fault x)
   unfolding step headed kept
   step-closes s y x o e =
       let h : Header = added (s .receiving .header) y in
@@ -111,19 +111,19 @@ module _ (b : ℕ) (side : Side) (caps : List ℕ) where
       (λ q. (
         eqb-true (s .receiving .rest) 0 t,
         leb-true headerLength (h .count) q,
-        settled-closes s (admission b side caps (s .receiving .held) h) x o (rw (o, t, q) at e),
+        settled-closes s (admission us caps (s .receiving .held) h) x o (rw (o, t, q) at e),
       ))
       (λ q. never (s .gate) x o (rw (o, t, q) at e)))
       (λ t. never (s .gate) x o (rw (o, t) at e))
 
-  pub fault-found : (s : Reception) (xs : List ℕ) (x : Closing) → isOpen (s .gate) ≡ true → fed b side caps s xs .gate ≡ Closed x
-      → Eighth b side caps s xs (Refuses caps x)
+  pub fault-found : (s : Reception) (xs : List ℕ) (x : Closing) → isOpen (s .gate) ≡ true → fed us caps s xs .gate ≡ Closed x
+      → Eighth us caps s xs (Refuses caps x)
   unfolding fed admission
   fault-found s [] x o e = never (s .gate) x o e
   fault-found s (y ∷ ys) x o e =
-      by-test (isOpen (step b side caps s y .gate))
+      by-test (isOpen (step us caps s y .gate))
       (λ t.
-      let k = fault-found (step b side caps s y) ys x t e in
+      let k = fault-found (step us caps s y) ys x t e in
       record {
         front = y ∷ k .front;
         byte = k .byte;
@@ -135,48 +135,48 @@ module _ (b : ℕ) (side : Side) (caps : List ℕ) where
         says = k .says;
       })
       (λ t.
-      let k = step-closes s y x o (ap (λ (q : Reception). q .gate) (sym (fed-closed b side caps (step b side caps s y) ys t)) ∙ e) in
+      let k = step-closes s y x o (ap (λ (q : Reception). q .gate) (sym (fed-closed us caps (step us caps s y) ys t)) ∙ e) in
       record { front = []; byte = y; back = ys; run = refl; reached = o; idle = k .0; whole = k .1; says = k .2 })
 
   -- ---- what it leaves
 
   -- while the connection stays open, all bytes are used
-  pub used-all : (s : Reception) (xs : List ℕ) → isOpen (fed b side caps s xs .gate) ≡ true → used b side caps s xs ≡ length xs
+  pub used-all : (s : Reception) (xs : List ℕ) → isOpen (fed us caps s xs .gate) ≡ true → used us caps s xs ≡ length xs
   unfolding fed used
   used-all s [] o = refl
   used-all s (x ∷ xs) o =
-      by-test (isOpen (s .gate)) (λ t. rw t (ap suc (used-all (step b side caps s x) xs o)))
+      by-test (isOpen (s .gate)) (λ t. rw t (ap suc (used-all (step us caps s x) xs o)))
       (λ t.
-      let stays : fed b side caps s (x ∷ xs) ≡ s = fed-closed b side caps s (x ∷ xs) t in
+      let stays : fed us caps s (x ∷ xs) ≡ s = fed-closed us caps s (x ∷ xs) t in
       absurd (true≢false (sym o ∙ ap (λ (q : Reception). isOpen (q .gate)) stays ∙ t)))
 
-  pub fault-leaves : (s : Reception) (xs : List ℕ) (x : Closing) (e : Eighth b side caps s xs (Refuses caps x))
-      → (fed b side caps s xs ≡ settled (fed b side caps s (e .front)) (Fault x)) × (used b side caps s xs ≡ suc (length (e .front)))
+  pub fault-leaves : (s : Reception) (xs : List ℕ) (x : Closing) (e : Eighth us caps s xs (Refuses caps x))
+      → (fed us caps s xs ≡ settled (fed us caps s (e .front)) (Fault x)) × (used us caps s xs ≡ suc (length (e .front)))
   unfolding fed used headed admission
   fault-leaves s xs x e =
-      let m : Reception = fed b side caps s (e .front) in
+      let m : Reception = fed us caps s (e .front) in
       let n : Reception = settled m (Fault x) in
       let h : Header = added (m .receiving .header) (e .byte) in
-      let leads : step b side caps m (e .byte) ≡ n =
-      step-headed b side caps m (e .byte) (e .reached) (e .idle)
+      let leads : step us caps m (e .byte) ≡ n =
+      step-headed us caps m (e .byte) (e .reached) (e .idle)
       ∙ rw (le-leb headerLength (h .count) (e .whole), e .says) in
-      let on : fed b side caps m (e .byte ∷ e .back) ≡ n =
-      ap (λ (q : Reception). fed b side caps q (e .back)) leads ∙ fed-closed b side caps n (e .back) refl in
-      let last : used b side caps (step b side caps m (e .byte)) (e .back) ≡ 0 =
-      ap (λ (q : Reception). used b side caps q (e .back)) leads ∙ used-closed b side caps n (e .back) refl in
-      let some : used b side caps m (e .byte ∷ e .back) ≡ 1 = rw (e .reached) (ap suc last) in (
-        ap (λ (l : List ℕ). fed b side caps s l) (e .run) ∙ fed-append b side caps s (e .front) (e .byte ∷ e .back) ∙ on,
-        ap (λ (l : List ℕ). used b side caps s l) (e .run) ∙ used-append b side caps s (e .front) (e .byte ∷ e .back)
+      let on : fed us caps m (e .byte ∷ e .back) ≡ n =
+      ap (λ (q : Reception). fed us caps q (e .back)) leads ∙ fed-closed us caps n (e .back) refl in
+      let last : used us caps (step us caps m (e .byte)) (e .back) ≡ 0 =
+      ap (λ (q : Reception). used us caps q (e .back)) leads ∙ used-closed us caps n (e .back) refl in
+      let some : used us caps m (e .byte ∷ e .back) ≡ 1 = rw (e .reached) (ap suc last) in (
+        ap (λ (l : List ℕ). fed us caps s l) (e .run) ∙ fed-append us caps s (e .front) (e .byte ∷ e .back) ∙ on,
+        ap (λ (l : List ℕ). used us caps s l) (e .run) ∙ used-append us caps s (e .front) (e .byte ∷ e .back)
             ∙ omega (arith, used-all s (e .front) (e .reached), some),
       )
 
   -- what was open at a byte was open before
-  pub open-before : (s : Reception) (xs : List ℕ) → isOpen (fed b side caps s xs .gate) ≡ true → isOpen (s .gate) ≡ true
+  pub open-before : (s : Reception) (xs : List ℕ) → isOpen (fed us caps s xs .gate) ≡ true → isOpen (s .gate) ≡ true
   open-before s xs o =
       by-test (isOpen (s .gate)) (λ t. t)
-      (λ t. absurd (true≢false (sym o ∙ ap (λ (q : Reception). isOpen (q .gate)) (fed-closed b side caps s xs t) ∙ t)))
+      (λ t. absurd (true≢false (sym o ∙ ap (λ (q : Reception). isOpen (q .gate)) (fed-closed us caps s xs t) ∙ t)))
 
-  pub fault-why : (s : Reception) (xs : List ℕ) (x : Closing) → isOpen (s .gate) ≡ true → fed b side caps s xs .gate ≡ Closed x
-      → Eighth b side caps s xs (λ held n to. Cause caps held n to x)
+  pub fault-why : (s : Reception) (xs : List ℕ) (x : Closing) → isOpen (s .gate) ≡ true → fed us caps s xs .gate ≡ Closed x
+      → Eighth us caps s xs (λ held n to. Cause caps held n to x)
   fault-why s xs x o e =
       eighth-so {P = Refuses caps x} {Q = λ held n to. Cause caps held n to x} (λ held n to f. cause caps held n to x f) (fault-found s xs x o e)

@@ -11,7 +11,7 @@ use borrow.Author.Tests.{ne-eqb, lt-leb}
 use lib.Dec.{eqb}
 use lib.ListN.{length, getD}
 use Rattle.base.proofs.Conds.{by-test, both-true, exactly-when}
-use Rattle.wire.specs.declared.instances.Side.{Side}
+use Rattle.wire.specs.declared.instances.Party.{Party}
 use Rattle.wire.specs.declared.instances.Route.{Route}
 use Rattle.wire.specs.declared.instances.Route.the-variants.{Unknown, Wrong, To}
 use Rattle.connection.specs.declared.Connection.{Connection}
@@ -21,8 +21,8 @@ use Rattle.connection.specs.declared.Gate.{Gate}
 use Rattle.connection.specs.declared.Gate.the-variants.{Open, Closed}
 use Rattle.connection.specs.Closings.{numberOf, isOpen, gateOk}
 use Rattle.connection.specs.Parts.{withReceiving}
-use Rattle.connection.specs.Ranges.{inRange, receiveStoreOk, receives}
-use Rattle.connection.proofs.RangeLaws.{ranged}
+use Rattle.range.specs.Ranges.{inRange, receiveStoreOk, receives}
+use Rattle.range.proofs.RangeLaws.{ranged}
 use Rattle.feeding.specs.Feeding.{Reception, admitted, fed, used, left, Told, told, refused, given, answered, feedOpen, feedOf}
 use Rattle.feeding.specs.Numbers.{Listens, Comes, When, out-of-range, closed, unknown-protocol, wrong-mode, overflows, done, Exactly, LeavesAll, Keeps, Joins, WholeOrCut}
 use Rattle.feeding.proofs.Bytes.{fed-closed, used-closed, fed-append, used-append, feed-range, feed-closed, feed-open}
@@ -33,10 +33,10 @@ use Rattle.feeding.proofs.Faults.{fault-found, fault-why, fault-leaves,
 -- ---- what a call leaves
 
 abbrev ends : Connection → List ℕ → List ℕ → Reception
-ends c st xs = fed (c .settings .bundle) (c .settings .side) (c .settings .receive) (given c st) xs
+ends c st xs = fed (c .settings .party) (c .settings .receive) (given c st) xs
 
 abbrev uses : Connection → List ℕ → List ℕ → ℕ
-uses c st xs = used (c .settings .bundle) (c .settings .side) (c .settings .receive) (given c st) xs
+uses c st xs = used (c .settings .party) (c .settings .receive) (given c st) xs
 
 -- a gate is open or has a closing
 gate-is : {P : Type 0} (g : Gate) → (isOpen g ≡ true → g ≡ Open → P) → ((x : Closing) → isOpen g ≡ false → g ≡ Closed x → P) → P
@@ -53,7 +53,7 @@ module _ (c : Connection) (st xs : List ℕ) (ok : receives c (length st) ≡ tr
 
   closing-number : (x : Closing) → ends c st xs .gate ≡ Closed x → (11 ≤ numberOf x) × (numberOf x ≤ 13)
   closing-number x e =
-      cause-number (fault-why (c .settings .bundle) (c .settings .side) (c .settings .receive) (given c st) xs x o e .says)
+      cause-number (fault-why (c .settings .party) (c .settings .receive) (given c st) xs x o e .says)
 
   -- a call that takes bytes answers 0, or 11 to 13
   number-low : feedOf c st xs .answer .number ≤ 13
@@ -103,7 +103,7 @@ module _ (c : Connection) (st xs : List ℕ) where
 
   -- a header that is a fault closes, and gives its number
   fault-closes : (x : Closing) → Comes c st xs (Faults x) → ends c st xs .gate ≡ Closed x
-  fault-closes x k = ap (λ (s : Reception). s .gate) (fault-leaves (c .settings .bundle) (c .settings .side) (c .settings .receive) (given c st) xs x k .0)
+  fault-closes x k = ap (λ (s : Reception). s .gate) (fault-leaves (c .settings .party) (c .settings .receive) (given c st) xs x k .0)
 
   fault-number : {P : List ℕ → ℕ → Route → Type 0} → Listens c st → (x : Closing) (k : Comes c st xs P) → Holds k (Faults x)
       → number ≡ numberOf x
@@ -119,12 +119,12 @@ module _ (c : Connection) (st xs : List ℕ) where
       let (i, e, l) = k .says in fault-number p (Of 13 i) k (ap (admitted (c .settings .receive) _ _) e ∙ rw (lt-leb _ (getD (c .settings .receive) i 0) l))
   answered-by (done (ok, o) none) =
       gate-is (ends c st xs .gate) (λ t g. answer-number c st xs ok o ∙ ap left g)
-      (λ x t g. absurd (none (eighth-so {P = Faults x} (λ held n to e. (x, e)) (fault-found (c .settings .bundle) (c .settings .side) (c .settings .receive) (given c st) xs x o g))))
+      (λ x t g. absurd (none (eighth-so {P = Faults x} (λ held n to e. (x, e)) (fault-found (c .settings .party) (c .settings .receive) (given c st) xs x o g))))
 
   -- what closes has a cause
   by-fault : Listens c st → (x : Closing) → ends c st xs .gate ≡ Closed x → (n : ℕ) × When c st xs n
   by-fault (ok, o) x g =
-      let k = fault-why (c .settings .bundle) (c .settings .side) (c .settings .receive) (given c st) xs x o g in
+      let k = fault-why (c .settings .party) (c .settings .receive) (given c st) xs x o g in
       by-cause (k .says) (λ e. (11, unknown-protocol (ok, o) (eighth-with k e))) (λ e. (12, wrong-mode (ok, o) (eighth-with k e)))
       (λ e. (13, overflows (ok, o) (eighth-with k e)))
 
@@ -146,8 +146,7 @@ exactly c st xs n = let (k, w) = when c st xs in exactly-when (When c st xs) (an
 
 pub leaves : LeavesAll
 leaves c st xs =
-    let b = c .settings .bundle in
-    let side = c .settings .side in
+    let us = c .settings .party in
     let caps = c .settings .receive in
     record {
       nothing = λ n e h.
@@ -156,10 +155,10 @@ leaves c st xs =
           (λ ok o. absurd (omega (arith, number-low c st xs ok o)));
       all = λ e.
           let p = stays c st xs e in
-          ap (λ (r : Told). r .answer .used) (answer c st xs (p .0 .0) (p .0 .1)) ∙ used-all b side caps (given c st) xs (p .1);
+          ap (λ (r : Told). r .answer .used) (answer c st xs (p .0 .0) (p .0 .1)) ∙ used-all us caps (given c st) xs (p .1);
       fault = λ x ok e.
-          let k = fault-leaves b side caps (given c st) xs x e in
-          answer c st xs ok (open-before b side caps (given c st) (e .front) (e .reached))
+          let k = fault-leaves us caps (given c st) xs x e in
+          answer c st xs ok (open-before us caps (given c st) (e .front) (e .reached))
           ∙ ap (λ (n : ℕ). answered c n (ends c st xs)) (k .1)
           ∙ ap (λ (s : Reception). answered c (suc (length (e .front))) s) (k .0);
     }
@@ -167,11 +166,11 @@ leaves c st xs =
 -- ---- the range
 
 -- record and store after a call that took bytes and left a closing in range
-receives-after : (c : Connection) (st xs : List ℕ) → receives c (length st) ≡ true → gateOk (c .settings .bundle) (ends c st xs .gate) ≡ true
+receives-after : (c : Connection) (st xs : List ℕ) → receives c (length st) ≡ true → gateOk (c .settings .party .bundle) (ends c st xs .gate) ≡ true
     → receives (withReceiving c (ends c st xs .receiving) (ends c st xs .gate)) (length (ends c st xs .store)) ≡ true
 receives-after c st xs ok g =
     let p = both-true (inRange c) (receiveStoreOk (c .settings) (length st)) ok in
-    let k = kept-fed (c .settings .bundle) (c .settings .side) (c .settings .receive) (c .receiving .starts) (length st) (given c st) xs (kept-given c st (p .0)) in
+    let k = kept-fed (c .settings .party) (c .settings .receive) (c .receiving .starts) (length st) (given c st) xs (kept-given c st (p .0)) in
     rw (range-with c (length st) (ends c st xs) (p .0) k g, k .long) (p .1)
 
 pub keeps : Keeps
@@ -179,7 +178,7 @@ keeps c st xs spelt bytes ok =
     ways c st xs (λ out e. absurd (true≢false (sym ok ∙ out))) (λ _ o e. rw e (ok, spelt))
     (λ _ o.
     let p = both-true (inRange c) (receiveStoreOk (c .settings) (length st)) ok in
-    let s = proper-fed (c .settings .bundle) (c .settings .side) (c .settings .receive) (given c st) xs (spelt, ranged c (p .0) .closing) bytes in
+    let s = proper-fed (c .settings .party) (c .settings .receive) (given c st) xs (spelt, ranged c (p .0) .closing) bytes in
     rw (answer c st xs ok o) (receives-after c st xs ok (s .1), s .0))
 
 -- ---- T4'
@@ -200,11 +199,8 @@ module _ (c : Connection) (st xs ys : List ℕ) where
       })
 
   module _ (ok : receives c (length st) ≡ true) (o : isOpen (c .gate) ≡ true) where
-    abbrev b : ℕ
-    b = c .settings .bundle
-
-    abbrev side : Side
-    side = c .settings .side
+    abbrev us : Party
+    us = c .settings .party
 
     abbrev caps : List ℕ
     caps = c .settings .receive
@@ -215,22 +211,22 @@ module _ (c : Connection) (st xs ys : List ℕ) where
     abbrev next : Connection
     next = withReceiving c (s .receiving) (s .gate)
 
-    on : ends c st (xs ++ ys) ≡ fed b side caps s ys
-    on = fed-append b side caps (given c st) xs ys
+    on : ends c st (xs ++ ys) ≡ fed us caps s ys
+    on = fed-append us caps (given c st) xs ys
 
-    count : uses c st (xs ++ ys) ≡ uses c st xs + used b side caps s ys
-    count = used-append b side caps (given c st) xs ys
+    count : uses c st (xs ++ ys) ≡ uses c st xs + used us caps s ys
+    count = used-append us caps (given c st) xs ys
 
-    whole : feedOf c st (xs ++ ys) ≡ answered c (uses c st xs + used b side caps s ys) (fed b side caps s ys)
+    whole : feedOf c st (xs ++ ys) ≡ answered c (uses c st xs + used us caps s ys) (fed us caps s ys)
     whole =
         answer c st (xs ++ ys) ok o ∙ ap (λ (n : ℕ). answered c n (ends c st (xs ++ ys))) count
-        ∙ ap (λ (t : Reception). answered c (uses c st xs + used b side caps s ys) t) on
+        ∙ ap (λ (t : Reception). answered c (uses c st xs + used us caps s ys) t) on
 
     -- the first leaves it open: the second goes on
     cut-open : isOpen (s .gate) ≡ true → s .gate ≡ Open → Cut c st xs ys (answered c (uses c st xs) s)
     cut-open t g =
-        let ok′ : receives next (length (s .store)) ≡ true = receives-after c st xs ok (ap (gateOk b) g) in
-        let second : feedOf next (s .store) ys ≡ answered next (used b side caps s ys) (fed b side caps s ys) = answer next (s .store) ys ok′ t in
+        let ok′ : receives next (length (s .store)) ≡ true = receives-after c st xs ok (ap (gateOk (us .bundle)) g) in
+        let second : feedOf next (s .store) ys ≡ answered next (used us caps s ys) (fed us caps s ys) = answer next (s .store) ys ok′ t in
         record {
           connection = ap (λ (r : Told). r .answer .connection) whole ∙ sym (ap (λ (r : Told). r .answer .connection) second);
           store = ap (λ (r : Told). r .store) whole ∙ sym (ap (λ (r : Told). r .store) second);
@@ -243,10 +239,10 @@ module _ (c : Connection) (st xs ys : List ℕ) where
     -- the first closes it: no byte more is used
     cut-closed : (x : Closing) → isOpen (s .gate) ≡ false → s .gate ≡ Closed x → Cut c st xs ys (answered c (uses c st xs) s)
     cut-closed x t g =
-        let stays : fed b side caps s ys ≡ s = fed-closed b side caps s ys t in
-        let none : used b side caps s ys ≡ 0 = used-closed b side caps s ys t in
+        let stays : fed us caps s ys ≡ s = fed-closed us caps s ys t in
+        let none : used us caps s ys ≡ 0 = used-closed us caps s ys t in
         let all : feedOf c st (xs ++ ys) ≡ answered c (uses c st xs) s =
-        whole ∙ ap (λ (q : Reception). answered c (uses c st xs + used b side caps s ys) q) stays
+        whole ∙ ap (λ (q : Reception). answered c (uses c st xs + used us caps s ys) q) stays
         ∙ ap (λ (n : ℕ). answered c (uses c st xs + n) s) none
         ∙ ap (λ (n : ℕ). answered c n s) (add-zero (uses c st xs)) in
         let second : (m : ℕ) × (feedOf next (s .store) ys ≡ told (refused next m) (s .store)) =

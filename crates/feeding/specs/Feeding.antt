@@ -6,7 +6,7 @@ use lib.Dec.{eqb, leb}
 use lib.ListN.{length, getD, set}
 use Rattle.wire.specs.declared.segment.Header.{Header}
 use Rattle.wire.specs.Segments.{headerLength, empty, added, decoded}
-use Rattle.wire.specs.declared.instances.Side.{Side}
+use Rattle.wire.specs.declared.instances.Party.{Party}
 use Rattle.wire.specs.declared.instances.Route.{Route}
 use Rattle.wire.specs.declared.instances.Route.the-variants.{Unknown, Wrong, To}
 use Rattle.wire.specs.Instances.{routeOf}
@@ -18,7 +18,7 @@ use Rattle.connection.specs.declared.Gate.the-variants.{Open, Closed}
 use Rattle.connection.specs.Closings.{numberOf, isOpen}
 use Rattle.connection.specs.Areas.{laidIn}
 use Rattle.connection.specs.Parts.{withReceiving}
-use Rattle.connection.specs.Ranges.{receives}
+use Rattle.range.specs.Ranges.{receives}
 use Rattle.feeding.specs.declared.Admission.{Admission}
 use Rattle.feeding.specs.declared.Admission.the-variants.{Fault, Payload}
 use Rattle.feeding.specs.declared.Fed.{Fed}
@@ -39,10 +39,10 @@ admitted caps held n (Wrong i) = Fault (Of 12 i)
 admitted caps held n (To i) = cond (leb (getD held i 0 + n) (getD caps i 0)) (Payload i n) (Fault (Of 13 i))
 
 -- what a whole header leads to, in a bundle
-unfoldable pub admission : ℕ → Side → List ℕ → List ℕ → Header → Admission
-admission b side caps held h =
+unfoldable pub admission : Party → List ℕ → List ℕ → Header → Admission
+admission us caps held h =
     let d = decoded (h .bytes) in
-    admitted caps held (d .len) (routeOf b side (d .protocol) (d .mode))
+    admitted caps held (d .len) (routeOf us (d .protocol) (d .mode))
 
 -- a payload's instance while bytes of it are to come, else 0
 abbrev pub instanceFor : ℕ → ℕ → ℕ
@@ -63,10 +63,10 @@ settled s (Payload i n) =
     }
 
 -- one byte of a header
-unfoldable pub headed : ℕ → Side → List ℕ → Reception → ℕ → Reception
-headed b side caps s x =
+unfoldable pub headed : Party → List ℕ → Reception → ℕ → Reception
+headed us caps s x =
     let h = added (s .receiving .header) x in
-    cond (leb headerLength (h .count)) (settled s (admission b side caps (s .receiving .held) h))
+    cond (leb headerLength (h .count)) (settled s (admission us caps (s .receiving .held) h))
     (record { receiving = withHeader (s .receiving) h; gate = s .gate; store = s .store })
 
 -- ---- a payload
@@ -94,19 +94,19 @@ kept caps s xs =
 -- ---- bytes
 
 -- One byte: of the payload under way, else of a header. A closed connection takes nothing.
-unfoldable pub step : ℕ → Side → List ℕ → Reception → ℕ → Reception
-step b side caps s x =
-    cond (isOpen (s .gate)) (cond (eqb (s .receiving .rest) 0) (headed b side caps s x) (kept caps s (x ∷ []))) s
+unfoldable pub step : Party → List ℕ → Reception → ℕ → Reception
+step us caps s x =
+    cond (isOpen (s .gate)) (cond (eqb (s .receiving .rest) 0) (headed us caps s x) (kept caps s (x ∷ []))) s
 
 -- a run: its bytes one after the other
-unfoldable pub fed : ℕ → Side → List ℕ → Reception → List ℕ → Reception
-fed b side caps s [] = s
-fed b side caps s (x ∷ xs) = fed b side caps (step b side caps s x) xs
+unfoldable pub fed : Party → List ℕ → Reception → List ℕ → Reception
+fed us caps s [] = s
+fed us caps s (x ∷ xs) = fed us caps (step us caps s x) xs
 
 -- how many of them are used: those up to the byte that closes
-unfoldable pub used : ℕ → Side → List ℕ → Reception → List ℕ → ℕ
-used b side caps s [] = 0
-used b side caps s (x ∷ xs) = cond (isOpen (s .gate)) (suc (used b side caps (step b side caps s x) xs)) 0
+unfoldable pub used : Party → List ℕ → Reception → List ℕ → ℕ
+used us caps s [] = 0
+used us caps s (x ∷ xs) = cond (isOpen (s .gate)) (suc (used us caps (step us caps s x) xs)) 0
 
 -- ---- a call
 
@@ -137,11 +137,10 @@ answered c n s =
 -- the bytes fed to an open connection, from record and store as given
 unfoldable pub feedOpen : Connection → List ℕ → List ℕ → Told
 feedOpen c st xs =
-    let b = c .settings .bundle in
-    let side = c .settings .side in
+    let us = c .settings .party in
     let caps = c .settings .receive in
     let s = given c st in
-    answered c (used b side caps s xs) (fed b side caps s xs)
+    answered c (used us caps s xs) (fed us caps s xs)
 
 -- Feed: 23; 20 (also for no bytes); and else the bytes.
 unfoldable pub feedOf : Connection → List ℕ → List ℕ → Told

@@ -5,7 +5,7 @@ use mathlib.Core.List.{List, [], _∷_}
 use lib.ListN.{length, getD, drop}
 use Rattle.ring.specs.Ring.{baseOf, run}
 use Rattle.wire.specs.declared.segment.Header.{Header}
-use Rattle.wire.specs.declared.instances.Side.{Side}
+use Rattle.wire.specs.declared.instances.Party.{Party}
 use Rattle.wire.specs.Segments.{headerLength, empty, added}
 use Rattle.wire.specs.Instances.{instances, most}
 use Rattle.connection.specs.declared.Gate.{Gate}
@@ -58,9 +58,9 @@ pub record Settles (w : Way) (a : Admission) (n : ℕ) (t : Step) : Type 0 where
   pub leaves : (starts held store : List ℕ) → reception starts held (t .way) (t .gate) store ≡ settled (reception starts held w Open store) a
 
 -- a step uses one byte and leads to what a header byte does
-pub record Heads (b : ℕ) (side : Side) (caps held : List ℕ) (w : Way) (x : ℕ) (t : Step) : Type 0 where
+pub record Heads (us : Party) (caps held : List ℕ) (w : Way) (x : ℕ) (t : Step) : Type 0 where
   pub one : t .used ≡ 1
-  pub leaves : (starts store : List ℕ) → reception starts held (t .way) (t .gate) store ≡ headed b side caps (reception starts held w Open store) x
+  pub leaves : (starts store : List ℕ) → reception starts held (t .way) (t .gate) store ≡ headed us caps (reception starts held w Open store) x
 
 -- a step uses as many bytes of the run xs from `at` on as it says, at least one, and lays them in the store
 pub record Lays (caps starts held held′ : List ℕ) (w : Way) (store store′ xs : List ℕ) (at : ℕ) (t : Step) : Type 0 where
@@ -70,11 +70,11 @@ pub record Lays (caps starts held held′ : List ℕ) (w : Way) (store store′ 
   pub leaves : reception starts held′ (t .way) (t .gate) store′ ≡ kept caps (reception starts held w Open store) (run xs at (t .used))
 
 -- a step leads to a reception from which the bytes that are left to feed leave what they would have left before it
-pub record Steps (b : ℕ) (side : Side) (caps starts held held′ : List ℕ) (w : Way) (store store′ xs : List ℕ) (at : ℕ) (t : Step) : Type 0 where
+pub record Steps (us : Party) (caps starts held held′ : List ℕ) (w : Way) (store store′ xs : List ℕ) (at : ℕ) (t : Step) : Type 0 where
   pub some : 0 < t .used
   pub ends : at + t .used ≤ length xs
-  pub leaves : fed b side caps (reception starts held w Open store) (drop at xs)
-      ≡ fed b side caps (reception starts held′ (t .way) (t .gate) store′) (drop (at + t .used) xs)
-  pub counts : used b side caps (reception starts held w Open store) (drop at xs)
-      ≡ t .used + used b side caps (reception starts held′ (t .way) (t .gate) store′) (drop (at + t .used) xs)
-  pub sound : Sound b caps (reception starts held′ (t .way) (t .gate) store′)
+  pub leaves : fed us caps (reception starts held w Open store) (drop at xs)
+      ≡ fed us caps (reception starts held′ (t .way) (t .gate) store′) (drop (at + t .used) xs)
+  pub counts : used us caps (reception starts held w Open store) (drop at xs)
+      ≡ t .used + used us caps (reception starts held′ (t .way) (t .gate) store′) (drop (at + t .used) xs)
+  pub sound : Sound (us .bundle) caps (reception starts held′ (t .way) (t .gate) store′)

@@ -8,7 +8,7 @@ use lib.Dec.{eqb}
 use lib.ListN.{length, getD}
 use Rattle.base.specs.Numbers.{Bytes}
 use Rattle.wire.specs.declared.segment.Header.{Header}
-use Rattle.wire.specs.declared.instances.Side.{Side}
+use Rattle.wire.specs.declared.instances.Party.{Party}
 use Rattle.wire.specs.declared.instances.Route.{Route}
 use Rattle.wire.specs.declared.instances.Route.the-variants.{Unknown, Wrong, To}
 use Rattle.wire.specs.Segments.{headerLength, empty, added, decoded}
@@ -18,30 +18,30 @@ use Rattle.connection.specs.declared.Closing.{Closing}
 use Rattle.connection.specs.declared.Gate.the-variants.{Closed}
 use Rattle.connection.specs.Closings.{numberOf, isOpen}
 use Rattle.connection.specs.Parts.{withReceiving}
-use Rattle.connection.specs.Ranges.{receives}
+use Rattle.range.specs.Ranges.{receives}
 use Rattle.feeding.specs.declared.Admission.the-variants.{Fault}
 use Rattle.feeding.specs.Feeding.{Reception, admitted, withHeader, fed, Told, told, refused, given, feedOf}
 
 -- A byte of the run, reached while the connection is open and no payload under way, makes a header whole; of the held counts there, and of
 -- the header's length and route, P holds.
-pub record Eighth (b : ℕ) (side : Side) (caps : List ℕ) (s : Reception) (xs : List ℕ) (P : List ℕ → ℕ → Route → Type 0) : Type 0 where
+pub record Eighth (us : Party) (caps : List ℕ) (s : Reception) (xs : List ℕ) (P : List ℕ → ℕ → Route → Type 0) : Type 0 where
   pub front : List ℕ
   pub byte : ℕ
   pub back : List ℕ
   pub run : xs ≡ front ++ (byte ∷ back)
-  pub reached : isOpen (fed b side caps s front .gate) ≡ true
-  pub idle : fed b side caps s front .receiving .rest ≡ 0
-  pub whole : headerLength ≤ added (fed b side caps s front .receiving .header) byte .count
+  pub reached : isOpen (fed us caps s front .gate) ≡ true
+  pub idle : fed us caps s front .receiving .rest ≡ 0
+  pub whole : headerLength ≤ added (fed us caps s front .receiving .header) byte .count
   pub says :
-      let d = decoded (added (fed b side caps s front .receiving .header) byte .bytes) in
-      P (fed b side caps s front .receiving .held) (d .len) (routeOf b side (d .protocol) (d .mode))
+      let d = decoded (added (fed us caps s front .receiving .header) byte .bytes) in
+      P (fed us caps s front .receiving .held) (d .len) (routeOf us (d .protocol) (d .mode))
 
 -- a call that takes bytes, and a header in them
 abbrev pub Listens : Connection → List ℕ → Type 0
 Listens c st = (receives c (length st) ≡ true) × (isOpen (c .gate) ≡ true)
 
 abbrev pub Comes : Connection → List ℕ → List ℕ → (List ℕ → ℕ → Route → Type 0) → Type 0
-Comes c st xs P = Eighth (c .settings .bundle) (c .settings .side) (c .settings .receive) (given c st) xs P
+Comes c st xs P = Eighth (c .settings .party) (c .settings .receive) (given c st) xs P
 
 -- T2: when each number is answered, in document 01's order
 pub data When (c : Connection) (st xs : List ℕ) : ℕ → Type 0 where
@@ -63,7 +63,7 @@ pub record Leaves (c : Connection) (st xs : List ℕ) (r : Told) : Type 0 where
   pub all : r .answer .number ≡ 0 → r .answer .used ≡ length xs
   pub fault : (x : Closing) → receives c (length st) ≡ true
       → (e : Comes c st xs (λ held n to. admitted (c .settings .receive) held n to ≡ Fault x))
-      → let s = fed (c .settings .bundle) (c .settings .side) (c .settings .receive) (given c st) (e .front) in
+      → let s = fed (c .settings .party) (c .settings .receive) (given c st) (e .front) in
       let after = withReceiving c (withHeader (s .receiving) empty) (Closed x) in
       r ≡ told (record { number = numberOf x; used = suc (length (e .front)); connection = after }) (s .store)
 

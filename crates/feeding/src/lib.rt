@@ -9,26 +9,24 @@ use connection::Connection;
 use connection::Gate;
 use connection::Receiving;
 use connection::areas::write;
-use connection::parts::is_open;
-use connection::parts::number_of;
-use connection::parts::with_receiving;
-use connection::range::fits;
-use connection::range::receives;
+use connection::closings::is_open;
+use connection::closings::number_of;
+use range::Marks;
+use range::fits;
+use range::in_range;
 use wire::instances::INSTANCES;
+use wire::instances::Party;
 use wire::instances::Route;
-use wire::instances::Side;
 use wire::segment::HEADER;
 use wire::segment::Header;
 ghost use mathlib.Core.Path.{_≡_};
-ghost use mathlib.Core.Bool.{true};
 ghost use Prim.Native.Nat.{_+_, _-_, _≤_, _<_};
 ghost use lib.ListN.{length};
 ghost use Rattle.wire.specs.Instances.{most};
 ghost use Rattle.wire.specs.Segments.{headerLength};
 ghost use Rattle.wire.specs.declared.instances.Route.the-variants.{To};
 ghost use Rattle.connection.specs.declared.Gate.the-variants.{Open};
-ghost use Rattle.connection.specs.Ranges.{receives};
-ghost use Rattle.feeding.specs.Feeding.{admitted, admission, instanceFor, fed, used, left, told, refused, feedOpen, feedOf};
+ghost use Rattle.feeding.specs.Feeding.{admitted, admission, instanceFor, fed, used, left, told, refused, feedOf};
 ghost use Rattle.feeding.specs.Inside.{reception, Sound, Under, headerAt, Settles, Heads, Lays, Steps};
 
 // Feed's answer: the number, how many bytes were used, and the record.
@@ -77,17 +75,11 @@ fn room(caps: &[u64; INSTANCES], held: &[u64; INSTANCES], n: u64, i: usize) -> A
 }
 
 // What a whole header leads to: its route and its length decide.
-fn admit(
-    bundle: u64,
-    side: Side,
-    caps: &[u64; INSTANCES],
-    held: &[u64; INSTANCES],
-    h: Header,
-) -> Admission
-    ensures { λ r. ⌜ r ≡ admission bundle side (now (caps .entry)) (now (held .entry)) h ⌝ }
+fn admit(party: Party, caps: &[u64; INSTANCES], held: &[u64; INSTANCES], h: Header) -> Admission
+    ensures { λ r. ⌜ r ≡ admission party (now (caps .entry)) (now (held .entry)) h ⌝ }
 {
     let d = h.segment();
-    let route = wire::instances::find(bundle, side, d.protocol, d.mode);
+    let route = wire::instances::find(party, d.protocol, d.mode);
     let n = d.len as u64;
     match route {
         Route::Unknown => Admission::Fault(Closing::Bare(11)),
@@ -146,20 +138,13 @@ fn settled(w: Way, a: Admission, used: usize) -> Step
 }
 
 // One byte of a header. At the eighth the header is settled.
-fn headed(
-    bundle: u64,
-    side: Side,
-    caps: &[u64; INSTANCES],
-    held: &[u64; INSTANCES],
-    w: Way,
-    b: u8,
-) -> Step
-    ensures { λ r. ⌜ Heads bundle side (now (caps .entry)) (now (held .entry)) w b r ⌝ }
+fn headed(party: Party, caps: &[u64; INSTANCES], held: &[u64; INSTANCES], w: Way, b: u8) -> Step
+    ensures { λ r. ⌜ Heads party (now (caps .entry)) (now (held .entry)) w b r ⌝ }
 {
     let old = w.header;
     let header = old.add(b);
     if header.whole() {
-        return settled(w, admit(bundle, side, caps, held, header), 1);
+        return settled(w, admit(party, caps, held, header), 1);
     }
     let way = Way {
         header,
@@ -190,8 +175,7 @@ fn header_at(input: &[u8], at: usize) -> Header
 
 // All eight bytes of a header, from place `at` on.
 fn header_whole(
-    bundle: u64,
-    side: Side,
+    party: Party,
     caps: &[u64; INSTANCES],
     held: &[u64; INSTANCES],
     w: Way,
@@ -199,10 +183,10 @@ fn header_whole(
     at: usize,
 ) -> Step
     requires { ⌜ at + headerLength ≤ length (now input) ⌝ }
-    ensures { λ r. ⌜ Settles w (admission bundle side (now (caps .entry)) (now (held .entry)) (headerAt (now (input .entry)) at)) headerLength r ⌝ }
+    ensures { λ r. ⌜ Settles w (admission party (now (caps .entry)) (now (held .entry)) (headerAt (now (input .entry)) at)) headerLength r ⌝ }
 {
     let header = header_at(input, at);
-    settled(w, admit(bundle, side, caps, held, header), HEADER)
+    settled(w, admit(party, caps, held, header), HEADER)
 }
 
 // As many bytes of the payload under way as there are from place `at` on.
@@ -240,8 +224,7 @@ fn kept(
 // One step: of the payload under way as many bytes as there are; else a header's eight bytes where none has come and all are
 // there, and one byte of it where not.
 fn part(
-    bundle: u64,
-    side: Side,
+    party: Party,
     caps: &[u64; INSTANCES],
     starts: &[u64; INSTANCES],
     held: &mut [u64; INSTANCES],
@@ -250,9 +233,9 @@ fn part(
     input: &[u8],
     at: usize,
 ) -> Step
-    requires { ⌜ Sound bundle (now caps) (reception (now starts) (now held) w Open (now store)) ⌝ }
+    requires { ⌜ Sound (party .bundle) (now caps) (reception (now starts) (now held) w Open (now store)) ⌝ }
     requires { ⌜ at < length (now input) ⌝ }
-    ensures { λ r. ⌜ Steps bundle side (now (caps .entry)) (now (starts .entry)) (now (held .entry)) (now (held .exit)) w (now (store .entry))
+    ensures { λ r. ⌜ Steps party (now (caps .entry)) (now (starts .entry)) (now (held .entry)) (now (held .exit)) w (now (store .entry))
         (now (store .exit)) (now (input .entry)) at r ⌝ }
 {
     if 0 < w.rest {
@@ -260,15 +243,14 @@ fn part(
     }
     let header = w.header;
     if base::and(header.count == 0, HEADER <= input.len() - at) {
-        return header_whole(bundle, side, caps, held, w, input, at);
+        return header_whole(party, caps, held, w, input, at);
     }
-    headed(bundle, side, caps, held, w, input[at])
+    headed(party, caps, held, w, input[at])
 }
 
 // All of input, or up to the byte that closes; used counts from its front.
 fn steps(
-    bundle: u64,
-    side: Side,
+    party: Party,
     caps: &[u64; INSTANCES],
     starts: &[u64; INSTANCES],
     held: &mut [u64; INSTANCES],
@@ -276,18 +258,18 @@ fn steps(
     store: &mut [u8],
     input: &[u8],
 ) -> Step
-    requires { ⌜ Sound bundle (now caps) (reception (now starts) (now held) w Open (now store)) ⌝ }
+    requires { ⌜ Sound (party .bundle) (now caps) (reception (now starts) (now held) w Open (now store)) ⌝ }
     ensures { λ r. ⌜ reception (now (starts .entry)) (now (held .exit)) (r .way) (r .gate) (now (store .exit))
-        ≡ fed bundle side (now (caps .entry)) (reception (now (starts .entry)) (now (held .entry)) w Open (now (store .entry)))
+        ≡ fed party (now (caps .entry)) (reception (now (starts .entry)) (now (held .entry)) w Open (now (store .entry)))
         (now (input .entry)) ⌝ }
     ensures { λ r. ⌜ r .used
-        ≡ used bundle side (now (caps .entry)) (reception (now (starts .entry)) (now (held .entry)) w Open (now (store .entry)))
+        ≡ used party (now (caps .entry)) (reception (now (starts .entry)) (now (held .entry)) w Open (now (store .entry)))
         (now (input .entry)) ⌝ }
 {
     let mut way = w;
     let mut at: usize = 0;
     while at < input.len() {
-        let t = part(bundle, side, caps, starts, held, way, store, input, at);
+        let t = part(party, caps, starts, held, way, store, input, at);
         way = t.way;
         at += t.used;
         let gate = t.gate;
@@ -327,60 +309,71 @@ fn refused(c: Connection, number: u64) -> Fed
     }
 }
 
-// The bytes of an open connection in range.
-fn feed_open(c: Connection, store: &mut [u8], input: &[u8]) -> Fed
-    requires { ⌜ (receives c (length (now store)) ≡ true) × (c .gate ≡ Open) ⌝ }
-    ensures { λ r. ⌜ told r (now (store .exit)) ≡ feedOpen c (now (store .entry)) (now (input .entry)) ⌝ }
+// Feeds a run of bytes: 23, 20, and else the bytes up to the one that closes. The record is taken apart once, and put
+// together once, at the end.
+pub fn feed(c: Connection, store: &mut [u8], input: &[u8]) -> Fed
+    ensures { λ r. ⌜ told r (now (store .exit)) ≡ feedOf c (now (store .entry)) (now (input .entry)) ⌝ }
 {
-    let settings = c.settings;
-    let side = settings.side;
-    let caps = settings.receive;
+    let s = c.settings;
     let r = c.receiving;
-    let starts = r.starts;
-    let mut held = r.held;
+    let w = c.sending;
+    let t = c.talk;
+    let gate = c.gate;
+    let party = s.party;
     let header = r.header;
+    let marks = Marks {
+        limit: s.limit,
+        turn: w.turn,
+        bytes: header.count,
+        instance: r.instance,
+        rest: r.rest,
+        accepted: t.accepted,
+        gate,
+    };
+    let range = in_range(
+        party.bundle,
+        &s.receive,
+        &r.starts,
+        &r.held,
+        &s.send,
+        &w.starts,
+        &w.waiting,
+        &t.states,
+        marks,
+    );
+    if !base::and(range.ok, store.len() as u64 == range.receive) {
+        return refused(c, 23);
+    }
+    if !is_open(gate) {
+        return refused(c, 20);
+    }
     let way = Way {
         header,
         instance: r.instance,
         rest: r.rest,
     };
-    let t = steps(
-        settings.bundle,
-        side,
-        &caps,
-        &starts,
-        &mut held,
-        way,
-        store,
-        input,
-    );
-    let gate = t.gate;
-    let w = t.way;
-    let header = w.header;
+    let starts = r.starts;
+    let mut held = r.held;
+    let x = steps(party, &s.receive, &starts, &mut held, way, store, input);
+    let closed = x.gate;
+    let y = x.way;
+    let header = y.header;
     let receiving = Receiving {
         starts,
         held,
         header,
-        instance: w.instance,
-        rest: w.rest,
+        instance: y.instance,
+        rest: y.rest,
     };
     Fed {
-        number: left(gate),
-        used: t.used,
-        connection: with_receiving(c, receiving, gate),
+        number: left(closed),
+        used: x.used,
+        connection: Connection {
+            settings: s,
+            receiving,
+            sending: w,
+            talk: t,
+            gate: closed,
+        },
     }
-}
-
-// Feeds a run of bytes: 23, 20, and else the bytes up to the one that closes.
-pub fn feed(c: Connection, store: &mut [u8], input: &[u8]) -> Fed
-    ensures { λ r. ⌜ told r (now (store .exit)) ≡ feedOf c (now (store .entry)) (now (input .entry)) ⌝ }
-{
-    if !receives(c, store.len()) {
-        return refused(c, 23);
-    }
-    let gate = c.gate;
-    if !is_open(gate) {
-        return refused(c, 20);
-    }
-    feed_open(c, store, input)
 }

@@ -2,11 +2,11 @@
 use super::bad;
 use super::spoken;
 use super::text;
+use base::smaller;
+use build::Built;
+use calls::WORDS;
 use libc::STDOUT_FILENO;
-use script::Word;
-use script::lists;
-use script::lists::Numbers;
-use script::lists::Runs;
+ghost use Rattle.io.specs.Counts.{Counts};
 
 // What a lent buffer is filled with.
 const FILL: u8 = 0xee;
@@ -14,91 +14,51 @@ const FILL: u8 = 0xee;
 // No lent buffer is longer.
 const ROOM: usize = 32;
 
-// What a line asks for, besides numbers and runs: the bundle and its instance, the kind, how many runs are counted, and how
-// long a buffer is lent.
-struct Asked {
-    bundle: u64,
-    instance: u64,
-    kind: u64,
-    runs: u64,
-    len: u64,
-}
-
 // build B,I KIND,RUNS,LEN NUMS FIRST,SECOND
-pub fn build(line: &mut [u8], w: Word) {
-    let first = script::next(line, w);
-    let second = script::next(line, first);
-    let place = lists::numbers_of(line, first);
-    let given = lists::numbers_of(line, second);
-    if !base::and(place.count == 2, given.count == 3) {
+pub fn build(line: &[u8], words: [u64; WORDS]) {
+    if !asked(words) {
         bad();
         return;
     }
-    let i = place.numbers;
-    let k = given.numbers;
-    let asked = Asked {
-        bundle: i[0],
-        instance: i[1],
-        kind: k[0],
-        runs: k[1],
-        len: k[2],
-    };
-    of_parts(asked, line, second);
-}
-
-// The rest of the line: NUMS FIRST,SECOND
-fn of_parts(asked: Asked, line: &mut [u8], w: Word) {
-    let first = script::next(line, w);
-    let second = script::next(line, first);
-    let nums = lists::numbers_of(line, first);
-    let parts = lists::runs_of(line, second);
-    let all = base::and(nums.ok, parts.count == 2);
-    if !base::and(all, script::last(line, second)) {
-        bad();
-        return;
-    }
-    made(asked, nums, parts, line);
-}
-
-// Builds into a buffer of its own.
-fn made(asked: Asked, nums: Numbers, parts: Runs, line: &[u8]) {
     let mut buf = [FILL; ROOM];
-    into(asked, nums, parts, line, &mut buf);
+    let n = lent(words[8] as usize, &buf);
+    built(line, words, &mut buf[..n]);
 }
 
-// Builds into the front of a buffer, and prints the line.
-fn into(asked: Asked, nums: Numbers, parts: Runs, line: &[u8], buf: &mut [u8]) {
-    let k = asked.len as usize;
-    if buf.len() < k {
-        bad();
-        return;
-    }
-    let numbers = nums.numbers;
-    lent(asked, &numbers, nums.count, parts, line, &mut buf[0..k]);
+// Whether the lists have as many numbers and runs, and there is room for the buffer.
+fn asked(words: [u64; WORDS]) -> bool {
+    let numbers = base::and(words[0] == 2, words[5] == 3);
+    let runs = base::and(words[15] == 2, words[8] <= ROOM as u64);
+    base::and(numbers, runs)
 }
 
-// Builds into a lent buffer, of the first of some numbers and of runs that are bytes of the line.
-fn lent(asked: Asked, numbers: &[u64], count: usize, parts: Runs, line: &[u8], buf: &mut [u8]) {
-    if numbers.len() < count {
-        bad();
-        return;
-    }
-    let starts = parts.starts;
-    let lengths = parts.lengths;
-    let a = script::text(line, script::within(line, starts[0], lengths[0]));
-    let b = script::text(line, script::within(line, starts[1], lengths[1]));
-    let m = build::build(
-        asked.bundle,
-        asked.instance,
-        asked.kind,
-        &numbers[0..count],
-        asked.runs,
-        a,
-        b,
+// How many bytes of a slice are lent: so many, and all where that is more.
+fn lent(n: usize, s: &[u8]) -> usize
+    ensures { λ r. ⌜ Counts r (now (s .entry)) ⌝ }
+{
+    smaller(n, s.len())
+}
+
+// Builds into a lent buffer, and prints the line.
+fn built(line: &[u8], words: [u64; WORDS], buf: &mut [u8]) {
+    let m = made(line, words, buf);
+    begun(words[2], words[6], m.number);
+    told(words[1], words[2], m.number, buf, m.len);
+}
+
+// Of numbers, and of runs that are bytes of the line.
+fn made(line: &[u8], words: [u64; WORDS], buf: &mut [u8]) -> Built {
+    let all = words;
+    build::build(
+        words[1],
+        words[2],
+        words[6],
+        calls::listed(&all, 10),
+        words[7],
+        calls::bytes(line, words, 16),
+        calls::bytes(line, words, 18),
         buf,
-    );
-    begun(asked.instance, asked.kind, m.number);
-    told(asked.bundle, asked.instance, m.number, buf, m.len);
+    )
 }
 
 // The instance, the kind and the number.

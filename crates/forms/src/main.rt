@@ -11,6 +11,7 @@
 // 0, the bytes, and what they are read as.
 mod built;
 
+use calls::WORDS;
 use item::Verdict;
 use libc::STDIN_FILENO;
 use libc::STDOUT_FILENO;
@@ -19,10 +20,6 @@ use messages::MOST_PLACES;
 use messages::Message;
 use messages::Reading;
 use rows::Protocol;
-use script::Word;
-use script::lists;
-use script::runs;
-use script::runs::Run;
 ghost use Prim.Native.Nat.{_≤_};
 ghost use lib.ListN.{length};
 
@@ -51,16 +48,18 @@ fn each(lines: &mut [u8]) {
 }
 
 fn line(line: &mut [u8]) {
-    let w = script::first(line);
-    if script::is(line, w, b"read") {
-        read(line, w);
-        return;
+    let mut words = [0; WORDS];
+    let case = calls::said(b"read lr build lllp", 2, line, &mut words);
+    match case {
+        0 => read(line, words),
+        1 => built::build(line, words),
+        _ => other(line),
     }
-    if script::is(line, w, b"build") {
-        built::build(line, w);
-        return;
-    }
-    if !script::is(line, w, b"#") {
+}
+
+// A remark, or no case.
+fn other(line: &[u8]) {
+    if !script::is(line, script::first(line), b"#") {
         bad();
     }
 }
@@ -75,21 +74,12 @@ fn text(bytes: &[u8]) {
 }
 
 // read B,I,FROM RUN
-fn read(line: &mut [u8], w: Word) {
-    let first = script::next(line, w);
-    let second = script::next(line, first);
-    let given = lists::numbers_of(line, first);
-    if !base::and(given.count == 3, script::last(line, second)) {
+fn read(line: &[u8], words: [u64; WORDS]) {
+    if words[0] != 3 {
         bad();
         return;
     }
-    let Run::Is(n) = runs::of(line, second) else {
-        bad();
-        return;
-    };
-    let numbers = given.numbers;
-    let bytes = script::text(line, script::within(line, second.from, n));
-    spoken(numbers[0], numbers[1], bytes, numbers[2]);
+    spoken(words[1], words[2], calls::bytes(line, words, 5), words[3]);
 }
 
 // All bytes of a slice, as a ring from a place on, in the protocol that an instance of a bundle speaks.

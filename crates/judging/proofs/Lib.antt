@@ -1,2 +1,4 @@
 pub mod JudgingLaws
+pub mod HearingLaws
+pub mod SayingLaws
 pub mod Moving

@@ -25,8 +25,8 @@ use Rattle.connection.specs.declared.Talk.{Talk}
 use Rattle.connection.specs.declared.Connection.{Connection}
 use Rattle.connection.specs.Shapes.{Shaped}
 use Rattle.connection.specs.Parts.{withTalk}
-use Rattle.connection.proofs.RangeLaws.{Ranged}
-use Rattle.judging.specs.Judging.{spokenBy, stateOf, movedBy}
+use Rattle.range.proofs.RangeLaws.{Ranged}
+use Rattle.judging.specs.Judging.{movedBy}
 
 -- ---- where a row leads
 
@@ -103,10 +103,10 @@ moved-shaped c i kind next s =
       states = rw length-set (s .states);
     }
 
-module _ (c : Connection) (i kind flag next : ℕ) (inside : i < instances (c .settings .bundle)) (long : length (c .talk .states) ≡ most)
-    (r : Ranged c) (e : nextOf (spokenBy c i) (stateOf c i) kind flag ≡ To next) where
+module _ (c : Connection) (i kind flag next : ℕ) (inside : i < instances (c .settings .party .bundle)) (long : length (c .talk .states) ≡ most)
+    (r : Ranged c) (e : nextOf (speaks (c .settings .party .bundle) i) (getD (c .talk .states) i 0) kind flag ≡ To next) where
   abbrev b : ℕ
-  b = c .settings .bundle
+  b = c .settings .party .bundle
 
   abbrev after : Talk
   after = movedBy (c .talk) i kind next
@@ -120,7 +120,7 @@ module _ (c : Connection) (i kind flag next : ℕ) (inside : i < instances (c .s
   state-low : (j : ℕ) → j < instances b → getD (after .states) j 0 ≤ doneOf (speaks b j)
   state-low j h =
       by-test (eqb j i)
-      (λ q. rw (eqb-true j i q, here) (leads-low (speaks b i) (stateOf c i) kind flag next e .1))
+      (λ q. rw (eqb-true j i q, here) (leads-low (speaks b i) (getD (c .talk .states) i 0) kind flag next e .1))
       (λ q. rw (there j (eqb-false j i q)) (r .states j h))
 
   -- with a move of instance 0, Accept is marked only at Done; a move of another leaves mark and state

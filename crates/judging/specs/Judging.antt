@@ -1,17 +1,21 @@
--- What taking and putting ask alike (document 01, "Messages and transitions" and "Numbers and their order"; document 02, K1).
+-- What take and put ask, of one instance (document 01, "Messages and transitions" and "Numbers and their order"; document 02, K1). Take and put
+-- apply it to the view that the record gives of the instance.
 use Prim.Native.Nat.{ℕ}
 use mathlib.Core.Bool.{Bool, false, cond, not, _&&_, _||_}
 use mathlib.Core.List.{List}
 use lib.Dec.{eqb}
-use lib.ListN.{length, getD, set}
-use Rattle.wire.specs.declared.instances.Side.{Side}
+use lib.ListN.{length, getD, set, take}
+use Rattle.wire.specs.declared.instances.Party.{Party}
 use Rattle.wire.specs.Instances.{handshake, roleOf, initiates}
+use Rattle.item.specs.declared.Verdict.{Verdict}
+use Rattle.item.specs.declared.Verdict.the-variants.{Whole, Bad, Incomplete}
+use Rattle.item.specs.Verdict.{verdict}
 use Rattle.rows.specs.declared.Protocol.{Protocol}
 use Rattle.rows.specs.declared.Agency.{Agency}
 use Rattle.rows.specs.declared.Agency.the-variants.{Initiator, Responder, Nobody}
 use Rattle.rows.specs.declared.Next.{Next}
 use Rattle.rows.specs.declared.Next.the-variants.{To, None}
-use Rattle.rows.specs.Rows.{nextOf, agencyOf}
+use Rattle.rows.specs.Rows.{nextOf, agencyOf, doneOf}
 use Rattle.rows.specs.Spoken.{speaks}
 use Rattle.messages.specs.declared.Message.{Message}
 use Rattle.messages.specs.declared.Answer.{Answer}
@@ -19,7 +23,38 @@ use Rattle.messages.specs.Matching.{begun}
 use Rattle.messages.specs.Reading.{messageOf, numberOf, flagOf}
 use Rattle.connection.specs.declared.Talk.{Talk}
 use Rattle.connection.specs.declared.Connection.{Connection}
+use Rattle.connection.specs.Closings.{isOpen}
 use Rattle.judging.specs.declared.Judged.{Judged}
+
+-- ---- the view
+
+-- What an answer of take or put may rest on: which end we are; the instance, and its state; whether Handshake ended in Accept; whether the connection
+-- is closed; and the bytes: those held, for take, and the message, for put.
+pub record View : Type 0 where
+  pub party : Party
+  pub instance : ℕ
+  pub state : ℕ
+  pub accepted : Bool
+  pub closed : Bool
+  pub bytes : List ℕ
+
+-- the view that a record gives of instance i, with these bytes
+abbrev pub viewOf : Connection → ℕ → List ℕ → View
+viewOf c i bs =
+    record {
+      party = c .settings .party;
+      instance = i;
+      state = getD (c .talk .states) i 0;
+      accepted = c .talk .accepted;
+      closed = not (isOpen (c .gate));
+      bytes = bs;
+    }
+
+-- ---- what is asked of it
+
+-- the protocol that the instance speaks
+abbrev pub spoken : View → Protocol
+spoken v = speaks (v .party .bundle) (v .instance)
 
 -- C marks initiator agency, S responder agency: whether it is ours, who are initiator or not
 abbrev pub holds : Bool → Agency → Bool
@@ -27,40 +62,37 @@ holds initiator Initiator = initiator
 holds initiator Responder = not initiator
 holds initiator Nobody = false
 
--- the protocol that instance i speaks, and its present state
-abbrev pub spokenBy : Connection → ℕ → Protocol
-spokenBy c i = speaks (c .settings .bundle) i
+-- whether we have agency in a state of instance i, and in the present one
+unfoldable pub ours : Party → ℕ → ℕ → Bool
+ours us i state = holds (initiates (us .side) (roleOf (us .bundle) i)) (agencyOf (speaks (us .bundle) i) state)
 
-abbrev pub stateOf : Connection → ℕ → ℕ
-stateOf c i = getD (c .talk .states) i 0
+abbrev pub oursNow : View → Bool
+oursNow v = ours (v .party) (v .instance) (v .state)
 
--- whether we have agency in a state of instance i of a bundle
-unfoldable pub ours : ℕ → Side → ℕ → ℕ → Bool
-ours b side i state = holds (initiates side (roleOf b i)) (agencyOf (speaks b i) state)
+-- from instance 1 up, if Handshake hasn't ended in Accept
+abbrev pub barred : View → Bool
+barred v = not (eqb (v .instance) handshake) && not (v .accepted)
 
--- whether we have it in the present state
-abbrev pub oursNow : Connection → ℕ → Bool
-oursNow c i = ours (c .settings .bundle) (c .settings .side) i (stateOf c i)
-
--- 19: from instance 1 up, if Handshake hasn't ended in Accept
-abbrev pub barred : Talk → ℕ → Bool
-barred t i = not (eqb i handshake) && not (t .accepted)
-
--- the state moves, and message 1 of Handshake, Accept, is marked
-abbrev pub movedBy : Talk → ℕ → ℕ → ℕ → Talk
-movedBy t i kind next = record { states = set (t .states) i next; accepted = t .accepted || (eqb i handshake && eqb kind 1) }
+-- the protocol has ended
+abbrev pub atDone : View → Bool
+atDone v = eqb (v .state) (doneOf (spoken v))
 
 -- where a message leads in the present state
-abbrev pub leadsTo : Connection → ℕ → Message → Next
-leadsTo c i m = nextOf (spokenBy c i) (stateOf c i) (m .kind) (flagOf (spokenBy c i) m)
+abbrev pub leadsTo : View → Message → Next
+leadsTo v m = nextOf (spoken v) (v .state) (m .kind) (flagOf (spoken v) m)
 
--- a refusal or a notice
+-- ---- judging bytes
+
+-- a refusal or a notice; and a message of n bytes that leads to a state
 abbrev pub unjudged : ℕ → Judged
 unjudged n = record { number = n; len = 0; message = begun 0; next = 0 }
 
+abbrev pub led : ℕ → Message → ℕ → Judged
+led n m to = record { number = 0; len = n; message = m; next = to }
+
 -- 16: a message of n bytes has no row in the present state
 abbrev pub byRow : ℕ → Message → Next → Judged
-byRow n m (To next) = record { number = 0; len = n; message = m; next = next }
+byRow n m (To next) = led n m next
 byRow n m None = unjudged 16
 
 -- 15: not a message of the protocol
@@ -72,3 +104,35 @@ byReading p state n a =
 -- what bytes are in a state of the protocol: 15; 16; or the message that they are, and where it leads
 unfoldable pub judgedOf : Protocol → ℕ → List ℕ → Judged
 judgedOf p state bs = byReading p state (length bs) (messageOf p bs)
+
+-- ---- take and put, up to 16
+
+-- the bytes held, by the verdict on them: incomplete, notice 1, or 20 if closed; 14; 15; 16
+abbrev pub byVerdict : Protocol → ℕ → Bool → List ℕ → Verdict → Judged
+byVerdict p state closed bs Incomplete = unjudged (cond closed 20 1)
+byVerdict p state closed bs (Bad at) = unjudged 14
+byVerdict p state closed bs (Whole n) = judgedOf p state (take n bs)
+
+-- take: 19; at Done, notice 3 with nothing held, else 17; our agency, notice 2; and then the bytes decide
+unfoldable pub heard : View → Judged
+heard v =
+    cond (barred v) (unjudged 19)
+    (cond (atDone v) (unjudged (cond (eqb (length (v .bytes)) 0) 3 17))
+    (cond (oursNow v) (unjudged 2) (byVerdict (spoken v) (v .state) (v .closed) (v .bytes) (verdict (v .bytes)))))
+
+-- put: 20; 19; 21, not our agency, or Done, where nobody has it; and then the bytes decide, which are one message: 15; 16
+unfoldable pub said : View → Judged
+said v =
+    cond (v .closed) (unjudged 20)
+    (cond (barred v) (unjudged 19)
+    (cond (oursNow v) (judgedOf (spoken v) (v .state) (v .bytes)) (unjudged 21)))
+
+-- ---- the move
+
+-- whether Handshake has ended in Accept, its message 1, once a message of this kind has moved instance i
+abbrev pub marks : Bool → ℕ → ℕ → Bool
+marks accepted i kind = accepted || (eqb i handshake && eqb kind 1)
+
+-- the state moves, and Accept is marked
+abbrev pub movedBy : Talk → ℕ → ℕ → ℕ → Talk
+movedBy t i kind next = record { states = set (t .states) i next; accepted = marks (t .accepted) i kind }

@@ -1,1 +1,3 @@
 pub mod Judging
+pub mod Hearing
+pub mod Saying

@@ -1,11 +1,9 @@
-// What taking and putting have in common: who may send, whether bytes are a message with a row in the present state,
-// and where it leads.
+// What take and put ask of one instance: who may send, whether bytes are a message with a row in the present state, and
+// where it leads.
 //
-// One reader and one row search serve both. Nothing here changes anything: what is judged is told, with the number that
-// a refusal has.
-use connection::Talk;
-use connection::parts::at;
-use connection::parts::changed;
+// `heard` has the order of take's refusals and notices up to 16, `said` that of put's. One reader and one row search serve
+// both. They get numbers and bytes and no record, and nothing here changes anything: what is judged is told, with the
+// number that a refusal has.
 use item::Verdict;
 use messages::Message;
 use messages::Reading;
@@ -14,16 +12,19 @@ use rows::Agency;
 use rows::Next;
 use rows::Protocol;
 use wire::instances::HANDSHAKE;
-use wire::instances::Side;
+use wire::instances::Party;
 ghost use mathlib.Core.Path.{_≡_};
+ghost use mathlib.Core.Bool.{not, _&&_};
 ghost use Prim.Native.Nat.{_≤_, _<_};
-ghost use lib.ListN.{length, getD};
+ghost use lib.Dec.{eqb};
+ghost use lib.ListN.{length};
 ghost use Rattle.ring.specs.Ring.{around};
-ghost use Rattle.wire.specs.Instances.{instances};
+ghost use Rattle.wire.specs.Instances.{instances, handshake, initiates, roleOf};
 ghost use Rattle.item.specs.declared.Verdict.the-variants.{Whole};
 ghost use Rattle.item.specs.Verdict.{verdict};
+ghost use Rattle.rows.specs.Rows.{agencyOf};
 ghost use Rattle.messages.specs.Reading.{numberOf};
-ghost use Rattle.judging.specs.Judging.{holds, ours, barred, movedBy, unjudged, byRow, judgedOf};
+ghost use Rattle.judging.specs.Judging.{holds, unjudged, byRow, judgedOf, byVerdict, heard, said, marks};
 
 // Whether bytes are a message that moves the state: 0 with the message, its length and the next state, or the number of
 // a refusal or notice, and all else 0.
@@ -48,44 +49,31 @@ fn holds(initiator: bool, agency: Agency) -> bool
     }
 }
 
-// The present state of instance i.
-pub fn state(t: Talk, i: usize) -> u64
-    ensures { λ r. ⌜ r ≡ getD (t .states) i 0 ⌝ }
+// Whether we have agency in a state of instance i, which speaks p. At Done nobody has.
+fn ours(party: Party, i: usize, p: Protocol, state: u64) -> bool
+    requires { ⌜ i < instances (party .bundle) ⌝ }
+    ensures { λ r. ⌜ r ≡ holds (initiates (party .side) (roleOf (party .bundle) i)) (agencyOf p state) ⌝ }
 {
-    let states = t.states;
-    at(states, i)
-}
-
-// Whether we have agency in a state of instance i of a bundle. At Done nobody has.
-pub fn ours(bundle: u64, side: Side, i: usize, state: u64) -> bool
-    requires { ⌜ i < instances bundle ⌝ }
-    ensures { λ r. ⌜ r ≡ ours bundle side i state ⌝ }
-{
-    let agency = rows::agent(rows::spoken::protocol(bundle, i), state);
-    holds(wire::instances::mode(bundle, side, i) == 0, agency)
+    let agency = rows::agent(p, state);
+    holds(wire::instances::mode(party, i) == 0, agency)
 }
 
 // Whether Handshake, which hasn't ended in Accept, bars instance i.
-pub fn barred(t: Talk, i: usize) -> bool
-    ensures { λ r. ⌜ r ≡ barred t i ⌝ }
+fn barred(accepted: bool, i: usize) -> bool
+    ensures { λ r. ⌜ r ≡ (not (eqb i handshake) && not accepted) ⌝ }
 {
-    base::and(base::not(i == HANDSHAKE), base::not(t.accepted))
+    base::and(base::not(i == HANDSHAKE), base::not(accepted))
 }
 
-// The states, and the mark of Accept, once a message of this kind has moved instance i to the next state.
-pub fn moved_by(t: Talk, i: usize, kind: u64, next: u64) -> Talk
-    ensures { λ r. ⌜ r ≡ movedBy t i kind next ⌝ }
+// Whether Handshake has ended in Accept, once a message of this kind has moved instance i.
+pub fn marks(accepted: bool, i: usize, kind: u64) -> bool
+    ensures { λ r. ⌜ r ≡ marks accepted i kind ⌝ }
 {
-    let states = t.states;
-    let accept = base::and(i == HANDSHAKE, kind == ACCEPT);
-    Talk {
-        states: changed(states, i, next),
-        accepted: base::or(t.accepted, accept),
-    }
+    base::or(accepted, base::and(i == HANDSHAKE, kind == ACCEPT))
 }
 
 // A refusal or a notice.
-pub fn unjudged(number: u64) -> Judged
+fn unjudged(number: u64) -> Judged
     ensures { λ r. ⌜ r ≡ unjudged number ⌝ }
 {
     Judged {
@@ -119,7 +107,7 @@ fn by_row(n: usize, message: Message, next: Next) -> Judged
 }
 
 // The n bytes from the place `from` on of a slice seen as a ring, which were measured, in a state of the protocol.
-pub fn judge(p: Protocol, state: u64, s: &[u8], from: usize, n: usize) -> Judged
+fn judge(p: Protocol, state: u64, s: &[u8], from: usize, n: usize) -> Judged
     requires { ⌜ (from ≤ length (now s)) × (n ≤ length (now s)) × (verdict (around (now s) from n) ≡ Whole n) ⌝ }
     ensures { λ r. ⌜ r ≡ judgedOf p state (around (now (s .entry)) from n) ⌝ }
 {
@@ -132,6 +120,46 @@ pub fn judge(p: Protocol, state: u64, s: &[u8], from: usize, n: usize) -> Judged
     }
     let next = rows::find(p, state, message.kind, messages::flag(p, message));
     by_row(n, message, next)
+}
+
+// The first item among the n bytes from the place `start` on of an area, which is a ring, in a state of the protocol.
+fn measured(p: Protocol, state: u64, closed: bool, area: &[u8], start: usize, n: usize) -> Judged
+    requires { ⌜ (start ≤ length (now area)) × (n ≤ length (now area)) ⌝ }
+    ensures { λ r. ⌜ r ≡ byVerdict p state closed (around (now (area .entry)) start n) (verdict (around (now (area .entry)) start n)) ⌝ }
+{
+    let v = cbor::measure(area, start, n);
+    match v {
+        Verdict::Whole(len) => judge(p, state, area, start, len),
+        Verdict::Bad(_) => unjudged(14),
+        Verdict::Incomplete => unjudged(base::choose(closed, 20, 1)),
+    }
+}
+
+// What take asks, of the n bytes held, from the place `start` on of an area.
+pub fn heard(
+    party: Party,
+    i: usize,
+    state: u64,
+    accepted: bool,
+    closed: bool,
+    area: &[u8],
+    start: usize,
+    n: usize,
+) -> Judged
+    requires { ⌜ (i < instances (party .bundle)) × (start ≤ length (now area)) × (n ≤ length (now area)) ⌝ }
+    ensures { λ r. ⌜ r ≡ heard (record { party = party; instance = i; state = state; accepted = accepted; closed = closed; bytes = around (now (area .entry)) start n }) ⌝ }
+{
+    if barred(accepted, i) {
+        return unjudged(19);
+    }
+    let p = rows::spoken::protocol(party.bundle, i);
+    if state == rows::done(p) {
+        return unjudged(base::choose(n == 0, 3, 17));
+    }
+    if ours(party, i, p, state) {
+        return unjudged(2);
+    }
+    measured(p, state, closed, area, start, n)
 }
 
 // Bytes that are not exactly one item are no message.
@@ -153,7 +181,7 @@ fn judge_item(p: Protocol, state: u64, s: &[u8], n: usize) -> Judged
 }
 
 // All bytes of a slice, in a state of the protocol.
-pub fn judge_slice(p: Protocol, state: u64, s: &[u8]) -> Judged
+fn judge_slice(p: Protocol, state: u64, s: &[u8]) -> Judged
     ensures { λ r. ⌜ r ≡ judgedOf p state (now (s .entry)) ⌝ }
 {
     let v = cbor::measure_slice(s);
@@ -162,4 +190,29 @@ pub fn judge_slice(p: Protocol, state: u64, s: &[u8]) -> Judged
         Verdict::Bad(_) => no_message(),
         Verdict::Incomplete => no_message(),
     }
+}
+
+// What put asks, of a message.
+pub fn said(
+    party: Party,
+    i: usize,
+    state: u64,
+    accepted: bool,
+    closed: bool,
+    message: &[u8],
+) -> Judged
+    requires { ⌜ i < instances (party .bundle) ⌝ }
+    ensures { λ r. ⌜ r ≡ said (record { party = party; instance = i; state = state; accepted = accepted; closed = closed; bytes = now (message .entry) }) ⌝ }
+{
+    if closed {
+        return unjudged(20);
+    }
+    if barred(accepted, i) {
+        return unjudged(19);
+    }
+    let p = rows::spoken::protocol(party.bundle, i);
+    if ours(party, i, p, state) {
+        return judge_slice(p, state, message);
+    }
+    unjudged(21)
 }

@@ -1,14 +1,14 @@
 -- The fields of a form, read one after the other: what is left of them, what is left of the array, and where the last
 -- element ends.
 -- Assumes nothing.
-use Prim.Native.Nat.{ℕ, zero, suc, _+_, _-_, _≤_, _<_}
+use Prim.Native.Nat.{ℕ, zero, suc, _+_, _-_, _*_, _≤_, _<_}
 use mathlib.Core.Path.{_≡_, refl, sym, ap, subst, _∙_}
 use mathlib.Core.List.{List, [], _∷_}
 use mathlib.Core.Option.{some}
 use borrow.Author.Tests.{eq-eqb, ne-eqb}
 use native.Mathlib.Omega.{arith}
 use native.Mathlib.Numerals.{add-one}
-use lib.ListN.{length, getD, drop, length-drop}
+use lib.ListN.{length, getD, set, drop, length-drop}
 use lib.Seq.{drop-cons, drop-length}
 use Rattle.item.specs.declared.Verdict.the-variants.{Whole}
 use Rattle.item.specs.Grammar.{One, Items, Reads, item, no-more}
@@ -18,24 +18,38 @@ use Rattle.head.proofs.ReadLaws.{definite-within}
 use Rattle.rows.specs.declared.Protocol.{Protocol}
 use Rattle.messages.specs.declared.forms.Listed.{Listed}
 use Rattle.messages.specs.declared.forms.Listed.the-variants.{Row, Unknown}
-use Rattle.messages.specs.declared.elements.Number.{Number}
-use Rattle.messages.specs.declared.elements.Number.the-variants.{Is, Not}
+use Rattle.elements.specs.declared.Number.{Number}
+use Rattle.elements.specs.declared.Number.the-variants.{Is, Not}
 use Rattle.messages.specs.Forms.{formOf}
 use Rattle.messages.specs.Inside.{formAt, Finds}
-use Rattle.messages.specs.declared.forms.Field.{Field}
-use Rattle.messages.specs.declared.forms.Field.the-variants as field
-use Rattle.messages.specs.declared.elements.End.{End}
-use Rattle.messages.specs.declared.elements.End.the-variants.{At, Nowhere}
-use Rattle.messages.specs.declared.elements.Part.{Part}
-use Rattle.messages.specs.declared.elements.Part.the-variants as part
+use Rattle.elements.specs.declared.Field.{Field}
+use Rattle.elements.specs.declared.Field.the-variants as field
+use Rattle.elements.specs.declared.End.{End}
+use Rattle.elements.specs.declared.End.the-variants.{At, Nowhere}
+use Rattle.elements.specs.declared.Part.{Part}
+use Rattle.elements.specs.declared.Part.the-variants as part
 use Rattle.messages.specs.declared.Reading.the-variants.{NotArray, UnknownKind, WrongCount, WrongField}
 use Rattle.messages.specs.declared.Message.{Message}
 use Rattle.messages.specs.declared.Answer.{Answer}
-use Rattle.messages.specs.Matching.{ItemAt, ItemsAt, UnsignedAt, Opens, array, inMessage, FieldAt, begun}
-use Rattle.messages.specs.Reading.{onEnd, unsignedAt, opensAt, itemEnd, partOf, failed, read, behind, withPart, fieldsOf, counted, numberedOf, messageOf}
-use Rattle.messages.proofs.ElementLaws.{Numbers, unsigned-sound, opens-sound, forward, item-found, number-item, item-array, Parts, part-sound}
-use Rattle.messages.proofs.Steps.{number-then, number-not, end-then, end-not}
-use Rattle.messages.proofs.Theorem.{field-item, whole-item}
+use Rattle.elements.specs.Matching.{ItemAt, ItemsAt, UnsignedAt, Opens, array, inMessage, FieldAt}
+use Rattle.messages.specs.Matching.{begun, withNumber, withPlace}
+use Rattle.elements.specs.Reading.{onEnd, unsignedAt, opensAt, itemEnd, partOf}
+use Rattle.messages.specs.Reading.{failed, read, behind, withPart, fieldsOf, counted, numberedOf, messageOf}
+use Rattle.elements.proofs.ElementLaws.{Numbers, unsigned-sound, opens-sound, forward, item-found, number-item, item-array, Parts, part-sound, field-item}
+use Rattle.elements.proofs.Steps.{number-then, number-not, end-then, end-not}
+use Rattle.messages.proofs.Theorem.{whole-item}
+
+-- a message with a number more, or a place more
+pub number-said : (m : Message) (v : ℕ) {l : List ℕ} → l ≡ set (m .numbers) (m .count) v
+    → record { kind = m .kind; numbers = l; count = m .count + 1; places = m .places; parts = m .parts } ≡ withNumber m v
+number-said m v e =
+    ap (λ (l : List ℕ). record { kind = m .kind; numbers = l; count = m .count + 1; places = m .places; parts = m .parts }) e
+
+pub place-said : (m : Message) (a s : ℕ) {k l : List ℕ} → k ≡ set (m .places) (m .parts * 2) a → l ≡ set k (m .parts * 2 + 1) s
+    → record { kind = m .kind; numbers = m .numbers; count = m .count; places = l; parts = m .parts + 1 } ≡ withPlace m a s
+place-said m a s e f =
+    ap (λ (l : List ℕ). record { kind = m .kind; numbers = m .numbers; count = m .count; places = l; parts = m .parts + 1 })
+    (f ∙ ap (λ (k : List ℕ). set k (m .parts * 2 + 1) s) e)
 
 -- a field more than a message so far has room for three at least
 pub with-count : (m : Message) (w : Part) (i : ℕ) → m .count ≤ i → m .parts ≤ i → (withPart m w .count ≤ i + 1) × (withPart m w .parts ≤ i + 1)

@@ -2,25 +2,18 @@
 -- Assumes nothing.
 use mathlib.Core.Path.{_≡_, refl, ap, _∙_}
 use mathlib.Core.Bool.{Bool, cond}
-use mathlib.Core.List.{List, [], _∷_, _++_, map}
+use mathlib.Core.List.{List, [], _∷_, map}
 use mathlib.Core.Option.{Option, some}
-use Prim.Native.Nat.{ℕ, suc, _+_, _<_, _≤_}
-use native.Mathlib.Omega.{arith}
-use lib.Dec.{T, eqb, leb, leb→le}
-use lib.ListN.{length, getD, replicate, length-map, List·getD-append}
-use lib.Seq.{getD-take}
-use Rattle.base.proofs.ListLaws.{getD-map}
+use Prim.Native.Nat.{ℕ, _<_, _≤_}
+use lib.Dec.{T, eqb, leb, eqb→eq, leb→le}
+use lib.ListN.{length, getD}
 use Rattle.base.proofs.Table.{every, at}
 use Rattle.rows.specs.Inside.{entries}
-use Rattle.rows.proofs.ByProtocol.{Search}
-use Rattle.messages.specs.declared.forms.Field.{Field}
-use Rattle.messages.specs.declared.forms.Field.the-variants as field
+use Rattle.rows.proofs.ByProtocol.{Search, entry, column}
+use Rattle.elements.specs.declared.Field.{Field}
+use Rattle.elements.specs.declared.Field.the-variants as field
 use Rattle.messages.specs.Forms.{Form, form, formIn}
-use Rattle.messages.specs.Inside.{allForms, formCount, formAt, markOf, fieldOf, mostFields, columns}
-
--- the table's rows are the forms, column by column
-pub row-at : (i : ℕ) → i < formCount → getD (map columns allForms) i [] ≡ columns (formAt i)
-row-at i h = getD-map columns allForms i (form 0 []) [] h
+use Rattle.messages.specs.Inside.{allForms, formCount, formAt, markOf, fieldOf, mostFields, marks, inOne, kindIn, countOf, markIn}
 
 -- no form has more fields than columns for them
 few : ℕ → Form → Bool
@@ -44,19 +37,26 @@ field-mark field.Bool = refl
 field-mark field.Version = refl
 field-mark field.Failure = refl
 
--- the number in a field's column stands for it
-pub field-cell : (f : Form) (j : ℕ) → length (f .fields) ≤ mostFields → j < length (f .fields)
-    → fieldOf (getD (columns f) (2 + j) 0) ≡ getD (f .fields) j field.Item
-field-cell f j h l =
-    let e : 2 + j ≡ suc (suc j) = omega arith in
-    let marks : List ℕ = map markOf (f .fields) in
-    let long : length marks ≡ length (f .fields) = length-map (f .fields) markOf in
-    ap (λ (n : ℕ). fieldOf (getD (columns f) n 0)) e
-    ∙ ap fieldOf
-    (getD-take mostFields (marks ++ replicate mostFields 0) j 0 (omega arith)
-    ∙ List·getD-append marks (replicate mostFields 0) 0 j (omega arith)
-    ∙ getD-map markOf (f .fields) j field.Item 0 l)
-    ∙ field-mark (getD (f .fields) j field.Item)
+-- the table's numbers are the forms, column by column
+abbrev inTable : ℕ → ℕ
+inTable i = getD (map inOne allForms) i 0
+
+module _ (i : ℕ) (h : i < formCount) where
+  pub kind-at : kindIn (inTable i) ≡ formAt i .kind
+  unfolding entries marks
+  kind-at = column allForms (form 0 []) inOne kindIn (λ f. f .kind) tt i h
+
+  pub count-at : countOf (inTable i) ≡ length (formAt i .fields)
+  unfolding entries marks
+  count-at = column allForms (form 0 []) inOne countOf (λ f. length (f .fields)) tt i h
+
+  pub field-in : (j : ℕ) → j < length (formAt i .fields) → fieldOf (markIn (inTable i) j) ≡ getD (formAt i .fields) j field.Item
+  unfolding entries marks
+  field-in j l =
+      let test : ℕ → ℕ → Field → Bool = λ n j f. eqb (markIn n j) (markOf f) in
+      let t = entry allForms (form 0 []) inOne (λ n f. every field.Item (test n) 0 (f .fields)) tt i h in
+      let x = getD (formAt i .fields) j field.Item in
+      ap fieldOf (eqb→eq (markIn (inTable i) j) (markOf x) (at field.Item (test (inTable i)) (formAt i .fields) t j l)) ∙ field-mark x
 
 -- the search along the forms
 module _ (k : ℕ) where

@@ -7,70 +7,41 @@ use mathlib.Core.Bool.{true, false}
 use mathlib.Core.List.{List, [], _∷_}
 use mathlib.Core.Option.{Option, none, some}
 use native.Mathlib.Omega.{arith}
-use native.Mathlib.Decide.{decLt}
 use lib.Dec.{eqb}
-use lib.ListN.{length, getD, drop, length-drop, List·getD-eq-default}
-use lib.Seq.{drop-cons, drop-length}
+use lib.ListN.{length, drop, length-drop}
+use lib.Seq.{drop-length}
 use borrow.Author.Tests.{eqb-true, eq-eqb}
 use Rattle.base.proofs.Conds.{cond-cases}
-use Rattle.head.specs.Initial.{initial}
 use Rattle.head.specs.Read.{headAt}
 use Rattle.head.specs.declared.read.Head.the-variants as head
 use Rattle.head.proofs.ReadLaws.{definite-within}
 use Rattle.item.specs.declared.Verdict.{Verdict}
 use Rattle.item.specs.declared.Verdict.the-variants.{Whole, Bad, Incomplete}
-use Rattle.item.specs.Grammar.{One, Items, Content, Reads, nest, enter, one, item, no-byte, nesting}
+use Rattle.item.specs.Grammar.{One, Items, Reads, item, nesting}
 use Rattle.item.specs.Verdict.{verdict}
 use Rattle.item.proofs.Parts.{whole-reads, reads-whole}
 use Rattle.item.proofs.Theorem.{one-end}
 use Rattle.rows.specs.declared.Protocol.{Protocol}
-use Rattle.messages.specs.declared.forms.Field.{Field}
-use Rattle.messages.specs.declared.elements.Part.{Part}
-use Rattle.messages.specs.declared.elements.Part.the-variants as part
+use Rattle.elements.specs.declared.Field.{Field}
+use Rattle.elements.specs.declared.Part.{Part}
+use Rattle.elements.specs.declared.Part.the-variants as part
 use Rattle.messages.specs.declared.Reading.{Reading}
 use Rattle.messages.specs.declared.Reading.the-variants.{Read, NotArray, UnknownKind, WrongCount, WrongField}
 use Rattle.messages.specs.declared.Message.{Message}
 use Rattle.messages.specs.declared.Answer.{Answer}
 use Rattle.messages.specs.Forms.{formOf}
-use Rattle.messages.specs.Matching.{Value, number, place, ItemAt, ItemsAt, UnsignedAt, Opens, array, inMessage, FieldAt, FieldsAt, no-field, a-field, Matches, begun, withNumber, withPlace, saying, told, messageFrom}
-use Rattle.messages.specs.Matching as matching
-use Rattle.messages.specs.Reading.{onEnd, unsignedAt, opensAt, partOf, failed, read, behind, withPart, fieldsOf, counted, wholly, numberedOf, messageOf}
+use Rattle.elements.specs.Matching.{Value, number, place, ItemAt, ItemsAt, UnsignedAt, Opens, array, inMessage, FieldAt}
+use Rattle.messages.specs.Matching.{FieldsAt, no-field, a-field, Matches, begun, withNumber, withPlace, saying, told, messageFrom}
+use Rattle.elements.specs.Matching as matching
+use Rattle.elements.specs.Reading.{onEnd, unsignedAt, opensAt, partOf}
+use Rattle.messages.specs.Reading.{failed, read, behind, withPart, fieldsOf, counted, wholly, numberedOf, messageOf}
 use Rattle.messages.specs.Theorem.{Says, ReadsForms, OneMatch, MessageIsItem}
-use Rattle.messages.proofs.ElementLaws.{number-cases, unsigned-sound, opens-sound, unsigned-found, opens-found, number-item, array-item, map-item, item-array, none-at, item-then, pairs-items, versions-items, Parts, part-sound, got, part-found}
+use Rattle.elements.proofs.ElementLaws.{number-cases, unsigned-sound, opens-sound, unsigned-found, opens-found, number-item, array-item, item-array, none-at, item-then, Parts, part-sound, got, part-found, field-item}
 
 module _ (bs : List ℕ) where
-  -- ---- a field is an item
-
-  -- a bool is one byte, which is there
-  bool-there : (p b : ℕ) → getD bs p 0 ≡ b → 0 < b → p < length bs
-  bool-there p b e h = elim (decLt p (length bs)) [
-    | yes y ↦ y
-    | no x ↦ absurd (omega (arith, e, List·getD-eq-default bs 0 {n = p} (omega arith)))
-  ]
-
-  bool-item : (d p b : ℕ) → getD bs p 0 ≡ b → 0 < b → enter d (initial b) ≡ some (Content 0) → ItemAt bs d p (p + 1)
-  bool-item d p b e h f =
-      let there : p < length bs = bool-there p b e h in
-      let next : suc p ≡ p + 1 = omega arith in
-      let here : b ∷ drop (p + 1) bs ≡ drop p bs =
-      ap (λ (x : ℕ). x ∷ drop (p + 1) bs) (sym e) ∙ ap (λ (n : ℕ). getD bs p 0 ∷ drop n bs) (sym next) ∙ sym (drop-cons bs p 0 there) in
-      record { forward = omega arith; inside = omega arith; reads = subst (λ (l : List ℕ). Reads d One l (drop (p + 1) bs)) here (one f no-byte) }
-
-  pub field-item : {f : Field} {p q : ℕ} {x : Value} → FieldAt bs f p x q → ItemAt bs inMessage p q
-  unfolding enter initial nest
-  field-item (matching.item i) = i
-  field-item (matching.list o s) = array-item bs o s
-  field-item (matching.pairs {p = p} o r) = array-item bs o (pairs-items bs (definite-within bs p o .1) r)
-  field-item (matching.version-map {p = p} o r) = map-item bs o (versions-items bs (definite-within bs p o .1) r)
-  field-item (matching.word u l) = number-item bs u
-  field-item (matching.false {p = p} e) = bool-item inMessage p matching.False e (omega arith) refl
-  field-item (matching.true {p = p} e) = bool-item inMessage p matching.True e (omega arith) refl
-  field-item (matching.a-version u l) = number-item bs u
-  field-item (matching.failure u l) = number-item bs u
-
   pub fields-items : {fs : List Field} {p q : ℕ} {xs : List Value} → p ≤ length bs → FieldsAt bs fs p xs q → ItemsAt bs inMessage (length fs) p q
   fields-items h no-field = none-at bs h
-  fields-items h (a-field x r) = let i = field-item x in item-then bs i (fields-items (i .inside) r)
+  fields-items h (a-field x r) = let i = field-item bs x in item-then bs i (fields-items (i .inside) r)
 
   -- ---- the fields
 
@@ -96,9 +67,9 @@ module _ (bs : List ℕ) where
       → further w fs i m ≡ read n → Found (f ∷ fs) p m n
   unfolding told
   field-sound f fs i p m n (part.Number v q) s go e =
-      let r = go q (withNumber m v) (field-item s .inside) e in (number v ∷ r .0, r .1, a-field s (r .2), r .3)
+      let r = go q (withNumber m v) (field-item bs s .inside) e in (number v ∷ r .0, r .1, a-field s (r .2), r .3)
   field-sound f fs i p m n (part.Place a l q) s go e =
-      let r = go q (withPlace m a l) (field-item s .inside) e in (place a l ∷ r .0, r .1, a-field s (r .2), r .3)
+      let r = go q (withPlace m a l) (field-item bs s .inside) e in (place a l ∷ r .0, r .1, a-field s (r .2), r .3)
   field-sound f fs i p m n part.Wrong s go e = absurd (let z : WrongField i ≡ Read = ap (λ (a : Answer). a .reading) e in let y : _≡_ {A = ℕ} 0 1 = cc in omega arith)
 
   fields-sound : (fs : List Field) (i p : ℕ) (m n : Message) → p ≤ length bs → fieldsOf bs fs i p m ≡ read n → Found fs p m n

@@ -1,15 +1,15 @@
 -- What only functions below the operations cite, here and in `build`: how the table of forms is laid out.
-use Prim.Native.Nat.{ℕ, _<_}
+use Prim.Native.Nat.{ℕ, _+_, _*_, _/_, _%_, _<_}
 use mathlib.Core.Path.{_≡_}
 use mathlib.Core.Bool.{cond}
-use mathlib.Core.List.{List, [], _∷_, _++_, map}
+use mathlib.Core.List.{List, [], _∷_}
 use mathlib.Core.Option.{none, some}
-use lib.Dec.{eqb}
-use lib.ListN.{length, getD, take, replicate}
+use lib.Dec.{eqb, ltb}
+use lib.ListN.{length, getD}
 use Rattle.rows.specs.declared.Protocol.{Protocol}
 use Rattle.rows.specs.Inside.{table}
-use Rattle.messages.specs.declared.forms.Field.{Field}
-use Rattle.messages.specs.declared.forms.Field.the-variants.{Item, Items, Pairs, Versions, Word, Bool, Version, Failure}
+use Rattle.elements.specs.declared.Field.{Field}
+use Rattle.elements.specs.declared.Field.the-variants.{Item, Items, Pairs, Versions, Word, Bool, Version, Failure}
 use Rattle.messages.specs.declared.forms.Listed.{Listed}
 use Rattle.messages.specs.declared.forms.Listed.the-variants.{Row, Unknown}
 use Rattle.messages.specs.Forms.{Form, form, forms, formOf}
@@ -27,27 +27,40 @@ formAt i = getD allForms i (form 0 [])
 
 -- the number of a field in the table, and the field that a number stands for
 abbrev pub markOf : Field → ℕ
-markOf Item = 0
-markOf Items = 1
-markOf Pairs = 2
-markOf Versions = 3
-markOf Word = 4
-markOf Bool = 5
-markOf Version = 6
-markOf Failure = 7
+markOf Item = 1
+markOf Items = 2
+markOf Pairs = 3
+markOf Versions = 4
+markOf Word = 5
+markOf Bool = 6
+markOf Version = 7
+markOf Failure = 8
 
 abbrev pub fieldOf : ℕ → Field
 fieldOf m =
-    cond (eqb m 0) Item
-    (cond (eqb m 1) Items (cond (eqb m 2) Pairs (cond (eqb m 3) Versions (cond (eqb m 4) Word (cond (eqb m 5) Bool (cond (eqb m 6) Version Failure))))))
+    cond (eqb m 1) Item
+    (cond (eqb m 2) Items (cond (eqb m 3) Pairs (cond (eqb m 4) Versions (cond (eqb m 5) Word (cond (eqb m 6) Bool (cond (eqb m 7) Version Failure))))))
 
 -- no form has more fields
 abbrev pub mostFields : ℕ
 mostFields = 3
 
--- a row's columns: kind, number of fields, and the fields
-abbrev pub columns : Form → List ℕ
-columns f = f .kind ∷ length (f .fields) ∷ take mostFields (map markOf (f .fields) ++ replicate mostFields 0)
+-- a form as one number, and its columns in such a number: the kind, how many fields, and field j's number
+unfoldable pub marks : List Field → ℕ
+marks [] = 0
+marks (f ∷ fs) = markOf f + 16 * marks fs
+
+abbrev pub inOne : Form → ℕ
+inOne f = f .kind + 16 * marks (f .fields)
+
+abbrev pub kindIn : ℕ → ℕ
+kindIn n = n % 16
+
+abbrev pub countOf : ℕ → ℕ
+countOf n = cond (ltb n 16) 0 (cond (ltb n 256) 1 (cond (ltb n 4096) 2 3))
+
+abbrev pub markIn : ℕ → ℕ → ℕ
+markIn n j = cond (eqb j 0) (n % 256 / 16) (cond (eqb j 1) (n % 4096 / 256) (n / 4096))
 
 -- what a search of the table finds
 abbrev pub Finds : Protocol → ℕ → Listed → Type 0

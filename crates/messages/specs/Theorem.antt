@@ -6,7 +6,8 @@ use mathlib.Core.List.{List}
 use Rattle.item.specs.Grammar.{Item, nesting}
 use Rattle.rows.specs.declared.Protocol.{Protocol}
 use Rattle.messages.specs.declared.Message.{Message}
-use Rattle.messages.specs.Matching.{Value, Matches, messageFrom}
+use Rattle.elements.specs.Matching.{Value}
+use Rattle.messages.specs.Matching.{Matches, messageFrom}
 use Rattle.messages.specs.Reading.{messageOf, read}
 
 -- The bytes are a message of the protocol that says this.

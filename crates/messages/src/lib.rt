@@ -2,7 +2,6 @@
 //
 // Taking and putting read by the same function. It goes in phases, so that a reader can tell them apart: an array that
 // an unsigned number opens; a known kind; the count of elements; the fields from left to right.
-pub mod elements;
 pub mod forms;
 
 use elements::End;
@@ -20,7 +19,8 @@ ghost use lib.ListN.{length, getD, set};
 ghost use Rattle.ring.specs.Ring.{around};
 ghost use Rattle.item.specs.declared.Verdict.the-variants.{Whole};
 ghost use Rattle.item.specs.Verdict.{verdict};
-ghost use Rattle.messages.specs.Matching.{ItemsAt, inMessage, begun, withNumber, withPlace};
+ghost use Rattle.elements.specs.Matching.{ItemsAt, inMessage};
+ghost use Rattle.messages.specs.Matching.{begun, withNumber, withPlace};
 ghost use Rattle.messages.specs.Reading.{failed, withPart, behind, fieldsOf, counted, numberedOf, messageOf, numberOf, flagOf};
 ghost use Rattle.messages.specs.Forms.{formOf};
 ghost use Rattle.messages.specs.Inside.{formCount, formAt};

@@ -10,18 +10,19 @@ use lib.Dec.{T, ltb, ltb→lt}
 use lib.ListN.{length, take, drop}
 use lib.Seq.{take-at, drop-at, take-append-le}
 use Rattle.base.proofs.Table.{every}
-use Rattle.wire.specs.declared.instances.Side.{Side}
+use Rattle.wire.specs.declared.instances.Party.{Party}
 use Rattle.wire.specs.declared.instances.Side.the-variants.{Dialler}
-use Rattle.wire.specs.Instances.{initiator, Instance, bundles, bundleOf, instances, protocolOf, modeOf, find, other, pairOf}
+use Rattle.wire.specs.Instances.{initiator, Instance, bundles, bundleOf, instances, protocolOf, modeOf, find, otherOf, pairOf}
 use Rattle.wire.proofs.InstanceLaws.{of-instances, one-way}
 use Rattle.rows.specs.declared.Protocol.{Protocol}
 use Rattle.rows.specs.Spoken.{spoken, speaks}
 use Rattle.messages.specs.Reading.{messageOf}
 use Rattle.judging.specs.Judging.{leadsTo}
+use Rattle.taking.specs.Taking.{seen}
 use Rattle.promises.specs.Fairness.{queue, segments}
 use Rattle.promises.specs.History.{gave, putBy, putFor, handedFor, receivedIn}
 use Rattle.connection.specs.declared.Settings.{Settings}
-use Rattle.promises.specs.Arrival.{End, pastOf, worldOf, holding, Glued, AllThere, Journey}
+use Rattle.promises.specs.Arrival.{End, facing, pastOf, worldOf, holding, Glued, AllThere, Journey}
 use Rattle.promises.proofs.Reached.{in-range-for-ever}
 use Rattle.promises.proofs.HistoryLaws.{flat-append}
 use Rattle.promises.proofs.History.{history}
@@ -45,8 +46,8 @@ pair-within bundle i l = ltb→lt (pairOf bundle i) (instances bundle) (of-insta
 pair-speaks : (bundle i : ℕ) → i < instances bundle → speaks bundle (pairOf bundle i) ≡ speaks bundle i
 unfolding speaks
 pair-speaks bundle i l =
-    let k = one-way bundle in
-    ap spoken (sym (k .only (other Dialler) (protocolOf bundle i) (modeOf bundle Dialler i) (pairOf bundle i) (k .arrives Dialler i l) .0))
+    let us : Party = record { bundle = bundle; side = Dialler } in
+    ap spoken (sym (one-way (otherOf us) .only (protocolOf bundle i) (modeOf us i) (pairOf bundle i) (one-way us .arrives i l) .0))
 
 -- ---- what was put is there, in flight, or waits
 
@@ -54,13 +55,11 @@ pub glued : Glued
 glued a b way j i l =
     let put-so = history (a .settings) (a .receive) (a .send) (a .opened) (a .calls) (a .real) .0 .sends .put i l in
     let r = history (b .settings) (b .receive) (b .send) (b .opened) (b .calls) (b .real) .0 .receives in
-    let k = came (a .settings .bundle) (a .settings .side) i l (r .divided) (segments (pastOf a)) way (all-made (a .opened) (a .calls) (a .real)) (j .bytes) in
-    let bundle = a .settings .bundle in
-    let there : receivedIn bundle (other (a .settings .side)) (pairOf bundle i) (r .carried) (r .left)
-    ≡ handedFor (pairOf bundle i) (pastOf b) ++ holding (worldOf b) (pairOf bundle i) =
-    ap (λ (n : ℕ). receivedIn n (other (a .settings .side)) (pairOf bundle i) (r .carried) (r .left)) (sym (j .bundles))
-    ∙ ap (λ (side : Side). receivedIn (b .settings .bundle) side (pairOf bundle i) (r .carried) (r .left)) (sym (j .sides))
-    ∙ r .received (pairOf bundle i) (rw (j .bundles) (pair-within bundle i l)) in
+    let us = a .settings .party in
+    let k = came us i l (r .divided) (segments (pastOf a)) way (all-made (a .opened) (a .calls) (a .real)) (j .bytes) in
+    let there : receivedIn (otherOf us) (facing a i) (r .carried) (r .left) ≡ handedFor (facing a i) (pastOf b) ++ holding (worldOf b) (facing a i) =
+    ap (λ (them : Party). receivedIn them (facing a i) (r .carried) (r .left)) (sym (j .parties))
+    ∙ r .received (facing a i) (rw (j .parties) (pair-within (us .bundle) i l)) in
     record {
       flight = k .flight;
       put = put-so ∙ ap (λ (xs : List ℕ). xs ++ queue (worldOf a) i) (k .sent ∙ ap (λ (xs : List ℕ). xs ++ k .flight) there);
@@ -70,7 +69,7 @@ glued a b way j i l =
 pub all-there : AllThere
 all-there a b j i l =
     let k = glued a b [] j i l in
-    let there : List ℕ = handedFor (pairOf (a .settings .bundle) i) (pastOf b) ++ holding (worldOf b) (pairOf (a .settings .bundle) i) in
+    let there : List ℕ = handedFor (facing a i) (pastOf b) ++ holding (worldOf b) (facing a i) in
     k .put ∙ ap (λ (xs : List ℕ). xs ++ queue (worldOf a) i) (ap (λ (xs : List ℕ). there ++ xs) (none (k .flight) (k .few)) ∙ append-nil there)
   where
     none : (xs : List ℕ) → length xs ≤ 0 → xs ≡ []
@@ -80,15 +79,15 @@ all-there a b j i l =
 -- ---- the journey
 
 -- the bundle is that of open
-settled : (e : End) → worldOf e .connection .settings .bundle ≡ e .settings .bundle
-settled e = ap (λ (s : Settings). s .bundle) (in-range-for-ever (e .settings) (e .receive) (e .send) (e .opened) (e .calls) (e .real) .settings)
+settled : (e : End) → worldOf e .connection .settings .party .bundle ≡ e .settings .party .bundle
+settled e = ap (λ (s : Settings). s .party .bundle) (in-range-for-ever (e .settings) (e .receive) (e .send) (e .opened) (e .calls) (e .real) .settings)
 
 pub journey : Journey
 unfolding putFor flatMap
 journey a b way i p bs d lent room =
     let k = glued a b way (d .joined) i (d .within) in
-    let handed : List ℕ = handedFor (pairOf (a .settings .bundle) i) (pastOf b) in
-    let held : List ℕ = holding (worldOf b) (pairOf (a .settings .bundle) i) in
+    let handed : List ℕ = handedFor (facing a i) (pastOf b) in
+    let held : List ℕ = holding (worldOf b) (facing a i) in
     let more : List ℕ = flatMap putBy (d .behind) in
     let rest : List ℕ = k .flight ++ queue (worldOf a) i in
     let put : putFor i (pastOf a) ≡ handed ++ (bs ++ more) =
@@ -97,15 +96,16 @@ journey a b way i p bs d lent room =
     sym put ∙ k .put ∙ append-assoc (handed ++ held) (k .flight) (queue (worldOf a) i) ∙ append-assoc handed held rest in
     let same : bs ++ more ≡ held ++ rest =
     sym (drop-at handed (bs ++ more) (length handed) refl) ∙ ap (drop (length handed)) both ∙ drop-at handed (held ++ rest) (length handed) refl in
-    let bundle = a .settings .bundle in
-    let speaks-so : speaks (worldOf b .connection .settings .bundle) (pairOf bundle i) ≡ speaks bundle i =
-    ap (λ (n : ℕ). speaks n (pairOf bundle i)) (settled b ∙ d .joined .bundles) ∙ pair-speaks bundle i (d .within) in
+    let bundle = a .settings .party .bundle in
+    let speaks-so : speaks (worldOf b .connection .settings .party .bundle) (pairOf bundle i) ≡ speaks bundle i =
+    ap (λ (n : ℕ). speaks n (pairOf bundle i)) (settled b ∙ ap (λ (them : Party). them .bundle) (d .joined .parties)) ∙ pair-speaks bundle i (d .within) in
     built-is-taken bundle i p bs (d .built) (worldOf b) (pairOf bundle i) speaks-so
     (record {
+      asked = d .asked;
       awaited = d .awaited;
       held =
           sym (take-append-le (length bs) held rest (d .come)) ∙ ap (take (length bs)) (sym same) ∙ take-at bs more (length bs) refl;
       next = d .next;
       row =
-          ap (λ (q : Protocol). leadsTo (worldOf b .connection) (pairOf bundle i) (messageOf q bs .message)) speaks-so ∙ d .row;
+          ap (λ (q : Protocol). leadsTo (seen (worldOf b .connection) (worldOf b .receive) (pairOf bundle i)) (messageOf q bs .message)) speaks-so ∙ d .row;
     }) lent room

@@ -19,19 +19,21 @@ use Rattle.item.specs.Verdict as item
 use Rattle.wire.specs.Segments.{added, decoded, encoded}
 use Rattle.wire.specs.Instances.{bundles, bundleOf, instances, most, find, routeOf, pairOf}
 use Rattle.wire.specs.declared.instances.Side.{Side}
+use Rattle.wire.specs.declared.instances.Party.{Party}
 use Rattle.wire.specs.declared.instances.Side.the-variants.{Dialler, Accepter}
 use Rattle.rows.specs.Rows.{placeIn, nextIn, agencyIn}
 use Rattle.rows.specs.Spoken.{speaks}
 use Rattle.messages.specs.Forms.{formIn}
-use Rattle.messages.specs.Reading.{unsignedAt, opensAt, itemEnd, versionsEnd, partOf, fieldsOf, numberedOf, messageOf, flagOf}
+use Rattle.elements.specs.Reading.{unsignedAt, opensAt, itemEnd, versionsEnd, partOf}
+use Rattle.messages.specs.Reading.{fieldsOf, numberedOf, messageOf, flagOf}
 use Rattle.build.specs.Made as build
 use Rattle.build.specs.Building.{given, bytesOf, buildOf}
 use Rattle.ready.specs.Ready.{wordOf, countOf, lowestFrom, seek}
 use Rattle.connection.specs.declared.Settings.{Settings}
-use Rattle.connection.specs.Ranges.{settingsOk, inRange}
-use Rattle.connection.specs.Openings.{openOf}
+use Rattle.range.specs.Ranges.{settingsOk, inRange}
+use Rattle.opening.specs.Openings.{openOf}
 use Rattle.feeding.specs.Feeding as feeding
-use Rattle.judging.specs.Judging.{ours, judgedOf}
+use Rattle.judging.specs.Judging.{ours, judgedOf, said}
 use Rattle.putting.specs.Putting as putting
 use Rattle.sending.specs.NextSegment.{serve, nextOf}
 use Rattle.promises.specs.Trace.{run, trace}
@@ -41,20 +43,20 @@ use Rattle.promises.specs.History.{bytesIn, acts, handedFor}
 use Rattle.promises.specs.Arrival.{End, Parts, Due, SomeDue}
 
 -- S = 100 and the least capacities, each store of as many bytes as they are together
-abbrev leastOf : ℕ → Side → Settings
-leastOf b side = record { bundle = b; side = side; limit = 100; receive = replicate most 16; send = replicate most 16 }
+abbrev leastOf : Party → Settings
+leastOf us = record { party = us; limit = 100; receive = replicate most 16; send = replicate most 16 }
 
 abbrev storeOf : ℕ → List ℕ
 storeOf b = replicate (instances b * 16) 0
 
 pub opened : SomeOpened
 unfolding openOf settingsOk allBelow baseOf bundleOf instances
-opened zero k = (leastOf 0 Dialler, refl, (storeOf 0, storeOf 0, record { receives = refl; sends = refl; done = refl }))
-opened (suc zero) k = (leastOf 1 Dialler, refl, (storeOf 1, storeOf 1, record { receives = refl; sends = refl; done = refl }))
+opened zero k = (leastOf (record { bundle = 0; side = Dialler }), refl, (storeOf 0, storeOf 0, record { receives = refl; sends = refl; done = refl }))
+opened (suc zero) k = (leastOf (record { bundle = 1; side = Dialler }), refl, (storeOf 1, storeOf 1, record { receives = refl; sends = refl; done = refl }))
 opened (suc (suc b)) k = absurd (let h : suc (suc b) < length bundles = ltb-true (suc (suc b)) (length bundles) k in omega arith)
 
 least : Side → Settings
-least side = leastOf 0 side
+least side = leastOf (record { bundle = 0; side = side })
 
 abbrev store : List ℕ
 store = replicate (most * 16) 0
@@ -98,12 +100,12 @@ due : Due dialler accepter [] 0 propose message
 unfolding least dialler accepter allBelow spelled octets baseOf laid stream headAt headBy longAt simpleAt initial shortest nest indefinite enter
     alike enterChunk item.step item.met item.judge added decoded encoded find bundleOf instances routeOf pairOf placeIn nextIn agencyIn speaks formIn unsignedAt
     opensAt itemEnd versionsEnd partOf fieldsOf numberedOf messageOf flagOf build.howMany build.made build.encoded given bytesOf buildOf
-    wordOf countOf lowestFrom seek settingsOk inRange openOf ours judgedOf putting.judgeOf putting.queue putting.putOf serve nextOf
+    wordOf countOf lowestFrom seek settingsOk inRange openOf ours judgedOf said putting.queue putting.putOf serve nextOf
     feeding.feedOf feeding.feedOpen feeding.used feeding.fed feeding.step feeding.kept feeding.headed feeding.admission
     run trace step segments bytesIn acts handedFor flatMap flatten
 due =
     record {
-      joined = record { bundles = refl; sides = refl; bytes = refl };
+      joined = record { parties = refl; bytes = refl };
       within = omega arith;
       built = record { slices = (omega arith, omega arith); lent = replicate 3 0; done = refl; front = refl };
       before = [];
@@ -111,7 +113,8 @@ due =
       put = refl;
       handed = refl;
       come = omega arith;
-      awaited = (((refl, omega arith), refl), λ e. omega arith, refl);
+      asked = (refl, omega arith);
+      awaited = record { allowed = refl; going = λ e. omega arith; theirs = refl };
       next = 1;
       row = refl;
     }

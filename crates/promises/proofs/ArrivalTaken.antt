@@ -10,8 +10,7 @@ use native.Mathlib.Numerals.{add-one}
 use lib.ListN.{length, getD, set, take, drop, length-set, length-take}
 use lib.Seq.{sets, sets-eq, take-suc-set, getD-set-same, getD-set-other}
 use Rattle.ring.specs.Ring as ring
-use Rattle.ring.specs.Ring.{baseOf}
-use Rattle.ring.proofs.Stores.{stream-length, stream-take}
+use Rattle.ring.proofs.Stores.{stream-length}
 use Rattle.item.specs.declared.Verdict.the-variants.{Whole}
 use Rattle.item.specs.Grammar.{Item, nesting}
 use Rattle.item.specs.Verdict.{verdict}
@@ -21,9 +20,11 @@ use Rattle.rows.specs.declared.Next.the-variants.{To}
 use Rattle.rows.specs.Spoken.{speaks}
 use Rattle.messages.specs.declared.Message.{Message}
 use Rattle.messages.specs.declared.Answer.{Answer}
-use Rattle.messages.specs.declared.forms.Field.{Field}
-use Rattle.messages.specs.Matching.{Value, number, place, FieldsAt, no-field, a-field, Matches, begun, withNumber, withPlace, told, messageFrom}
+use Rattle.elements.specs.declared.Field.{Field}
+use Rattle.elements.specs.Matching.{Value, number, place}
+use Rattle.messages.specs.Matching.{FieldsAt, no-field, a-field, Matches, begun, withNumber, withPlace, told, messageFrom}
 use Rattle.messages.specs.Reading.{messageOf, read}
+use Rattle.messages.specs.Theorem.{Says}
 use Rattle.messages.proofs.Theorem.{reads-forms, message-is-item}
 use Rattle.build.specs.Theorem.{numbersOf, runsOf}
 use Rattle.build.specs.Building.{given}
@@ -31,9 +32,15 @@ use Rattle.build.proofs.NumberLaws as build
 use Rattle.build.proofs.Few.{Few, form-few, runs-counted}
 use Rattle.connection.specs.declared.Connection.{Connection}
 use Rattle.connection.specs.Parts.{firstHeld}
+use Rattle.range.specs.Ranges.{InReceive}
+use Rattle.judging.specs.declared.Judged.{Judged}
 use Rattle.judging.specs.Judging.{leadsTo}
+use Rattle.judging.specs.Hearing as hearing
+use Rattle.judging.specs.Hearing.{Awaited, Spells}
+use Rattle.judging.proofs.HearingLaws.{heard-exactly}
 use Rattle.taking.specs.Taking as taking
-use Rattle.taking.specs.Numbers.{Awaited, Spells, done}
+use Rattle.taking.specs.Numbers.{done}
+use Rattle.taking.proofs.TakingLaws.{held-take}
 use Rattle.taking.specs.declared.Taken.{Taken}
 use Rattle.taking.proofs.NumberLaws as taking-laws
 use Rattle.promises.specs.Calls as calls
@@ -115,40 +122,34 @@ same-answer : {n n′ len len′ : ℕ} {m m′ : Message} {b b′ : List ℕ} �
 same-answer p q r t = rw (p, q, r, t)
 
 -- the first bytes held spell one message, and a take answered 0 tells it
-spells-once : (c : Connection) (store : List ℕ) (i n n′ : ℕ) (m m′ : Message) → Spells c store i n m → Spells c store i n′ m′ → (n′ ≡ n) × (m′ ≡ m)
-spells-once c store i n n′ m m′ s s′ =
-    let e : Whole n′ ≡ Whole n = sym (s′ .whole) ∙ s .whole in
-    let same : n′ ≡ n = cc in
-    let says : read m′ ≡ read m = sym (s′ .read) ∙ ap (λ (k : ℕ). messageOf (speaks (c .settings .bundle) i) (firstHeld c store i k)) same ∙ s .read in
-    (same, ap (λ (a : Answer). a .message) says)
-
-tells-it : (c : Connection) (store : List ℕ) (i : ℕ) (lent : List ℕ) (n : ℕ) (m : Message) → Spells c store i n m
+tells-it : (c : Connection) (store : List ℕ) (i : ℕ) (lent : List ℕ) (n : ℕ) (m : Message) (next : ℕ) → Spells (taking.seen c store i) n m next
     → taking.takeOf c store i lent .answer .number ≡ 0
     → (taking.takeOf c store i lent .answer .len ≡ n) × (taking.takeOf c store i lent .answer .message ≡ m)
-tells-it c store i lent n m s z =
+tells-it c store i lent n m next s z =
+    let v = taking.seen c store i in
     let h = taking-laws.hands-out c store i lent z in
-    let o = spells-once c store i n (h .0) m (h .1) s (h .3) in
-    (ap (λ (t : Taken). t .len) (h .5) ∙ o .0, ap (λ (t : Taken). t .message) (h .5) ∙ o .1)
+    let e = sym (heard-exactly v _ .1 (hearing.message (h .4))) ∙ heard-exactly v _ .1 (hearing.message s) in
+    (ap (λ (t : Taken). t .len) (h .5) ∙ ap (λ (j : Judged). j .len) e, ap (λ (t : Taken). t .message) (h .5) ∙ ap (λ (j : Judged). j .message) e)
 
 -- bytes that are a message, first among those held, with the row: what a take that is awaited answers
-takes-it : (w : World) (i : ℕ) (bs lent : List ℕ) (m : Message) (next : ℕ) → Awaited (w .connection) (w .receive) i
-    → take (length bs) (holding w i) ≡ bs → Item nesting bs → messageOf (speaks (w .connection .settings .bundle) i) bs ≡ read m → leadsTo (w .connection) i m ≡ To next
+takes-it : (w : World) (i : ℕ) (bs lent : List ℕ) (m : Message) (next : ℕ) → InReceive (w .connection) (w .receive) i
+    → Awaited (taking.seen (w .connection) (w .receive) i) → take (length bs) (holding w i) ≡ bs → Item nesting bs
+    → Says (speaks (w .connection .settings .party .bundle) i) bs m → leadsTo (taking.seen (w .connection) (w .receive) i) m ≡ To next
     → length bs ≤ length lent → step w (calls.take i lent) .answer ≡ calls.taken 0 (length bs) m (bs ++ drop (length bs) lent)
 unfolding step
-takes-it w i bs lent m next awaited held it reads row room =
+takes-it w i bs lent m next asked awaited held it says row room =
     let c = w .connection in
     let store = w .receive in
-    let caps = c .settings .receive in
+    let p = speaks (c .settings .party .bundle) i in
     let n : ℕ = length bs in
-    let count : ℕ = getD (c .receiving .held) i 0 in
-    let many : length (holding w i) ≡ count = stream-length _ _ _ _ count in
-    let all : n ≤ count = omega (arith, ap length held, length-take n (holding w i)) in
-    let bytes : firstHeld c store i n ≡ bs =
-    sym (stream-take store (baseOf caps i) (getD caps i 0) (getD (c .receiving .starts) i 0) n count all) ∙ held in
-    let whole : verdict (holding w i) ≡ Whole n = exactly nesting (holding w i) (Whole n) .1 (omega arith, rw held it) in
-    let spells : Spells c store i n m = record { awaited = awaited; whole = whole; read = rw bytes reads } in
-    let number : taking.takeOf c store i lent .answer .number ≡ 0 = taking-laws.exactly c store i lent 0 .1 (done spells row room) in
-    let (len, message) = tells-it c store i lent n m spells number in
+    let many : length (holding w i) ≡ getD (c .receiving .held) i 0 = stream-length _ _ _ _ _ in
+    let all : n ≤ length (holding w i) = omega (arith, ap length held, length-take n (holding w i)) in
+    let bytes : firstHeld c store i n ≡ bs = held-take c store i n (omega arith) ∙ held in
+    let whole : verdict (holding w i) ≡ Whole n = exactly nesting (holding w i) (Whole n) .1 (all, rw held it) in
+    let spells : Spells (taking.seen c store i) n m next =
+    record { awaited = awaited; whole = whole; says = subst (λ (xs : List ℕ). Says p xs m) (sym held) says; row = row } in
+    let number : taking.takeOf c store i lent .answer .number ≡ 0 = taking-laws.exactly c store i lent 0 .1 (done asked spells room) in
+    let (len, message) = tells-it c store i lent n m next spells number in
     let at : 0 + n ≡ n = omega arith in
     same-answer number len message
     (taking-laws.leaves c store i lent .front number
@@ -158,7 +159,7 @@ takes-it w i bs lent m next awaited held it reads row room =
 pub built-is-taken : BuiltIsTaken
 unfolding runsAt
 built-is-taken bundle i p bs b w j same k lent room =
-    let q : Protocol = speaks (w .connection .settings .bundle) j in
+    let q : Protocol = speaks (w .connection .settings .party .bundle) j in
     let r = buildWith bundle i p (b .lent) in
     let back = build.reads-back bundle i (p .kind) (p .numbers) (p .runs) (p .one) (p .two) (b .lent) (r .answer) (r .buffer) (b .slices .0)
     (b .slices .1) refl (b .done) in
@@ -170,13 +171,13 @@ built-is-taken bundle i p bs b w j same k lent room =
     let small : Few (p .kind) (m .fields) = form-few q (p .kind) (m .form) in
     let few : length (numbersOf xs) ≤ 3 = omega (arith, numbers-few xs, values-many (m .matched), small .fields) in
     let two : length (runsOf bs xs) ≤ 2 = omega (arith, runs-counted bs (m .matched), small .runs) in
-    let reads : messageOf q bs ≡ read (messageFrom (p .kind) xs) =
-    reads-forms q bs (messageFrom (p .kind) xs) .1 (p .kind, xs, m, refl) in
+    let says : Says q bs (messageFrom (p .kind) xs) = (p .kind, xs, m, refl) in
+    let reads : messageOf q bs ≡ read (messageFrom (p .kind) xs) = reads-forms q bs (messageFrom (p .kind) xs) .1 says in
     record {
       message = messageFrom (p .kind) xs;
       answer =
-          takes-it w j bs lent (messageFrom (p .kind) xs) (k .next) (k .awaited) (k .held) (message-is-item q bs (p .kind) xs m) reads
-          (ap (λ (a : Answer). leadsTo (w .connection) j (a .message)) (sym reads) ∙ k .row) room;
+          takes-it w j bs lent (messageFrom (p .kind) xs) (k .next) (k .asked) (k .awaited) (k .held) (message-is-item q bs (p .kind) xs m) says
+          (ap (λ (a : Answer). leadsTo (taking.seen (w .connection) (w .receive) j) (a .message)) (sym reads) ∙ k .row) room;
       kind = told-kind xs (begun (p .kind));
       numbers = told-numbers xs (begun (p .kind)) (omega arith) ∙ back .2;
       runs = ap some (told-runs bs xs (begun (p .kind)) (omega arith)) ∙ sym runs;

@@ -12,11 +12,12 @@ use Rattle.wire.specs.Segments.{added, decoded, encoded}
 use Rattle.wire.specs.Instances.{find, bundleOf, instances, routeOf}
 use Rattle.rows.specs.Rows.{placeIn}
 use Rattle.messages.specs.Forms.{formIn}
-use Rattle.messages.specs.Reading.{unsignedAt, opensAt, itemEnd, partOf, fieldsOf, numberedOf, messageOf}
+use Rattle.elements.specs.Reading.{unsignedAt, opensAt, itemEnd, partOf}
+use Rattle.messages.specs.Reading.{fieldsOf, numberedOf, messageOf}
 use Rattle.ready.specs.Ready.{wordOf, countOf, lowestFrom, seek}
 use Rattle.rows.specs.Spoken.{speaks}
-use Rattle.connection.specs.Ranges.{settingsOk, inRange}
-use Rattle.connection.specs.Statuses.{upTo, statusOf}
+use Rattle.range.specs.Ranges.{settingsOk, inRange}
+use Rattle.telling.specs.Statuses.{upTo, statusOf}
 use Rattle.feeding.specs.Feeding as feeding
 use Rattle.sending.specs.NextSegment.{serve, nextOf}
 use Rattle.promises.specs.Examples.{made, Examples}

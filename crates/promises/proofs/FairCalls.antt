@@ -24,8 +24,8 @@ use Rattle.ready.specs.declared.Choice.the-variants.{Instance}
 use Rattle.connection.specs.declared.Settings.{Settings}
 use Rattle.connection.specs.declared.Connection.{Connection}
 use Rattle.connection.specs.Parts.{withSending}
-use Rattle.connection.specs.Ranges.{sendLength}
-use Rattle.connection.proofs.RangeLaws.{ranged}
+use Rattle.range.specs.Ranges.{sendLength}
+use Rattle.range.proofs.RangeLaws.{ranged}
 use Rattle.feeding.specs.Feeding as feeding
 use Rattle.taking.specs.Taking as taking
 use Rattle.putting.specs.Putting as putting
@@ -41,7 +41,7 @@ use Rattle.promises.proofs.SegmentMade.{Made, made-of}
 -- no segment: every queue stays or grows at its end, and no more of Handshake is to come
 pub record Quiet (s : Settings) (w w′ : World) : Type 0 where
   pub turn : w′ .connection .sending .turn ≡ w .connection .sending .turn
-  pub grows : (i : ℕ) → i < instances (s .bundle) → (xs : List ℕ) × (queue w′ i ≡ queue w i ++ xs)
+  pub grows : (i : ℕ) → i < instances (s .party .bundle) → (xs : List ℕ) × (queue w′ i ≡ queue w i ++ xs)
   pub bound : handshake s w′ ≤ handshake s w
 
 -- what is sent of instance j
@@ -51,13 +51,13 @@ share s w j = min (s .limit) (waits w j)
 -- a segment: of whoever is chosen, with the front of its queue
 pub record Served (s : Settings) (w w′ : World) (j : ℕ) (bs : List ℕ) : Type 0 where
   pub who : sending.chosenOf (w .connection) ≡ Instance j
-  pub mode : header bs .mode ≡ modeOf (s .bundle) (s .side) j
-  pub protocol : header bs .protocol ≡ protocolOf (s .bundle) j
+  pub mode : header bs .mode ≡ modeOf (s .party) j
+  pub protocol : header bs .protocol ≡ protocolOf (s .party .bundle) j
   pub whole : header bs .len ≡ length (payload bs)
   pub front : payload bs ≡ list.take (share s w j) (queue w j)
   pub rest : queue w′ j ≡ drop (share s w j) (queue w j)
   pub others : (i : ℕ) → i ≢ j → queue w′ i ≡ queue w i
-  pub turn : w′ .connection .sending .turn ≡ turnAfter (instances (s .bundle)) j (w .connection .sending .turn)
+  pub turn : w′ .connection .sending .turn ≡ turnAfter (instances (s .party .bundle)) j (w .connection .sending .turn)
   pub talk : w′ .connection .talk ≡ w .connection .talk
 
 pub data Moves (s : Settings) (w : World) : World → List (List ℕ) → Type 0 where
@@ -93,11 +93,11 @@ module _ (s : Settings) (w : World) (k : Sound s w) where
   quiet-take (refuses n z ne f) = unmoved
   quiet-take (faults n low high l) = record { turn = refl; grows = λ i l. still (queue w i); bound = omega arith }
   quiet-take {i} (hands n m to l early held long reads row) =
-      record { turn = refl; grows = λ i l. still (queue w i); bound = omega (arith, moved s w k i to (m .kind, flagOf (speaks (c .settings .bundle) i) m, row)) }
+      record { turn = refl; grows = λ i l. still (queue w i); bound = omega (arith, moved s w k i to (m .kind, flagOf (speaks (c .settings .party .bundle) i) m, row)) }
 
   -- ---- put: a message follows what waits
 
-  some : (i : ℕ) → i < instances (c .settings .bundle) → 0 < getD caps i 0
+  some : (i : ℕ) → i < instances (c .settings .party .bundle) → 0 < getD caps i 0
   some i l = let q = ranged c (r .ranged) .set .send i l in omega arith
 
   quiet-put : {i : ℕ} {xs : List ℕ} {t : putting.Told} → Puts c (w .send) i xs t
@@ -108,11 +108,11 @@ module _ (s : Settings) (w : World) (k : Sound s w) where
         turn = refl;
         grows = λ j h. (
           cond (eqb i j) xs [],
-          queue-laid (w .send) caps (c .sending .starts) (c .sending .waiting) i (instances (c .settings .bundle)) xs
-              (r .send ∙ ap sendLength (sym (r .settings))) some l (omega (arith, r .shaped .waiting, at-most (c .settings .bundle))) fits j
+          queue-laid (w .send) caps (c .sending .starts) (c .sending .waiting) i (instances (c .settings .party .bundle)) xs
+              (r .send ∙ ap sendLength (sym (r .settings))) some l (omega (arith, r .shaped .waiting, at-most (c .settings .party .bundle))) fits j
               (rw (r .settings) h),
         );
-        bound = put-bound s w k i to (length xs) mine (m .kind, flagOf (speaks (c .settings .bundle) i) m, row) short;
+        bound = put-bound s w k i to (length xs) mine (m .kind, flagOf (speaks (c .settings .party .bundle) i) m, row) short;
       }
 
   -- ---- next segment
@@ -123,7 +123,7 @@ module _ (s : Settings) (w : World) (k : Sound s w) where
     n = sending.much c j
 
     abbrev segment : List ℕ
-    segment = list.take (headerLength + n) (sets buf 0 (encoded (sending.headed (c .settings .bundle) (c .settings .side) time j n) ++ sending.payloadOf c (w .send) j))
+    segment = list.take (headerLength + n) (sets buf 0 (encoded (sending.headed (c .settings .party) time j n) ++ sending.payloadOf c (w .send) j))
 
     one : Made w time j segment
     one = made-of r time buf j short who room
@@ -131,7 +131,7 @@ module _ (s : Settings) (w : World) (k : Sound s w) where
     abbrev left : World
     left =
         record {
-          connection = withSending c (sending.sentOf (c .settings .bundle) (c .sending) caps j n);
+          connection = withSending c (sending.sentOf (c .settings .party .bundle) (c .sending) caps j n);
           receive = w .receive;
           send = w .send;
         }
@@ -142,8 +142,8 @@ module _ (s : Settings) (w : World) (k : Sound s w) where
     -- what goes of each queue
     goes : (i : ℕ) → queue w i ≡ cond (eqb j i) (sending.payloadOf c (w .send) j) [] ++ queue left i
     goes =
-        queue-freed (w .send) caps (c .sending .starts) (c .sending .waiting) j n (omega (arith, one .within, r .shaped .send-starts, at-most (c .settings .bundle)))
-        (omega (arith, one .within, r .shaped .waiting, at-most (c .settings .bundle))) (omega arith)
+        queue-freed (w .send) caps (c .sending .starts) (c .sending .waiting) j n (omega (arith, one .within, r .shaped .send-starts, at-most (c .settings .party .bundle)))
+        (omega (arith, one .within, r .shaped .waiting, at-most (c .settings .party .bundle))) (omega arith)
 
     rest : queue left j ≡ drop n (queue w j)
     rest =
@@ -154,13 +154,13 @@ module _ (s : Settings) (w : World) (k : Sound s w) where
     serving =
         record {
           who = who;
-          mode = ap (λ (h : Segment). h .mode) (one .reads) ∙ ap (λ (x : Settings). modeOf (x .bundle) (x .side) j) (r .settings);
-          protocol = ap (λ (h : Segment). h .protocol) (one .reads) ∙ ap (λ (x : Settings). protocolOf (x .bundle) j) (r .settings);
+          mode = ap (λ (h : Segment). h .mode) (one .reads) ∙ ap (λ (x : Settings). modeOf (x .party) j) (r .settings);
+          protocol = ap (λ (h : Segment). h .protocol) (one .reads) ∙ ap (λ (x : Settings). protocolOf (x .party .bundle) j) (r .settings);
           whole = ap (λ (h : Segment). h .len) (one .reads) ∙ sym (ap {A = List ℕ} length (one .carries) ∙ stream-length (w .send) _ _ _ n);
           front = one .first ∙ ap (λ (m : ℕ). list.take m (queue w j)) same-share;
           rest = rest ∙ ap (λ (m : ℕ). drop m (queue w j)) same-share;
           others = λ i ne. sym (rw (ne-eqb j i (λ e. ne (sym e))) at (goes i));
-          turn = ap (λ (x : Settings). turnAfter (instances (x .bundle)) j (c .sending .turn)) (r .settings);
+          turn = ap (λ (x : Settings). turnAfter (instances (x .party .bundle)) j (c .sending .turn)) (r .settings);
           talk = refl;
         }
 

@@ -11,35 +11,35 @@ use lib.Dec.{eqb}
 use lib.ListN.{length, getD, length-append}
 use borrow.Author.Tests.{eq-eqb, eqb-true}
 use Rattle.base.proofs.Conds.{by-test, both-true}
-use Rattle.wire.specs.declared.instances.Side.{Side}
+use Rattle.wire.specs.declared.instances.Party.{Party}
 use Rattle.wire.specs.declared.instances.Route.the-variants.{To}
 use Rattle.wire.specs.Instances.{instances, routeOf, protocolOf, modeOf}
 use Rattle.wire.proofs.InstanceLaws.{one-way}
 use Rattle.promises.specs.Fairness.{header, payload, isOf, sentBy, Sent}
 
 -- a segment is of the instance whose mode and protocol number it has, and of no other
-pub of-same : (bundle : ℕ) (side : Side) (i : ℕ) (bs : List ℕ) → header bs .mode ≡ modeOf bundle side i → header bs .protocol ≡ protocolOf bundle i → isOf bundle side i bs ≡ true
-of-same bundle side i bs m p = rw (eq-eqb (header bs .mode) (modeOf bundle side i) m, eq-eqb (header bs .protocol) (protocolOf bundle i) p)
+pub of-same : (us : Party) (i : ℕ) (bs : List ℕ) → header bs .mode ≡ modeOf us i → header bs .protocol ≡ protocolOf (us .bundle) i → isOf us i bs ≡ true
+of-same us i bs m p = rw (eq-eqb (header bs .mode) (modeOf us i) m, eq-eqb (header bs .protocol) (protocolOf (us .bundle) i) p)
 
-alone : (bundle : ℕ) (side : Side) (i j : ℕ) → i < instances bundle → j < instances bundle → modeOf bundle side i ≡ modeOf bundle side j → protocolOf bundle i ≡ protocolOf bundle j → i ≡ j
-alone bundle side i j h l m p =
+alone : (us : Party) (i j : ℕ) → i < instances (us .bundle) → j < instances (us .bundle) → modeOf us i ≡ modeOf us j → protocolOf (us .bundle) i ≡ protocolOf (us .bundle) j → i ≡ j
+alone us i j h l m p =
     let e : To i ≡ To j =
-    sym (one-way bundle .reached side i h) ∙ ap (λ (n : ℕ). routeOf bundle side n (1 - modeOf bundle side i)) p ∙ ap (λ (n : ℕ). routeOf bundle side (protocolOf bundle j) (1 - n)) m
-    ∙ one-way bundle .reached side j l in
+    sym (one-way us .reached i h) ∙ ap (λ (n : ℕ). routeOf us n (1 - modeOf us i)) p ∙ ap (λ (n : ℕ). routeOf us (protocolOf (us .bundle) j) (1 - n)) m
+    ∙ one-way us .reached j l in
     cc
 
-pub of-other : (bundle : ℕ) (side : Side) (i j : ℕ) (bs : List ℕ) → i < instances bundle → j < instances bundle → i ≢ j → header bs .mode ≡ modeOf bundle side j
-    → header bs .protocol ≡ protocolOf bundle j → isOf bundle side i bs ≡ false
-of-other bundle side i j bs h l ne m p =
-    by-test (isOf bundle side i bs)
+pub of-other : (us : Party) (i j : ℕ) (bs : List ℕ) → i < instances (us .bundle) → j < instances (us .bundle) → i ≢ j → header bs .mode ≡ modeOf us j
+    → header bs .protocol ≡ protocolOf (us .bundle) j → isOf us i bs ≡ false
+of-other us i j bs h l ne m p =
+    by-test (isOf us i bs)
     (λ t.
-    let q = both-true (eqb (header bs .mode) (modeOf bundle side i)) (eqb (header bs .protocol) (protocolOf bundle i)) t in
-    absurd (ne (alone bundle side i j h l (sym (eqb-true _ _ (q .0)) ∙ m) (sym (eqb-true _ _ (q .1)) ∙ p))))
+    let q = both-true (eqb (header bs .mode) (modeOf us i)) (eqb (header bs .protocol) (protocolOf (us .bundle) i)) t in
+    absurd (ne (alone us i j h l (sym (eqb-true _ _ (q .0)) ∙ m) (sym (eqb-true _ _ (q .1)) ∙ p))))
     (λ t. t)
 
-module _ (bundle : ℕ) (side : Side) (i b : ℕ) (bs : List ℕ) (ss : List (List ℕ)) where
-  pub sent-now : (p : ℕ) → isOf bundle side i bs ≡ true → header bs .len ≡ length (payload bs) → p < length (payload bs) → getD (payload bs) p 0 ≡ b
-      → Sent bundle side i p b (bs ∷ ss)
+module _ (us : Party) (i b : ℕ) (bs : List ℕ) (ss : List (List ℕ)) where
+  pub sent-now : (p : ℕ) → isOf us i bs ≡ true → header bs .len ≡ length (payload bs) → p < length (payload bs) → getD (payload bs) p 0 ≡ b
+      → Sent us i p b (bs ∷ ss)
   unfolding sentBy flatMap
   sent-now p of whole h e =
       record {
@@ -54,7 +54,7 @@ module _ (bundle : ℕ) (side : Side) (i b : ℕ) (bs : List ℕ) (ss : List (Li
         byte = ap (λ (n : ℕ). getD (payload bs) n 0) (sub-zero p) ∙ e;
       }
 
-  pub sent-other : (p : ℕ) → isOf bundle side i bs ≡ false → Sent bundle side i p b ss → Sent bundle side i p b (bs ∷ ss)
+  pub sent-other : (p : ℕ) → isOf us i bs ≡ false → Sent us i p b ss → Sent us i p b (bs ∷ ss)
   unfolding sentBy flatMap
   sent-other p of k =
       record {
@@ -69,11 +69,11 @@ module _ (bundle : ℕ) (side : Side) (i b : ℕ) (bs : List ℕ) (ss : List (Li
         byte = rw of (k .byte);
       }
 
-  pub sent-later : (p : ℕ) → isOf bundle side i bs ≡ true → length (payload bs) ≤ p → Sent bundle side i (p - length (payload bs)) b ss → Sent bundle side i p b (bs ∷ ss)
+  pub sent-later : (p : ℕ) → isOf us i bs ≡ true → length (payload bs) ≤ p → Sent us i (p - length (payload bs)) b ss → Sent us i p b (bs ∷ ss)
   unfolding sentBy flatMap
   sent-later p of h k =
       let n = length (payload bs) in
-      let q = length (sentBy bundle side i (k .front)) in
+      let q = length (sentBy us i (k .front)) in
       record {
         front = bs ∷ k .front;
         segment = k .segment;

@@ -10,8 +10,8 @@ use Rattle.wire.proofs.SegmentLaws.{divided-once}
 use Rattle.ready.specs.Ready.{bitOf}
 use Rattle.ready.proofs.ReadyLaws.{bit-by-bit, no-more, ones-ready, word-none, lowest-at, lowest-none}
 use Rattle.connection.specs.declared.Settings.{Settings}
-use Rattle.connection.specs.Statuses.{upTo, statusOf}
-use Rattle.connection.proofs.ShownLaws.{shown-at, shown-above}
+use Rattle.telling.specs.Statuses.{upTo, statusOf}
+use Rattle.telling.proofs.ShownLaws.{shown-at, shown-above}
 use Rattle.sending.proofs.NumberLaws.{counts, counts-long, counts-at}
 use Rattle.promises.specs.Trace.{Out, event, run, trace}
 use Rattle.promises.specs.Calls.{Call, Answer, told, World, step, Real, AllReal, Opened, first}
@@ -57,7 +57,7 @@ reports-of : (past : Past) (w : World) → Good w → Tells (w .connection .sett
 unfolding statusOf
 reports-of past w k t =
     let c = w .connection in
-    let n = instances (c .settings .bundle) in
+    let n = instances (c .settings .party .bundle) in
     let ws = counts c in
     let many : length ws ≡ n = counts-long c (k .shaped) in
     let shown : (i : ℕ) → i < n → getD ws i 0 ≡ getD (upTo n (c .sending .waiting)) i 0 =

@@ -13,7 +13,7 @@ use Rattle.base.proofs.Conds.{by-test, cond-cases}
 use Rattle.ring.specs.Ring.{baseOf, stream}
 use Rattle.ring.proofs.Streams.{queue-laid}
 use Rattle.wire.specs.declared.segment.Header.{Header}
-use Rattle.wire.specs.declared.instances.Side.{Side}
+use Rattle.wire.specs.declared.instances.Party.{Party}
 use Rattle.wire.specs.declared.instances.Route.{Route}
 use Rattle.wire.specs.declared.instances.Route.the-variants.{Unknown, Wrong, To}
 use Rattle.wire.specs.Segments.{headerLength, empty, added, decoded, Carried, Divided, in-header, in-payload}
@@ -35,22 +35,22 @@ heldIn caps s i =
     stream (s .store) (baseOf caps i) (getD caps i 0) (getD (s .receiving .starts) i 0) (getD (s .receiving .held) i 0)
 
 -- what the record has of the bytes that are left: they are those of its header, or it waits for the rest of their payload
-pub data Reading (bundle : ℕ) (side : Side) (r : Receiving) (left : List ℕ) : Type 0 where
-  in-head : r .rest ≡ 0 → length left < headerLength → r .header ≡ part left → Reading bundle side r left
+pub data Reading (us : Party) (r : Receiving) (left : List ℕ) : Type 0 where
+  in-head : r .rest ≡ 0 → length left < headerLength → r .header ≡ part left → Reading us r left
   in-pay : (h p : List ℕ) → left ≡ h ++ p → length h ≡ headerLength → 0 < r .rest → length p + r .rest ≡ decoded h .len → r .header ≡ empty
-      → routeOf bundle side (decoded h .protocol) (decoded h .mode) ≡ To (r .instance) → Reading bundle side r left
+      → routeOf us (decoded h .protocol) (decoded h .mode) ≡ To (r .instance) → Reading us r left
 
-pub record Tied (bundle : ℕ) (side : Side) (caps : List ℕ) (handed : ℕ → List ℕ) (bs : List ℕ) (s : Reception) : Type 0 where
+pub record Tied (us : Party) (caps : List ℕ) (handed : ℕ → List ℕ) (bs : List ℕ) (s : Reception) : Type 0 where
   pub carried : List Carried
   pub left : List ℕ
   pub divided : Divided bs carried left
-  pub received : (i : ℕ) → i < instances bundle → receivedIn bundle side i carried left ≡ handed i ++ heldIn caps s i
-  pub reading : isOpen (s .gate) ≡ true → Reading bundle side (s .receiving) left
+  pub received : (i : ℕ) → i < instances (us .bundle) → receivedIn us i carried left ≡ handed i ++ heldIn caps s i
+  pub reading : isOpen (s .gate) ≡ true → Reading us (s .receiving) left
   pub many : length (s .receiving .held) ≡ most
 
 -- ---- the division with one byte more
 
-module _ (bundle : ℕ) (side : Side) (bs : List ℕ) (b : ℕ) (cs : List Carried) (left : List ℕ) (d : Divided bs cs left) where
+module _ (us : Party) (bs : List ℕ) (b : ℕ) (cs : List Carried) (left : List ℕ) (d : Divided bs cs left) where
   abbrev H : List ℕ
   H = left ++ (b ∷ [])
 
@@ -58,9 +58,9 @@ module _ (bundle : ℕ) (side : Side) (bs : List ℕ) (b : ℕ) (cs : List Carri
   head-part : length H < headerLength → Divided (bs ++ (b ∷ [])) cs H
   head-part h = rw append-nil at (divided-on (b ∷ []) d (in-header h))
 
-  head-part-for : (i : ℕ) → length H ≤ headerLength → receivedIn bundle side i cs H ≡ receivedIn bundle side i cs left
+  head-part-for : (i : ℕ) → length H ≤ headerLength → receivedIn us i cs H ≡ receivedIn us i cs left
   head-part-for i h =
-      received-head bundle side i cs H h ∙ sym (received-head bundle side i cs left (omega (arith, length-append left (b ∷ []))))
+      received-head us i cs H h ∙ sym (received-head us i cs left (omega (arith, length-append left (b ∷ []))))
 
   module _ (whole : length H ≡ headerLength) where
     short : length left ≤ headerLength
@@ -70,15 +70,15 @@ module _ (bundle : ℕ) (side : Side) (bs : List ℕ) (b : ℕ) (cs : List Carri
     head-none : decoded H .len ≡ 0 → Divided (bs ++ (b ∷ [])) (cs ++ (record { header = decoded H; payload = [] } ∷ [])) []
     head-none z = divided-on (b ∷ []) d (rw append-nil at (divided-whole H [] whole (sym z)))
 
-    head-none-for : (i : ℕ) → receivedIn bundle side i (cs ++ (record { header = decoded H; payload = [] } ∷ [])) [] ≡ receivedIn bundle side i cs left
-    head-none-for i = received-whole bundle side i cs H [] ∙ rw (none-for bundle side i (decoded H), append-nil) (sym (received-head bundle side i cs left short))
+    head-none-for : (i : ℕ) → receivedIn us i (cs ++ (record { header = decoded H; payload = [] } ∷ [])) [] ≡ receivedIn us i cs left
+    head-none-for i = received-whole us i cs H [] ∙ rw (none-for us i (decoded H), append-nil) (sym (received-head us i cs left short))
 
     -- and of another
     head-some : 0 < decoded H .len → Divided (bs ++ (b ∷ [])) cs H
     head-some p = rw append-nil at (divided-on (b ∷ []) d (rw append-nil at (in-payload H [] whole p)))
 
 -- in a payload
-module _ (bundle : ℕ) (side : Side) (bs : List ℕ) (b : ℕ) (cs : List Carried) (h p : List ℕ) (d : Divided bs cs (h ++ p)) (eight : length h ≡ headerLength) where
+module _ (us : Party) (bs : List ℕ) (b : ℕ) (cs : List Carried) (h p : List ℕ) (d : Divided bs cs (h ++ p)) (eight : length h ≡ headerLength) where
   pay-long : length (p ++ (b ∷ [])) ≡ suc (length p)
   pay-long = length-append p (b ∷ []) ∙ omega arith
 
@@ -87,11 +87,11 @@ module _ (bundle : ℕ) (side : Side) (bs : List ℕ) (b : ℕ) (cs : List Carri
   pay-last n = divided-on (b ∷ []) d (rw append-assoc (divided-whole h (p ++ (b ∷ [])) eight (pay-long ∙ n)))
 
   pay-last-for : (i : ℕ)
-      → receivedIn bundle side i (cs ++ (record { header = decoded h; payload = p ++ (b ∷ []) } ∷ [])) []
-      ≡ receivedIn bundle side i cs (h ++ p) ++ payloadFor bundle side i (decoded h) (b ∷ [])
+      → receivedIn us i (cs ++ (record { header = decoded h; payload = p ++ (b ∷ []) } ∷ [])) []
+      ≡ receivedIn us i cs (h ++ p) ++ payloadFor us i (decoded h) (b ∷ [])
   pay-last-for i =
-      received-whole bundle side i cs h (p ++ (b ∷ []))
-      ∙ rw (for-append bundle side i (decoded h) p (b ∷ []), received-in bundle side i cs h p eight, append-assoc)
+      received-whole us i cs h (p ++ (b ∷ []))
+      ∙ rw (for-append us i (decoded h) p (b ∷ []), received-in us i cs h p eight, append-assoc)
 
   -- another byte
   pay-more : suc (length p) < decoded h .len → Divided (bs ++ (b ∷ [])) cs (h ++ (p ++ (b ∷ [])))
@@ -100,25 +100,25 @@ module _ (bundle : ℕ) (side : Side) (bs : List ℕ) (b : ℕ) (cs : List Carri
       let q : Divided ((h ++ p) ++ (b ∷ [])) [] whole-left = rw append-assoc (in-payload h (p ++ (b ∷ [])) eight (rw pay-long n)) in
       rw append-nil at (divided-on (b ∷ []) d q)
 
-  pay-more-for : (i : ℕ) → receivedIn bundle side i cs (h ++ (p ++ (b ∷ []))) ≡ receivedIn bundle side i cs (h ++ p) ++ payloadFor bundle side i (decoded h) (b ∷ [])
+  pay-more-for : (i : ℕ) → receivedIn us i cs (h ++ (p ++ (b ∷ []))) ≡ receivedIn us i cs (h ++ p) ++ payloadFor us i (decoded h) (b ∷ [])
   pay-more-for i =
-      received-in bundle side i cs h (p ++ (b ∷ [])) eight
-      ∙ rw (for-append bundle side i (decoded h) p (b ∷ []), received-in bundle side i cs h p eight, append-assoc)
+      received-in us i cs h (p ++ (b ∷ [])) eight
+      ∙ rw (for-append us i (decoded h) p (b ∷ []), received-in us i cs h p eight, append-assoc)
 
 -- ---- one byte
 
-module _ (bundle : ℕ) (side : Side) (caps : List ℕ) (handed : ℕ → List ℕ) (some : (i : ℕ) → i < instances bundle → 0 < getD caps i 0) where
+module _ (us : Party) (caps : List ℕ) (handed : ℕ → List ℕ) (some : (i : ℕ) → i < instances (us .bundle) → 0 < getD caps i 0) where
   -- a whole header
-  module _ (bs : List ℕ) (b : ℕ) (s : Reception) (t : Tied bundle side caps handed bs s) (short : length (t .left) < headerLength)
+  module _ (bs : List ℕ) (b : ℕ) (s : Reception) (t : Tied us caps handed bs s) (short : length (t .left) < headerLength)
       (eight : length (t .left ++ (b ∷ [])) ≡ headerLength) where
     abbrev new : List ℕ
     new = t .left ++ (b ∷ [])
 
     -- the division, however long the payload, with what stands behind it
     tied-with : (s′ : Reception) → s′ .store ≡ s .store → s′ .receiving .starts ≡ s .receiving .starts → s′ .receiving .held ≡ s .receiving .held
-        → (decoded new .len ≡ 0 → isOpen (s′ .gate) ≡ true → Reading bundle side (s′ .receiving) [])
-        → (0 < decoded new .len → isOpen (s′ .gate) ≡ true → Reading bundle side (s′ .receiving) new)
-        → Tied bundle side caps handed (bs ++ (b ∷ [])) s′
+        → (decoded new .len ≡ 0 → isOpen (s′ .gate) ≡ true → Reading us (s′ .receiving) [])
+        → (0 < decoded new .len → isOpen (s′ .gate) ≡ true → Reading us (s′ .receiving) new)
+        → Tied us caps handed (bs ++ (b ∷ [])) s′
     tied-with s′ e f g none more =
         by-test (eqb (decoded new .len) 0)
         (λ q.
@@ -126,8 +126,8 @@ module _ (bundle : ℕ) (side : Side) (caps : List ℕ) (handed : ℕ → List �
         record {
           carried = t .carried ++ (record { header = decoded new; payload = [] } ∷ []);
           left = [];
-          divided = head-none bundle side bs b (t .carried) (t .left) (t .divided) eight z;
-          received = λ i l. head-none-for bundle side bs b (t .carried) (t .left) (t .divided) eight i ∙ t .received i l ∙ rw (e, f, g);
+          divided = head-none us bs b (t .carried) (t .left) (t .divided) eight z;
+          received = λ i l. head-none-for us bs b (t .carried) (t .left) (t .divided) eight i ∙ t .received i l ∙ rw (e, f, g);
           reading = none z;
           many = rw g (t .many);
         })
@@ -136,8 +136,8 @@ module _ (bundle : ℕ) (side : Side) (caps : List ℕ) (handed : ℕ → List �
         record {
           carried = t .carried;
           left = new;
-          divided = head-some bundle side bs b (t .carried) (t .left) (t .divided) eight z;
-          received = λ i l. head-part-for bundle side bs b (t .carried) (t .left) (t .divided) i (omega arith) ∙ t .received i l ∙ rw (e, f, g);
+          divided = head-some us bs b (t .carried) (t .left) (t .divided) eight z;
+          received = λ i l. head-part-for us bs b (t .carried) (t .left) (t .divided) i (omega arith) ∙ t .received i l ∙ rw (e, f, g);
           reading = more z;
           many = rw g (t .many);
         })
@@ -145,58 +145,58 @@ module _ (bundle : ℕ) (side : Side) (caps : List ℕ) (handed : ℕ → List �
     never : {P : Type 0} → false ≡ true → P
     never e = absurd (true≢false (sym e))
 
-    tied-settled : isOpen (s .gate) ≡ true → (r : Route) → routeOf bundle side (decoded new .protocol) (decoded new .mode) ≡ r
-        → Tied bundle side caps handed (bs ++ (b ∷ [])) (settled s (admitted caps (s .receiving .held) (decoded new .len) r))
+    tied-settled : isOpen (s .gate) ≡ true → (r : Route) → routeOf us (decoded new .protocol) (decoded new .mode) ≡ r
+        → Tied us caps handed (bs ++ (b ∷ [])) (settled s (admitted caps (s .receiving .held) (decoded new .len) r))
     tied-settled o Unknown e = tied-with _ refl refl refl (λ z q. never q) (λ z q. never q)
     tied-settled o (Wrong i) e = tied-with _ refl refl refl (λ z q. never q) (λ z q. never q)
     tied-settled o (To i) e =
         let n = decoded new .len in
-        cond-cases (λ (a : Admission). Tied bundle side caps handed (bs ++ (b ∷ [])) (settled s a)) (leb (getD (s .receiving .held) i 0 + n) (getD caps i 0))
+        cond-cases (λ (a : Admission). Tied us caps handed (bs ++ (b ∷ [])) (settled s a)) (leb (getD (s .receiving .held) i 0 + n) (getD caps i 0))
         (λ q.
         tied-with _ refl refl refl (λ z y. in-head z (omega arith) refl)
         (λ z y. in-pay new [] (sym (append-nil new)) eight z (omega arith) refl (rw (ne-eqb n 0 (λ x. omega arith)) e)))
         (λ q. tied-with _ refl refl refl (λ z y. never y) (λ z y. never y))
 
   -- a byte of a header
-  tied-headed : (bs : List ℕ) (b : ℕ) (s : Reception) (t : Tied bundle side caps handed bs s) → isOpen (s .gate) ≡ true → s .receiving .rest ≡ 0
-      → length (t .left) < headerLength → s .receiving .header ≡ part (t .left) → Tied bundle side caps handed (bs ++ (b ∷ [])) (headed bundle side caps s b)
+  tied-headed : (bs : List ℕ) (b : ℕ) (s : Reception) (t : Tied us caps handed bs s) → isOpen (s .gate) ≡ true → s .receiving .rest ≡ 0
+      → length (t .left) < headerLength → s .receiving .header ≡ part (t .left) → Tied us caps handed (bs ++ (b ∷ [])) (headed us caps s b)
   unfolding headed admission
   tied-headed bs b s t o z short e =
       let new : List ℕ = t .left ++ (b ∷ []) in
       let long : length new ≡ suc (length (t .left)) = length-append (t .left) (b ∷ []) ∙ omega arith in
       let f : added (s .receiving .header) b ≡ part new = ap (λ (h : Header). added h b) e ∙ add-part (t .left) b short in
       rw f
-      (cond-cases (Tied bundle side caps handed (bs ++ (b ∷ []))) (leb headerLength (length new))
+      (cond-cases (Tied us caps handed (bs ++ (b ∷ []))) (leb headerLength (length new))
       (λ q.
       let eight : length new ≡ headerLength = omega (arith, leb-true headerLength (length new) q) in
-      rw (part-whole new eight) (tied-settled bs b s t short eight o (routeOf bundle side (decoded new .protocol) (decoded new .mode)) refl))
+      rw (part-whole new eight) (tied-settled bs b s t short eight o (routeOf us (decoded new .protocol) (decoded new .mode)) refl))
       (λ q.
       let less : length new < headerLength = leb-false headerLength (length new) q in
       record {
         carried = t .carried;
         left = new;
-        divided = head-part bundle side bs b (t .carried) (t .left) (t .divided) less;
-        received = λ i l. head-part-for bundle side bs b (t .carried) (t .left) (t .divided) i (omega arith) ∙ t .received i l;
+        divided = head-part us bs b (t .carried) (t .left) (t .divided) less;
+        received = λ i l. head-part-for us bs b (t .carried) (t .left) (t .divided) i (omega arith) ∙ t .received i l;
         reading = λ y. in-head z less refl;
         many = t .many;
       }))
 
   -- what is held with a byte more of the payload under way
-  held-more : (b : ℕ) (s : Reception) → length (s .receiving .held) ≡ most → length (s .store) ≡ baseOf caps (instances bundle) → s .receiving .instance < instances bundle
+  held-more : (b : ℕ) (s : Reception) → length (s .receiving .held) ≡ most → length (s .store) ≡ baseOf caps (instances (us .bundle)) → s .receiving .instance < instances (us .bundle)
       → getD (s .receiving .held) (s .receiving .instance) 0 < getD caps (s .receiving .instance) 0
-      → (i : ℕ) → i < instances bundle → heldIn caps (kept caps s (b ∷ [])) i ≡ heldIn caps s i ++ cond (eqb (s .receiving .instance) i) (b ∷ []) []
+      → (i : ℕ) → i < instances (us .bundle) → heldIn caps (kept caps s (b ∷ [])) i ≡ heldIn caps s i ++ cond (eqb (s .receiving .instance) i) (b ∷ []) []
   unfolding kept
   held-more b s many areas inside room i l =
-      queue-laid (s .store) caps (s .receiving .starts) (s .receiving .held) (s .receiving .instance) (instances bundle) (b ∷ []) areas some
-      inside (omega (arith, at-most bundle)) (omega arith) i l
+      queue-laid (s .store) caps (s .receiving .starts) (s .receiving .held) (s .receiving .instance) (instances (us .bundle)) (b ∷ []) areas some
+      inside (omega (arith, at-most (us .bundle))) (omega arith) i l
 
   -- a byte of a payload
-  module _ (bs : List ℕ) (b : ℕ) (s : Reception) (t : Tied bundle side caps handed bs s) (areas : length (s .store) ≡ baseOf caps (instances bundle))
-      (inside : s .receiving .instance < instances bundle)
+  module _ (bs : List ℕ) (b : ℕ) (s : Reception) (t : Tied us caps handed bs s) (areas : length (s .store) ≡ baseOf caps (instances (us .bundle)))
+      (inside : s .receiving .instance < instances (us .bundle))
       (room : getD (s .receiving .held) (s .receiving .instance) 0 < getD caps (s .receiving .instance) 0)
       (h p : List ℕ) (e : t .left ≡ h ++ p) (eight : length h ≡ headerLength) (more : 0 < s .receiving .rest)
       (n : length p + s .receiving .rest ≡ decoded h .len) (z : s .receiving .header ≡ empty)
-      (to : routeOf bundle side (decoded h .protocol) (decoded h .mode) ≡ To (s .receiving .instance)) where
+      (to : routeOf us (decoded h .protocol) (decoded h .mode) ≡ To (s .receiving .instance)) where
     abbrev after : Reception
     after = kept caps s (b ∷ [])
 
@@ -204,17 +204,17 @@ module _ (bundle : ℕ) (side : Side) (caps : List ℕ) (handed : ℕ → List �
     was = rw e at (t .divided)
 
     -- what was received is what was handed out and what is then held
-    grown : (i : ℕ) → i < instances bundle → (xs : List ℕ) → xs ≡ receivedIn bundle side i (t .carried) (h ++ p) ++ payloadFor bundle side i (decoded h) (b ∷ [])
+    grown : (i : ℕ) → i < instances (us .bundle) → (xs : List ℕ) → xs ≡ receivedIn us i (t .carried) (h ++ p) ++ payloadFor us i (decoded h) (b ∷ [])
         → xs ≡ handed i ++ heldIn caps after i
     grown i l xs q =
-        let r : receivedIn bundle side i (t .carried) (h ++ p) ≡ handed i ++ heldIn caps s i = rw e at (t .received i l) in
+        let r : receivedIn us i (t .carried) (h ++ p) ≡ handed i ++ heldIn caps s i = rw e at (t .received i l) in
         rw (q, r, to, held-more b s (t .many) areas inside room i l, append-assoc)
 
     many-after : length (after .receiving .held) ≡ most
     unfolding kept
     many-after = rw length-set (t .many)
 
-    tied-kept : Tied bundle side caps handed (bs ++ (b ∷ [])) after
+    tied-kept : Tied us caps handed (bs ++ (b ∷ [])) after
     unfolding kept
     tied-kept =
         by-test (eqb (s .receiving .rest - 1) 0)
@@ -223,8 +223,8 @@ module _ (bundle : ℕ) (side : Side) (caps : List ℕ) (handed : ℕ → List �
         record {
           carried = t .carried ++ (record { header = decoded h; payload = p ++ (b ∷ []) } ∷ []);
           left = [];
-          divided = pay-last bundle side bs b (t .carried) h p was eight (omega arith);
-          received = λ i l. grown i l _ (pay-last-for bundle side bs b (t .carried) h p was eight i);
+          divided = pay-last us bs b (t .carried) h p was eight (omega arith);
+          received = λ i l. grown i l _ (pay-last-for us bs b (t .carried) h p was eight i);
           reading = λ o. in-head y (omega arith) z;
           many = many-after;
         })
@@ -233,33 +233,31 @@ module _ (bundle : ℕ) (side : Side) (caps : List ℕ) (handed : ℕ → List �
         record {
           carried = t .carried;
           left = h ++ (p ++ (b ∷ []));
-          divided = pay-more bundle side bs b (t .carried) h p was eight (omega arith);
-          received = λ i l. grown i l _ (pay-more-for bundle side bs b (t .carried) h p was eight i);
+          divided = pay-more us bs b (t .carried) h p was eight (omega arith);
+          received = λ i l. grown i l _ (pay-more-for us bs b (t .carried) h p was eight i);
           reading = λ o.
-              in-pay h (p ++ (b ∷ [])) refl eight (omega arith) (omega (arith, pay-long bundle side bs b (t .carried) h p was eight)) z (rw q to);
+              in-pay h (p ++ (b ∷ [])) refl eight (omega arith) (omega (arith, pay-long us bs b (t .carried) h p was eight)) z (rw q to);
           many = many-after;
         })
 
-  tied-read : (bs : List ℕ) (b : ℕ) (s : Reception) (starts : List ℕ) (n : ℕ) (t : Tied bundle side caps handed bs s) → isOpen (s .gate) ≡ true
-      → Kept bundle caps starts n s → n ≡ baseOf caps (instances bundle) → Reading bundle side (s .receiving) (t .left) → Tied bundle side caps handed (bs ++ (b ∷ [])) (step bundle side caps s b)
+  tied-read : (bs : List ℕ) (b : ℕ) (s : Reception) (starts : List ℕ) (n : ℕ) (t : Tied us caps handed bs s) → isOpen (s .gate) ≡ true
+      → Kept (us .bundle) caps starts n s → n ≡ baseOf caps (instances (us .bundle)) → Reading us (s .receiving) (t .left) → Tied us caps handed (bs ++ (b ∷ [])) (step us caps s b)
   tied-read bs b s starts n t o k long (in-head z short e) =
-      rw (step-headed bundle side caps s b o z) (tied-headed bs b s t o z short e)
+      rw (step-headed us caps s b o z) (tied-headed bs b s t o z short e)
   tied-read bs b s starts n t o k long (in-pay h p e eight more m z to) =
-      let i = s .receiving .instance in
-      let inside : i < instances bundle = k .under-way more .1 in
-      let held : getD (s .receiving .held) i 0 + s .receiving .rest ≤ getD caps i 0 = rw (eq-eqb i i refl) at (k .held i inside) in
-      rw (step-kept bundle side caps s b o more) (tied-kept bs b s t (k .long ∙ long) inside (omega arith) h p e eight more m z to)
+      let (none, inside, fit) = k .under-way more in
+      rw (step-kept us caps s b o more) (tied-kept bs b s t (k .long ∙ long) inside (omega (arith, fit)) h p e eight more m z to)
 
   -- ---- a run: the bytes that are used
-  pub tied-fed : (xs bs : List ℕ) (s : Reception) (starts : List ℕ) (n : ℕ) → Tied bundle side caps handed bs s → Kept bundle caps starts n s → n ≡ baseOf caps (instances bundle)
-      → Tied bundle side caps handed (bs ++ take (used bundle side caps s xs) xs) (fed bundle side caps s xs)
+  pub tied-fed : (xs bs : List ℕ) (s : Reception) (starts : List ℕ) (n : ℕ) → Tied us caps handed bs s → Kept (us .bundle) caps starts n s → n ≡ baseOf caps (instances (us .bundle))
+      → Tied us caps handed (bs ++ take (used us caps s xs) xs) (fed us caps s xs)
   unfolding fed used
   tied-fed [] bs s starts n t k long = rw append-nil t
   tied-fed (x ∷ xs) bs s starts n t k long =
       by-test (isOpen (s .gate))
       (λ o.
-      let t′ : Tied bundle side caps handed (bs ++ (x ∷ [])) (step bundle side caps s x) = tied-read bs x s starts n t o k long (t .reading o) in
-      let k′ : Kept bundle caps starts n (step bundle side caps s x) = kept-fed bundle side caps starts n s (x ∷ []) k in
-      rw (o, ← append-assoc bs (x ∷ []) (take (used bundle side caps (step bundle side caps s x) xs) xs))
-      (tied-fed xs (bs ++ (x ∷ [])) (step bundle side caps s x) starts n t′ k′ long))
-      (λ o. rw (o, append-nil, fed-closed bundle side caps s (x ∷ xs) o) t)
+      let t′ : Tied us caps handed (bs ++ (x ∷ [])) (step us caps s x) = tied-read bs x s starts n t o k long (t .reading o) in
+      let k′ : Kept (us .bundle) caps starts n (step us caps s x) = kept-fed us caps starts n s (x ∷ []) k in
+      rw (o, ← append-assoc bs (x ∷ []) (take (used us caps (step us caps s x) xs) xs))
+      (tied-fed xs (bs ++ (x ∷ [])) (step us caps s x) starts n t′ k′ long))
+      (λ o. rw (o, append-nil, fed-closed us caps s (x ∷ xs) o) t)

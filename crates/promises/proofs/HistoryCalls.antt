@@ -4,7 +4,7 @@ use mathlib.Core.Path.{_≡_, refl, sym, subst}
 use mathlib.Core.List.{List}
 use Prim.Native.Nat.{ℕ}
 use Rattle.connection.specs.declared.Settings.{Settings}
-use Rattle.connection.specs.Statuses.{statusOf}
+use Rattle.telling.specs.Statuses.{statusOf}
 use Rattle.feeding.specs.Feeding as feeding
 use Rattle.taking.specs.Taking as taking
 use Rattle.putting.specs.Putting as putting

@@ -54,7 +54,7 @@ hands-of w i len m buf after (hands n k to h z l b r q) e =
           at-front
           ∙ rw (← el)
           (sym (stream-take (w .receive) (baseOf caps i) (getD caps i 0) (getD (c .receiving .starts) i 0) n (getD (c .receiving .held) i 0) l));
-      item = rw at-front (message-item (speaks (w .connection .settings .bundle) i) xs k r);
+      item = rw at-front (message-item (speaks (w .connection .settings .party .bundle) i) xs k r);
       reads = rw (at-front, ← em) r;
     }
 

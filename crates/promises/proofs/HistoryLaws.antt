@@ -10,7 +10,7 @@ use borrow.Author.Tests.{ne-eqb}
 use lib.Dec.{eqb}
 use lib.ListN.{length, take, drop}
 use lib.Seq.{sets, sets-eq, take-at}
-use Rattle.wire.specs.declared.instances.Side.{Side}
+use Rattle.wire.specs.declared.instances.Party.{Party}
 use Rattle.promises.specs.Trace.{Event}
 use Rattle.promises.specs.Calls.{Call, Answer}
 use Rattle.promises.specs.Fairness.{segmentOf, segments, payload, isOf, sentBy}
@@ -65,13 +65,13 @@ pub segments-next : (past : Past) (e : Event Call Answer) → segments (past ++ 
 unfolding segments
 segments-next past e = flat-next (λ (d : Event Call Answer). segmentOf (d .answer)) past e
 
-pub sent-append : (bundle : ℕ) (side : Side) (i : ℕ) (ss ts : List (List ℕ)) → sentBy bundle side i (ss ++ ts) ≡ sentBy bundle side i ss ++ sentBy bundle side i ts
+pub sent-append : (us : Party) (i : ℕ) (ss ts : List (List ℕ)) → sentBy us i (ss ++ ts) ≡ sentBy us i ss ++ sentBy us i ts
 unfolding sentBy
-sent-append bundle side i ss ts = flat-append (λ (bs : List ℕ). cond (isOf bundle side i bs) (payload bs) []) ss ts
+sent-append us i ss ts = flat-append (λ (bs : List ℕ). cond (isOf us i bs) (payload bs) []) ss ts
 
-pub sent-next : (bundle : ℕ) (side : Side) (i : ℕ) (past : Past) (e : Event Call Answer)
-    → sentFor bundle side i (past ++ (e ∷ [])) ≡ sentFor bundle side i past ++ sentBy bundle side i (segmentOf (e .answer))
-sent-next bundle side i past e = rw (segments-next past e, sent-append bundle side i (segments past) (segmentOf (e .answer)))
+pub sent-next : (us : Party) (i : ℕ) (past : Past) (e : Event Call Answer)
+    → sentFor us i (past ++ (e ∷ [])) ≡ sentFor us i past ++ sentBy us i (segmentOf (e .answer))
+sent-next us i past e = rw (segments-next past e, sent-append us i (segments past) (segmentOf (e .answer)))
 
 module _ (past : Past) (e : Event Call Answer) where
   pub bytes-next : bytesIn (past ++ (e ∷ [])) ≡ bytesIn past ++ usedBy (e .call) (e .answer)

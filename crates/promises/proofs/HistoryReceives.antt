@@ -13,7 +13,7 @@ use lib.Seq.{sets}
 use Rattle.ring.specs.Ring.{baseOf, stream}
 use Rattle.ring.proofs.Stores.{stream-length}
 use Rattle.ring.proofs.Streams.{stream-count, stream-place, queue-freed, starts-freed}
-use Rattle.wire.specs.declared.instances.Side.{Side}
+use Rattle.wire.specs.declared.instances.Party.{Party}
 use Rattle.wire.specs.Segments.{decoded, in-header}
 use Rattle.wire.specs.Instances.{instances, most}
 use Rattle.wire.proofs.InstanceLaws.{at-most}
@@ -25,8 +25,8 @@ use Rattle.connection.specs.declared.Gate.{Gate}
 use Rattle.connection.specs.declared.Gate.the-variants.{Open, Closed}
 use Rattle.connection.specs.declared.Connection.{Connection}
 use Rattle.connection.specs.Closings.{isOpen, closedBy}
-use Rattle.connection.specs.Statuses.{statusOf}
-use Rattle.connection.proofs.RangeLaws.{ranged}
+use Rattle.telling.specs.Statuses.{statusOf}
+use Rattle.range.proofs.RangeLaws.{ranged}
 use Rattle.feeding.specs.Feeding as feeding
 use Rattle.feeding.specs.Feeding.{Reception, given, fed, used}
 use Rattle.feeding.proofs.Keeping.{kept-given, kept-fed}
@@ -48,15 +48,15 @@ use Rattle.promises.proofs.HistoryBytes.{heldIn, Reading, in-head, in-p
 
 -- the tie of the bytes, and where each instance's first held byte is
 pub record Held (s : Settings) (past : Past) (w : World) : Type 0 where
-  pub tied : Tied (s .bundle) (s .side) (s .receive) (λ i. handedFor i past) (bytesIn past) (given (w .connection) (w .receive))
-  pub starts : (i : ℕ) → i < instances (s .bundle) → getD (w .connection .receiving .starts) i 0 ≡ length (handedFor i past) % getD (s .receive) i 0
+  pub tied : Tied (s .party) (s .receive) (λ i. handedFor i past) (bytesIn past) (given (w .connection) (w .receive))
+  pub starts : (i : ℕ) → i < instances (s .party .bundle) → getD (w .connection .receiving .starts) i 0 ≡ length (handedFor i past) % getD (s .receive) i 0
 
 -- ---- ties that stay
 
 -- with what is then handed out and held, and a record that stands as it stood
-tied-to : {bundle : ℕ} {side : Side} {caps : List ℕ} {handed handed′ : ℕ → List ℕ} {bs bs′ : List ℕ} {s : Reception} (s′ : Reception)
-    → (t : Tied bundle side caps handed bs s) → bs′ ≡ bs → ((i : ℕ) → i < instances bundle → handed i ++ heldIn caps s i ≡ handed′ i ++ heldIn caps s′ i)
-    → (isOpen (s′ .gate) ≡ true → Reading bundle side (s′ .receiving) (t .left)) → length (s′ .receiving .held) ≡ most → Tied bundle side caps handed′ bs′ s′
+tied-to : {us : Party} {caps : List ℕ} {handed handed′ : ℕ → List ℕ} {bs bs′ : List ℕ} {s : Reception} (s′ : Reception)
+    → (t : Tied us caps handed bs s) → bs′ ≡ bs → ((i : ℕ) → i < instances (us .bundle) → handed i ++ heldIn caps s i ≡ handed′ i ++ heldIn caps s′ i)
+    → (isOpen (s′ .gate) ≡ true → Reading us (s′ .receiving) (t .left)) → length (s′ .receiving .held) ≡ most → Tied us caps handed′ bs′ s′
 tied-to s′ t e f g n =
     record {
       carried = t .carried;
@@ -73,8 +73,8 @@ not-open Open x e = true≢false (sym e)
 not-open (Closed y) x e = true≢false (sym e)
 
 -- freeing bytes leaves the header and the payload under way
-reading-freed : {bundle : ℕ} {side : Side} {r : Receiving} {left : List ℕ} (caps : List ℕ) (i n : ℕ) → Reading bundle side r left
-    → Reading bundle side (taking.freedOf r caps i n) left
+reading-freed : {us : Party} {r : Receiving} {left : List ℕ} (caps : List ℕ) (i n : ℕ) → Reading us r left
+    → Reading us (taking.freedOf r caps i n) left
 reading-freed caps i n (in-head z h e) = in-head z h e
 reading-freed caps i n (in-pay h p e eight more m z to) = in-pay h p e eight more m z to
 
@@ -107,7 +107,7 @@ module _ (w : World) (g : Good w) (past : Past) (t : Held (w .connection .settin
         starts = λ i l. rw (same i, e) (t .starts i l);
       }
 
-  some : (i : ℕ) → i < instances (w .connection .settings .bundle) → 0 < getD (s .receive) i 0
+  some : (i : ℕ) → i < instances (w .connection .settings .party .bundle) → 0 < getD (s .receive) i 0
   some i l = let q = ranged c (g .ranged) .set .receive i l in omega arith
 
   held-feed : (xs : List ℕ) {x : feeding.Told} → Feeds c (w .receive) xs x → After (feed xs) (afterFeed w x)
@@ -118,13 +118,13 @@ module _ (w : World) (g : Good w) (past : Past) (t : Held (w .connection .settin
       let same : (i : ℕ) → handedFor i past ≡ handedFor i (with (feed xs) ((afterFeed w x) .answer)) =
       λ i. sym (handed-next past ev i ∙ append-nil (handedFor i past)) in
       let st : Reception = given c (w .receive) in
-      let n : ℕ = used (s .bundle) (s .side) (s .receive) st xs in
-      let q : Tied (s .bundle) (s .side) (s .receive) (λ i. handedFor i past) (bytesIn past ++ lists.take n xs) (fed (s .bundle) (s .side) (s .receive) st xs) =
-      tied-fed (s .bundle) (s .side) (s .receive) (λ i. handedFor i past) some xs (bytesIn past) st (c .receiving .starts) (length (w .receive)) (t .tied)
+      let n : ℕ = used (s .party) (s .receive) st xs in
+      let q : Tied (s .party) (s .receive) (λ i. handedFor i past) (bytesIn past ++ lists.take n xs) (fed (s .party) (s .receive) st xs) =
+      tied-fed (s .party) (s .receive) (λ i. handedFor i past) some xs (bytesIn past) st (c .receiving .starts) (length (w .receive)) (t .tied)
       (kept-given c (w .receive) (g .ranged)) (g .receive) in
-      let k = kept-fed (s .bundle) (s .side) (s .receive) (c .receiving .starts) (length (w .receive)) st xs (kept-given c (w .receive) (g .ranged)) in
+      let k = kept-fed (s .party) (s .receive) (c .receiving .starts) (length (w .receive)) st xs (kept-given c (w .receive) (g .ranged)) in
       record {
-        tied = tied-to (fed (s .bundle) (s .side) (s .receive) st xs) q (bytes-next past ev) (λ i l. rw (← same i)) (q .reading) (q .many);
+        tied = tied-to (fed (s .party) (s .receive) st xs) q (bytes-next past ev) (λ i l. rw (← same i)) (q .reading) (q .many);
         starts = λ i l. rw (k .places, ← same i) (t .starts i l);
       }
 
@@ -142,14 +142,14 @@ module _ (w : World) (g : Good w) (past : Past) (t : Held (w .connection .settin
       λ i. handed-next past ev i ∙ ap (λ (r : List ℕ). handedFor i past ++ r) (rw at-front (act-adds handedBy (eqb j i) (got xs))) in
       let held = c .receiving .held in
       let start = c .receiving .starts in
-      let in-starts : j < length start = omega (arith, g .shaped .receive-starts, at-most (s .bundle)) in
+      let in-starts : j < length start = omega (arith, g .shaped .receive-starts, at-most (s .party .bundle)) in
       record {
         tied =
             tied-to (given ((afterTake w x) .world .connection) (w .receive)) (t .tied) (bytes-next past ev ∙ append-nil (bytesIn past))
             (λ i l′.
             rw (now i, append-assoc)
             (ap (λ (r : List ℕ). handedFor i past ++ r)
-            (queue-freed (w .receive) (s .receive) start held j n in-starts (omega (arith, g .shaped .held, at-most (s .bundle))) l i)))
+            (queue-freed (w .receive) (s .receive) start held j n in-starts (omega (arith, g .shaped .held, at-most (s .party .bundle))) l i)))
             (λ y. reading-freed (s .receive) j n (t .tied .reading y)) (rw length-set (g .shaped .held));
         starts = λ i l′. rw (now i) (starts-freed (w .receive) (s .receive) start held j n in-starts (handedFor i past) xs long i (t .starts i l′));
       }
@@ -189,11 +189,11 @@ held-first {s} {receive} {send} o =
             carried = [];
             left = [];
             divided = in-header {bs = []} (omega arith);
-            received = λ i l. rw (getD-replicate {A = ℕ} most i 0 0 (omega (arith, at-most (s .bundle)))) (none-for (s .bundle) (s .side) i (decoded []));
+            received = λ i l. rw (getD-replicate {A = ℕ} most i 0 0 (omega (arith, at-most (s .party .bundle)))) (none-for (s .party) i (decoded []));
             reading = λ q. in-head refl (omega arith) refl;
             many = refl;
           };
-      starts = λ i l. rw (getD-replicate {A = ℕ} most i 0 0 (omega (arith, at-most (s .bundle)))) (sym (zero-mod _));
+      starts = λ i l. rw (getD-replicate {A = ℕ} most i 0 0 (omega (arith, at-most (s .party .bundle)))) (sym (zero-mod _));
     })
 
 -- ---- T11 (a) and (d)
@@ -205,7 +205,7 @@ module _ (past : Past) (w : World) (t : Held (w .connection .settings) past w) w
   receives-of : Receives (w .connection .settings) past w
   receives-of =
       let r = w .connection .receiving in
-      let came : ℕ → List ℕ = λ i. receivedIn (w .connection .settings .bundle) (w .connection .settings .side) i (t .tied .carried) (t .tied .left) in
+      let came : ℕ → List ℕ = λ i. receivedIn (w .connection .settings .party) i (t .tied .carried) (t .tied .left) in
       record {
         carried = t .tied .carried;
         left = t .tied .left;

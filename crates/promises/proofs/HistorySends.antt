@@ -14,13 +14,12 @@ use Rattle.ring.specs.Ring.{baseOf, stream}
 use Rattle.ring.proofs.Stores.{stream-length}
 use Rattle.ring.proofs.Streams.{stream-count, stream-place, queue-freed, starts-freed, queue-laid}
 use Rattle.wire.specs.declared.segment.Segment.{Segment}
-use Rattle.wire.specs.declared.instances.Side.{Side}
 use Rattle.wire.specs.Instances.{instances, most, protocolOf, modeOf}
 use Rattle.wire.proofs.InstanceLaws.{at-most}
 use Rattle.connection.specs.declared.Settings.{Settings}
 use Rattle.connection.specs.declared.Connection.{Connection}
-use Rattle.connection.specs.Statuses.{statusOf}
-use Rattle.connection.proofs.RangeLaws.{ranged}
+use Rattle.telling.specs.Statuses.{statusOf}
+use Rattle.range.proofs.RangeLaws.{ranged}
 use Rattle.feeding.specs.Feeding as feeding
 use Rattle.putting.specs.Putting as putting
 use Rattle.sending.specs.NextSegment as sending
@@ -41,26 +40,25 @@ use Rattle.promises.proofs.HistoryLaws.{no-act-adds, act-adds, act-unse
 -- ---- whose segment it is
 
 -- the payload of a segment of instance j, for i
-payload-is : (w : World) (time j : ℕ) (bs : List ℕ) → Made w time j bs → (i : ℕ) → i < instances (w .connection .settings .bundle)
-    → sentBy (w .connection .settings .bundle) (w .connection .settings .side) i (bs ∷ []) ≡ cond (eqb j i) (sending.payloadOf (w .connection) (w .send) j) []
+payload-is : (w : World) (time j : ℕ) (bs : List ℕ) → Made w time j bs → (i : ℕ) → i < instances (w .connection .settings .party .bundle)
+    → sentBy (w .connection .settings .party) i (bs ∷ []) ≡ cond (eqb j i) (sending.payloadOf (w .connection) (w .send) j) []
 unfolding sentBy flatMap
 payload-is w time j bs m i l =
-    let bundle : ℕ = w .connection .settings .bundle in
-    let side : Side = w .connection .settings .side in
-    let mode : header bs .mode ≡ modeOf bundle side j = ap (λ (h : Segment). h .mode) (m .reads) in
-    let number : header bs .protocol ≡ protocolOf (w .connection .settings .bundle) j = ap (λ (h : Segment). h .protocol) (m .reads) in
-    let of : isOf bundle side i bs ≡ eqb j i =
+    let us = w .connection .settings .party in
+    let mode : header bs .mode ≡ modeOf us j = ap (λ (h : Segment). h .mode) (m .reads) in
+    let number : header bs .protocol ≡ protocolOf (us .bundle) j = ap (λ (h : Segment). h .protocol) (m .reads) in
+    let of : isOf us i bs ≡ eqb j i =
     by-test (eqb j i)
-    (λ q. let e : j ≡ i = eqb-true j i q in of-same bundle side i bs (mode ∙ ap (modeOf bundle side) e) (number ∙ ap (protocolOf (w .connection .settings .bundle)) e) ∙ sym q)
-    (λ q. of-other bundle side i j bs l (m .within) (λ e. eqb-false j i q (sym e)) mode number ∙ sym q) in
+    (λ q. let e : j ≡ i = eqb-true j i q in of-same us i bs (mode ∙ ap (modeOf us) e) (number ∙ ap (protocolOf (us .bundle)) e) ∙ sym q)
+    (λ q. of-other us i j bs l (m .within) (λ e. eqb-false j i q (sym e)) mode number ∙ sym q) in
     rw (of, m .carries, append-nil)
 
 -- ---- what a call puts and sends
 
 -- what was put is what was sent and what waits, and where the first waiting byte is
 pub record Waits (s : Settings) (past : Past) (w : World) : Type 0 where
-  pub put : (i : ℕ) → i < instances (s .bundle) → putFor i past ≡ sentFor (s .bundle) (s .side) i past ++ queue w i
-  pub starts : (i : ℕ) → i < instances (s .bundle) → getD (w .connection .sending .starts) i 0 ≡ length (sentFor (s .bundle) (s .side) i past) % getD (s .send) i 0
+  pub put : (i : ℕ) → i < instances (s .party .bundle) → putFor i past ≡ sentFor (s .party) i past ++ queue w i
+  pub starts : (i : ℕ) → i < instances (s .party .bundle) → getD (w .connection .sending .starts) i 0 ≡ length (sentFor (s .party) i past) % getD (s .send) i 0
 
 module _ (w : World) (g : Good w) (past : Past) (t : Waits (w .connection .settings) past w) where
   abbrev c : Connection
@@ -84,11 +82,11 @@ module _ (w : World) (g : Good w) (past : Past) (t : Waits (w .connection .setti
   waits-same a o none nothing e k f =
       let ev : Event Call Answer = record { call = a; answer = o .answer } in
       let puts-same : (i : ℕ) → putFor i (with a (o .answer)) ≡ putFor i past = λ i. put-next past ev i ∙ rw (nothing i, append-nil) in
-      let sent-same : (i : ℕ) → sentFor (s .bundle) (s .side) i (with a (o .answer)) ≡ sentFor (s .bundle) (s .side) i past =
-      λ i. sent-next (s .bundle) (s .side) i past ev ∙ rw (none, append-nil) in
+      let sent-same : (i : ℕ) → sentFor (s .party) i (with a (o .answer)) ≡ sentFor (s .party) i past =
+      λ i. sent-next (s .party) i past ev ∙ rw (none, append-nil) in
       record { put = λ i l. rw (puts-same i, sent-same i, e, k, f) (t .put i l); starts = λ i l. rw (sent-same i, e) (t .starts i l) }
 
-  some : (i : ℕ) → i < instances (s .bundle) → 0 < getD (s .send) i 0
+  some : (i : ℕ) → i < instances (s .party .bundle) → 0 < getD (s .send) i 0
   some i l = let q = ranged c (g .ranged) .set .send i l in omega arith
 
   waits-put : (j : ℕ) (xs : List ℕ) {x : putting.Told} → Puts (w .connection) (w .send) j xs x → After (put j xs) (afterPut w x)
@@ -98,15 +96,15 @@ module _ (w : World) (g : Good w) (past : Past) (t : Waits (w .connection .setti
       let ev : Event Call Answer = record { call = put j xs; answer = (afterPut w x) .answer } in
       let now : (i : ℕ) → putFor i (with (put j xs) ((afterPut w x) .answer)) ≡ putFor i past ++ cond (eqb j i) xs [] =
       λ i. put-next past ev i ∙ rw (act-adds putBy (eqb j i) (gave xs)) in
-      let sent-same : (i : ℕ) → sentFor (s .bundle) (s .side) i (with (put j xs) ((afterPut w x) .answer)) ≡ sentFor (s .bundle) (s .side) i past =
-      λ i. sent-next (s .bundle) (s .side) i past ev ∙ append-nil (sentFor (s .bundle) (s .side) i past) in
+      let sent-same : (i : ℕ) → sentFor (s .party) i (with (put j xs) ((afterPut w x) .answer)) ≡ sentFor (s .party) i past =
+      λ i. sent-next (s .party) i past ev ∙ append-nil (sentFor (s .party) i past) in
       record {
         put = λ i l.
             rw (now i, sent-same i, t .put i l, append-assoc)
-            (ap (λ (r : List ℕ). sentFor (s .bundle) (s .side) i past ++ r)
+            (ap (λ (r : List ℕ). sentFor (s .party) i past ++ r)
             (sym
-            (queue-laid (w .send) (s .send) (c .sending .starts) (c .sending .waiting) j (instances (s .bundle)) xs (g .send) some h
-            (omega (arith, g .shaped .waiting, at-most (s .bundle))) fit i l)));
+            (queue-laid (w .send) (s .send) (c .sending .starts) (c .sending .waiting) j (instances (s .party .bundle)) xs (g .send) some h
+            (omega (arith, g .shaped .waiting, at-most (s .party .bundle))) fit i l)));
         starts = λ i l. rw (sent-same i) (t .starts i l);
       }
 
@@ -120,20 +118,20 @@ module _ (w : World) (g : Good w) (past : Past) (t : Waits (w .connection .setti
       let xs : List ℕ = sending.payloadOf c (w .send) j in
       let m = made-of g time buf j small who l in
       let later : Past = past ++ (ev ∷ []) in
-      let sent-now : (i : ℕ) → i < instances (w .connection .settings .bundle) → sentFor (s .bundle) (s .side) i later ≡ sentFor (s .bundle) (s .side) i past ++ cond (eqb j i) xs [] =
-      λ i k. sent-next (s .bundle) (s .side) i past ev ∙ ap (λ (r : List ℕ). sentFor (s .bundle) (s .side) i past ++ r) (payload-is w time j _ m i k) in
+      let sent-now : (i : ℕ) → i < instances (w .connection .settings .party .bundle) → sentFor (s .party) i later ≡ sentFor (s .party) i past ++ cond (eqb j i) xs [] =
+      λ i k. sent-next (s .party) i past ev ∙ ap (λ (r : List ℕ). sentFor (s .party) i past ++ r) (payload-is w time j _ m i k) in
       let puts-same : (i : ℕ) → putFor i later ≡ putFor i past = λ i. put-next past ev i ∙ append-nil (putFor i past) in
       let waiting = c .sending .waiting in
       let start = c .sending .starts in
-      let in-starts : j < length start = omega (arith, m .within, g .shaped .send-starts, at-most (s .bundle)) in
+      let in-starts : j < length start = omega (arith, m .within, g .shaped .send-starts, at-most (s .party .bundle)) in
       record {
         put = λ i k.
             rw (puts-same i, sent-now i k, t .put i k, append-assoc)
-            (ap (λ (r : List ℕ). sentFor (s .bundle) (s .side) i past ++ r)
-            (queue-freed (w .send) (s .send) start waiting j n in-starts (omega (arith, m .within, g .shaped .waiting, at-most (s .bundle))) (omega arith) i));
+            (ap (λ (r : List ℕ). sentFor (s .party) i past ++ r)
+            (queue-freed (w .send) (s .send) start waiting j n in-starts (omega (arith, m .within, g .shaped .waiting, at-most (s .party .bundle))) (omega arith) i));
         starts = λ i k.
             rw (sent-now i k)
-            (starts-freed (w .send) (s .send) start waiting j n in-starts (sentFor (s .bundle) (s .side) i past) xs (stream-length _ _ _ _ n) i (t .starts i k));
+            (starts-freed (w .send) (s .send) start waiting j n in-starts (sentFor (s .party) i past) xs (stream-length _ _ _ _ n) i (t .starts i k));
       }
 
   waits-feed : (xs : List ℕ) {x : feeding.Told} → Feeds c (w .receive) xs x → After (feed xs) (afterFeed w x)
@@ -168,8 +166,8 @@ unfolding putFor acts segments sentBy flatMap stream
 waits-first {s} {receive} {send} o =
     rw (opens-fresh o)
     (record {
-      put = λ i l. rw (getD-replicate {A = ℕ} most i 0 0 (omega (arith, at-most (s .bundle))));
-      starts = λ i l. rw (getD-replicate {A = ℕ} most i 0 0 (omega (arith, at-most (s .bundle)))) (sym (zero-mod _));
+      put = λ i l. rw (getD-replicate {A = ℕ} most i 0 0 (omega (arith, at-most (s .party .bundle))));
+      starts = λ i l. rw (getD-replicate {A = ℕ} most i 0 0 (omega (arith, at-most (s .party .bundle)))) (sym (zero-mod _));
     })
 
 -- ---- T11 (b) and (d)
@@ -178,7 +176,7 @@ sends-of : (past : Past) (w : World) → Waits (w .connection .settings) past w 
 sends-of past w t =
     let caps = w .connection .settings .send in
     let q = w .connection .sending in
-    let sent : ℕ → List ℕ = λ i. sentFor (w .connection .settings .bundle) (w .connection .settings .side) i past in
+    let sent : ℕ → List ℕ = λ i. sentFor (w .connection .settings .party) i past in
     record {
       put = t .put;
       waiting = λ i l.

@@ -17,6 +17,7 @@ use Rattle.connection.specs.Closings.{closingOf, isOpen}
 use Rattle.connection.specs.Parts.{withGate}
 use Rattle.connection.proofs.ClosingLaws.{closed-stays, closed-so}
 use Rattle.feeding.specs.Feeding as feeding
+use Rattle.judging.specs.Judging.{said}
 use Rattle.putting.specs.Putting as putting
 use Rattle.sending.specs.NextSegment as sending
 use Rattle.taking.specs.Taking as taking
@@ -36,9 +37,9 @@ module _ (w : World) (g : Good w) (closed : isOpen (w .connection .gate) ≡ fal
   unfolding step feeding.feedOf
   shut-feeds xs = rw (reached-receives g, closed)
 
-  shut-puts : (i : ℕ) (xs : List ℕ) → step w (put i xs) ≡ record { world = w; answer = queued (cond (ltb i (instances (w .connection .settings .bundle))) 20 10) }
-  unfolding step putting.putOf putting.judgeOf
-  shut-puts i xs = rw (reached-sends g) (by-test (ltb i (instances (w .connection .settings .bundle))) (λ t. rw (t, closed)) (λ t. rw t))
+  shut-puts : (i : ℕ) (xs : List ℕ) → step w (put i xs) ≡ record { world = w; answer = queued (cond (ltb i (instances (w .connection .settings .party .bundle))) 20 10) }
+  unfolding step putting.putOf said
+  shut-puts i xs = rw (reached-sends g) (by-test (ltb i (instances (w .connection .settings .party .bundle))) (λ t. rw (t, closed)) (λ t. rw t))
 
   shut-makes : (time : ℕ) (buf : List ℕ) → step w (next time buf) ≡ record { world = w; answer = made 20 0 buf }
   unfolding step sending.nextOf
@@ -94,8 +95,8 @@ idle w (put j xs) g o =
     (record {
       comes = refl;
       put = λ i.
-          no-act-adds putBy (eqb j i) (cond (ltb j (instances (w .connection .settings .bundle))) 20 10) (gave xs)
-          (cond-cases (λ (n : ℕ). n ≢ 0) (ltb j (instances (w .connection .settings .bundle))) (λ t q. omega arith) (λ t q. omega arith));
+          no-act-adds putBy (eqb j i) (cond (ltb j (instances (w .connection .settings .party .bundle))) 20 10) (gave xs)
+          (cond-cases (λ (n : ℕ). n ≢ 0) (ltb j (instances (w .connection .settings .party .bundle))) (λ t q. omega arith) (λ t q. omega arith));
       sent = refl;
     })
 idle w (next time buf) g o = rw (shut-makes w g o time buf) (record { comes = refl; put = λ i. refl; sent = refl })

@@ -13,7 +13,7 @@ use lib.ListN.{length, getD, getD-replicate}
 use lib.Seq.{sets}
 use Rattle.base.proofs.Conds.{by-test}
 use Rattle.ring.proofs.Stores.{stream-length}
-use Rattle.wire.specs.declared.instances.Side.{Side}
+use Rattle.wire.specs.declared.instances.Party.{Party}
 use Rattle.wire.specs.Instances.{instances, most, roleOf, initiates}
 use Rattle.wire.proofs.InstanceLaws.{at-most}
 use Rattle.rows.specs.declared.Agency.{Agency}
@@ -25,10 +25,10 @@ use Rattle.rows.specs.Spoken.{speaks}
 use Rattle.rows.proofs.RowLaws.{rows-say}
 use Rattle.messages.specs.Reading.{messageOf, read, flagOf}
 use Rattle.connection.specs.declared.Settings.{Settings}
-use Rattle.connection.proofs.RangeLaws.{ranged}
+use Rattle.range.proofs.RangeLaws.{ranged}
 use Rattle.connection.specs.Parts.{firstHeld}
 use Rattle.judging.proofs.Moving.{leads-low, first-speaks}
-use Rattle.judging.specs.Judging.{holds, stateOf, ours, movedBy}
+use Rattle.judging.specs.Judging.{holds, ours, movedBy}
 use Rattle.taking.specs.Taking as taking
 use Rattle.feeding.specs.Feeding as feeding
 use Rattle.putting.specs.Putting as putting
@@ -54,16 +54,16 @@ other-holds true Responder e n = refl
 other-holds false Responder e n = absurd (true≢false e)
 other-holds b Nobody e n = absurd (n refl)
 
-their-turn : (bundle : ℕ) (side : Side) (i s k f n : ℕ) → ours bundle side i s ≡ false → nextOf (speaks bundle i) s k f ≡ To n → theirs bundle side i s ≡ true
+their-turn : (us : Party) (i s k f n : ℕ) → ours us i s ≡ false → nextOf (speaks (us .bundle) i) s k f ≡ To n → theirs us i s ≡ true
 unfolding ours
-their-turn bundle side i s k f n e q =
-    other-holds (initiates side (roleOf bundle i)) (agencyOf (speaks bundle i) s) e (rows-say .going (speaks bundle i) s (leads-low (speaks bundle i) s k f n q .0))
+their-turn us i s k f n e q =
+    other-holds (initiates (us .side) (roleOf (us .bundle) i)) (agencyOf (speaks (us .bundle) i) s) e (rows-say .going (speaks (us .bundle) i) s (leads-low (speaks (us .bundle) i) s k f n q .0))
 
 -- ---- what a call does to the states
 
 data Talked (s : Settings) (w : World) (c : Call) (o : Out World Answer) : Type 0 where
   quiet : o .world .connection .talk ≡ w .connection .talk → ((i : ℕ) → actsBy i c (o .answer) ≡ []) → Talked s w c o
-  acted : (j : ℕ) (a : Act) (to : ℕ) → j < instances (s .bundle) → (k : Moves (s .bundle) (s .side) j (getD (w .connection .talk .states) j 0) a to)
+  acted : (j : ℕ) (a : Act) (to : ℕ) → j < instances (s .party .bundle) → (k : Moves (s .party) j (getD (w .connection .talk .states) j 0) a to)
       → o .world .connection .talk ≡ movedBy (w .connection .talk) j (k .message .kind) to
       → ((i : ℕ) → actsBy i c (o .answer) ≡ cond (eqb j i) (a ∷ []) []) → Talked s w c o
 
@@ -84,7 +84,7 @@ module _ (w : World) (k : Reached (w .connection .settings) w) where
         message = m;
         reads = r;
         agency =
-            their-turn (s .bundle) (s .side) j (stateOf (w .connection) j) (m .kind) (flagOf (speaks (s .bundle) j) m) to e q;
+            their-turn (s .party) j (getD (w .connection .talk .states) j 0) (m .kind) (flagOf (speaks (s .party .bundle) j) m) to e q;
         row = q;
       })
       refl (λ i. rw at-front (an-act (eqb j i) (got xs)))
@@ -113,8 +113,8 @@ module _ (w : World) (k : Reached (w .connection .settings) w) where
 
 -- ---- T11 (c)
 
-walk-next : {bundle : ℕ} {side : Side} {i from state to : ℕ} {before : List Act} {a : Act} → Walks bundle side i from before state → Moves bundle side i state a to
-    → Walks bundle side i from (before ++ (a ∷ [])) to
+walk-next : {us : Party} {i from state to : ℕ} {before : List Act} {a : Act} → Walks us i from before state → Moves us i state a to
+    → Walks us i from (before ++ (a ∷ [])) to
 walk-next rests k = moves k rests
 walk-next (moves j more) k = moves j (walk-next more k)
 
@@ -129,28 +129,28 @@ module _ (w : World) (k : Reached (w .connection .settings) w) (past : Past) (t 
   given = w .connection .settings
 
   -- the states of all after an act of j
-  walks-on : (j to : ℕ) (a : Act) → j < instances (given .bundle) → Moves (given .bundle) (given .side) j (stateOf (w .connection) j) a to → (i : ℕ) → i < instances (given .bundle)
-      → Walks (given .bundle) (given .side) i 0 (acts i past ++ cond (eqb j i) (a ∷ []) []) (getD (lists.set (w .connection .talk .states) j to) i 0)
+  walks-on : (j to : ℕ) (a : Act) → j < instances (given .party .bundle) → Moves (given .party) j (getD (w .connection .talk .states) j 0) a to → (i : ℕ) → i < instances (given .party .bundle)
+      → Walks (given .party) i 0 (acts i past ++ cond (eqb j i) (a ∷ []) []) (getD (lists.set (w .connection .talk .states) j to) i 0)
   walks-on j to a h m i =
-      at-set (λ n state. n < instances (given .bundle) → Walks (given .bundle) (given .side) n 0 (acts n past ++ cond (eqb j n) (a ∷ []) []) state) (w .connection .talk .states) j to
-      (omega (arith, k .shaped .states, at-most (given .bundle))) (λ l. rw (eq-eqb j j refl) (walk-next (t .states j h) m))
+      at-set (λ n state. n < instances (given .party .bundle) → Walks (given .party) n 0 (acts n past ++ cond (eqb j n) (a ∷ []) []) state) (w .connection .talk .states) j to
+      (omega (arith, k .shaped .states, at-most (given .party .bundle))) (λ l. rw (eq-eqb j j refl) (walk-next (t .states j h) m))
       (λ n ne l. rw (ne-eqb j n (λ e. ne (sym e)), append-nil) (t .states n l)) i
 
   -- and whether Accept is marked: no state with a row is Handshake's last
-  marks-on : (j to : ℕ) (a : Act) (m : Moves (given .bundle) (given .side) j (stateOf (w .connection) j) a to)
+  marks-on : (j to : ℕ) (a : Act) (m : Moves (given .party) j (getD (w .connection .talk .states) j 0) a to)
       → (w .connection .talk .accepted || (eqb j 0 && eqb (m .message .kind) 1)) ≡ endsInAccept (acts 0 past ++ cond (eqb j 0) (a ∷ []) [])
   marks-on j to a m =
       by-test (eqb j 0)
       (λ q.
       let e : j ≡ 0 = eqb-true j 0 q in
-      let going = leads-low (speaks (given .bundle) j) (stateOf (w .connection) j) (m .message .kind) (flagOf (speaks (given .bundle) j) (m .message)) to (m .row) .0 in
+      let going = leads-low (speaks (given .party .bundle) j) (getD (w .connection .talk .states) j 0) (m .message .kind) (flagOf (speaks (given .party .bundle) j) (m .message)) to (m .row) .0 in
       let not-yet : w .connection .talk .accepted ≡ false =
       by-test (w .connection .talk .accepted)
       (λ y.
-      let done : stateOf (w .connection) 0 ≡ doneOf (speaks (given .bundle) 0) = ranged (w .connection) (k .ranged) .accepted y in
-      absurd (omega (arith, ap (λ (n : ℕ). stateOf (w .connection) n) e, ap (λ (n : ℕ). doneOf (speaks (given .bundle) n)) e)))
+      let done : getD (w .connection .talk .states) 0 0 ≡ doneOf (speaks (given .party .bundle) 0) = ranged (w .connection) (k .ranged) .accepted y in
+      absurd (omega (arith, ap (λ (n : ℕ). getD (w .connection .talk .states) n 0) e, ap (λ (n : ℕ). doneOf (speaks (given .party .bundle) n)) e)))
       (λ n. n) in
-      let read-so : messageOf Handshake (messageIn a) ≡ read (m .message) = rw (e, first-speaks (given .bundle)) at (m .reads) in
+      let read-so : messageOf Handshake (messageIn a) ≡ read (m .message) = rw (e, first-speaks (given .party .bundle)) at (m .reads) in
       rw (q, not-yet, ends-next (acts 0 past) a, read-so))
       (λ q. rw (q, or-false, append-nil) (t .accepted))
 
@@ -176,6 +176,6 @@ pub talks-first : {s : Settings} {receive send : List ℕ} → Opened s receive 
 unfolding acts endsInAccept flatMap
 talks-first {s} {receive} {send} o =
     record {
-      states = λ i l. rw (opens-fresh o, getD-replicate {A = ℕ} most i 0 0 (omega (arith, at-most (s .bundle)))) rests;
+      states = λ i l. rw (opens-fresh o, getD-replicate {A = ℕ} most i 0 0 (omega (arith, at-most (s .party .bundle)))) rests;
       accepted = rw (opens-fresh o);
     }

@@ -1,6 +1,7 @@
 -- Every promise is kept: each is proved in a file of its own.
 -- Assumes nothing.
-use Rattle.connection.proofs.Once.{open-once, status-once}
+use Rattle.opening.proofs.Once as opening
+use Rattle.telling.proofs.Once as telling
 use Rattle.feeding.proofs.Once as feeding
 use Rattle.taking.proofs.Once as taking
 use Rattle.build.proofs.Once as build
@@ -23,13 +24,13 @@ promises =
     record {
       contracts =
           record {
-            opening = open-once;
+            opening = opening.once;
             feed = feeding.once;
             take = taking.once;
             build = build.once;
             put = putting.once;
             next-segment = sending.once;
-            status = status-once;
+            status = telling.once;
           };
       opened = opened;
       glued = glued;

@@ -17,14 +17,15 @@ use Rattle.rows.specs.Spoken.{speaks}
 use Rattle.messages.specs.Reading.{flagOf}
 use Rattle.connection.specs.declared.Settings.{Settings}
 use Rattle.connection.specs.declared.Connection.{Connection}
-use Rattle.connection.specs.declared.opening as opening
+use Rattle.opening.specs.declared as opening
 use Rattle.connection.specs.Parts.{withReceiving}
 use Rattle.connection.specs.Shapes.{Shaped}
-use Rattle.connection.specs.Ranges.{inRange, receiveLength, sendLength, receiveStoreOk, sendStoreOk, receives, sends, settingsOk}
-use Rattle.connection.specs.Openings.{fresh, openOf}
-use Rattle.connection.proofs.RangeLaws.{ranged}
-use Rattle.connection.proofs.NumberLaws as connection
-use Rattle.judging.specs.Judging.{ours, barred}
+use Rattle.range.specs.Ranges.{inRange, receiveLength, sendLength, receiveStoreOk, sendStoreOk, receives, sends, settingsOk}
+use Rattle.opening.specs.Openings.{fresh, openOf}
+use Rattle.range.proofs.RangeLaws.{ranged}
+use Rattle.opening.proofs.NumberLaws as opening-laws
+use Rattle.telling.proofs.NumberLaws.{status-exactly}
+use Rattle.judging.specs.Judging.{ours}
 use Rattle.judging.proofs.Moving.{first-speaks}
 use Rattle.feeding.specs.Feeding as feeding
 use Rattle.feeding.specs.Numbers.{Spelt, When, out-of-range}
@@ -49,7 +50,7 @@ use Rattle.base.proofs.ListLaws.{zeros, at-set}
 
 -- the bytes of Handshake that we may still put, and with them those that wait
 abbrev pub toPut : Settings → World → ℕ
-toPut s w = spare (s .side) (getD (w .connection .talk .states) 0 0) (s .limit)
+toPut s w = spare (s .party .side) (getD (w .connection .talk .states) 0 0) (s .limit)
 
 abbrev pub handshake : Settings → World → ℕ
 handshake s w = waits w 0 + toPut s w
@@ -83,7 +84,7 @@ module _ (s : Settings) (w : World) (k : Sound s w) where
   sound-fed {xs} (bytes o) ok spelt =
       let st : feeding.Reception = ends c (w .receive) xs in
       let t : Tidy (c .receiving .starts) st =
-      tidy-fed (c .settings .bundle) (c .settings .side) (c .settings .receive) (c .receiving .starts) (feeding.given c (w .receive)) xs
+      tidy-fed (c .settings .party) (c .settings .receive) (c .receiving .starts) (feeding.given c (w .receive)) xs
       (record { places = refl; many = r .shaped .held; blank = r .blank; idle = r .idle }) in
       let p = both-true (inRange (withReceiving c (st .receiving) (st .gate))) (receiveStoreOk (c .settings) (length (st .store))) ok in
       record {
@@ -123,11 +124,11 @@ module _ (s : Settings) (w : World) (k : Sound s w) where
   -- ---- take
 
   -- where instance i moves, the state of Handshake moves with it or stays
-  pub moved : (i after : ℕ) → Row (speaks (c .settings .bundle) i) (getD (c .talk .states) i 0) after
-      → spare (s .side) (getD (set (c .talk .states) i after) 0 0) (s .limit) ≤ toPut s w
+  pub moved : (i after : ℕ) → Row (speaks (c .settings .party .bundle) i) (getD (c .talk .states) i 0) after
+      → spare (s .party .side) (getD (set (c .talk .states) i after) 0 0) (s .limit) ≤ toPut s w
   moved zero after row =
       rw (getD-set-same (c .talk .states) 0 after 0 (omega (arith, r .shaped .states)))
-      (spare-moved (s .side) (s .limit) (shakes (getD (c .talk .states) 0 0) after (rw (first-speaks (c .settings .bundle)) at row)))
+      (spare-moved (s .party .side) (s .limit) (shakes (getD (c .talk .states) 0 0) after (rw (first-speaks (c .settings .party .bundle)) at row)))
   moved (suc i) after row = rw (getD-set-other (c .talk .states) (suc i) 0 after 0 (λ e. omega arith)) (omega arith)
 
   -- what a call keeps that leaves settings, header and payload under way as they were
@@ -159,7 +160,7 @@ module _ (s : Settings) (w : World) (k : Sound s w) where
   sound-took (refuses n z ne f) ok shaped = k
   sound-took (faults n low high l) ok shaped = kept refl refl refl refl ok shaped refl (omega arith) (r .accepted)
   sound-took {i} (hands n m to l early held long reads row) ok shaped =
-      kept refl refl refl refl ok shaped refl (omega (arith, moved i to (m .kind, flagOf (speaks (c .settings .bundle) i) m, row)))
+      kept refl refl refl refl ok shaped refl (omega (arith, moved i to (m .kind, flagOf (speaks (c .settings .party .bundle) i) m, row)))
       (λ j some waiting. rw (r .accepted j some waiting))
 
   sound-take : (i : ℕ) (buf : List ℕ) → Sound s (step w (take i buf) .world)
@@ -174,14 +175,13 @@ module _ (s : Settings) (w : World) (k : Sound s w) where
   more i n = set (c .sending .waiting) i (getD (c .sending .waiting) i 0 + n)
 
   -- our message of Handshake, of at most S bytes, is the only one
-  pub put-bound : (i after n : ℕ) → ours (c .settings .bundle) (c .settings .side) i (getD (c .talk .states) i 0) ≡ true → Row (speaks (c .settings .bundle) i) (getD (c .talk .states) i 0) after
+  pub put-bound : (i after n : ℕ) → ours (c .settings .party) i (getD (c .talk .states) i 0) ≡ true → Row (speaks (c .settings .party .bundle) i) (getD (c .talk .states) i 0) after
       → (i ≡ 0 → n ≤ c .settings .limit)
-      → getD (more i n) 0 0 + spare (s .side) (getD (set (c .talk .states) i after) 0 0) (s .limit) ≤ handshake s w
+      → getD (more i n) 0 0 + spare (s .party .side) (getD (set (c .talk .states) i after) 0 0) (s .limit) ≤ handshake s w
   put-bound zero after n mine row short =
       let state = getD (c .talk .states) 0 0 in
-      let b = c .settings .bundle in
-      let k = shakes state after (rw (first-speaks b) at row) in
-      let q = rw (r .settings) at (spare-put b (c .settings .side) (s .limit) (ranged c (r .ranged) .set .bundle) k mine) in
+      let k = shakes state after (rw (first-speaks (c .settings .party .bundle)) at row) in
+      let q = rw (r .settings) at (spare-put (c .settings .party) (s .limit) (ranged c (r .ranged) .set .bundle) k mine) in
       rw (
         getD-set-same (c .sending .waiting) 0 (waits w 0 + n) 0 (omega (arith, r .shaped .waiting)),
         getD-set-same (c .talk .states) 0 after 0 (omega (arith, r .shaped .states)),
@@ -195,7 +195,7 @@ module _ (s : Settings) (w : World) (k : Sound s w) where
       (omega arith)
 
   -- whoever puts is not barred
-  put-accepted : (i n : ℕ) → barred (c .talk) i ≡ false → (j : ℕ) → 0 < j → 0 < getD (more i n) j 0 → c .talk .accepted ≡ true
+  put-accepted : (i n : ℕ) → (not (eqb i 0) && not (c .talk .accepted)) ≡ false → (j : ℕ) → 0 < j → 0 < getD (more i n) j 0 → c .talk .accepted ≡ true
   put-accepted i n free j some waiting =
       by-test (eqb j i)
       (λ t.
@@ -210,7 +210,7 @@ module _ (s : Settings) (w : World) (k : Sound s w) where
       → Sound s (record { connection = t .answer .connection; receive = w .receive; send = t .store })
   sound-put-way (refuses n z ne) ok shaped long = k
   sound-put-way {i} {xs} (queues m to l listens free mine reads row short fits) ok shaped long =
-      kept refl refl refl refl ok shaped long (put-bound i to (length xs) mine (m .kind, flagOf (speaks (c .settings .bundle) i) m, row) short)
+      kept refl refl refl refl ok shaped long (put-bound i to (length xs) mine (m .kind, flagOf (speaks (c .settings .party .bundle) i) m, row) short)
       (λ j some waiting. rw (put-accepted i (length xs) free j some waiting))
 
   sound-put : (i : ℕ) (xs : List ℕ) → Sound s (step w (put i xs) .world)
@@ -225,9 +225,9 @@ module _ (s : Settings) (w : World) (k : Sound s w) where
   -- ---- next segment
 
   -- what is sent waits no more
-  fewer : (i n : ℕ) → i < instances (c .settings .bundle) → (j : ℕ) → getD (set (c .sending .waiting) i (waits w i - n)) j 0 ≤ waits w j
+  fewer : (i n : ℕ) → i < instances (c .settings .party .bundle) → (j : ℕ) → getD (set (c .sending .waiting) i (waits w i - n)) j 0 ≤ waits w j
   fewer i n l j =
-      at-set (λ j m. m ≤ waits w j) (c .sending .waiting) i (waits w i - n) (omega (arith, r .shaped .waiting, at-most (c .settings .bundle))) (omega arith) (λ j ne. omega arith) j
+      at-set (λ j m. m ≤ waits w j) (c .sending .waiting) i (waits w i - n) (omega (arith, r .shaped .waiting, at-most (c .settings .party .bundle))) (omega arith) (λ j ne. omega arith) j
 
   sound-next-way : {time : ℕ} {buf : List ℕ} {t : sending.Told} → Nexts c (w .send) time buf t → inRange (t .answer .connection) ≡ true
       → Shaped (t .answer .connection) → Sound s (record { connection = t .answer .connection; receive = w .receive; send = w .send })
@@ -256,13 +256,13 @@ sound-fresh : (s : Settings) (receive send : List ℕ) → Opened s receive send
 sound-fresh s receive send o =
     let n = length receive in
     let m = length send in
-    let (set, long, wide) = connection.open-exactly s n m .n0 .0 (o .done) in
+    let (set, long, wide) = opening-laws.open-exactly s n m .n0 .0 (o .done) in
     let zero-at = zeros most in
     record {
       reached =
           record {
             settings = refl;
-            ranged = subst (λ (c : Connection). inRange c ≡ true) (opens-fresh o) (connection.opening .opened s n m (o .done));
+            ranged = subst (λ (c : Connection). inRange c ≡ true) (opens-fresh o) (opening-laws.opening .opened s n m (o .done));
             shaped =
                 record {
                   receive = o .receives;
@@ -282,7 +282,7 @@ sound-fresh s receive send o =
             single = omega (arith, zero-at 0);
             accepted = λ i some waiting. absurd (omega (arith, zero-at i));
           };
-      bound = omega (arith, spare-first (s .side) (s .limit));
+      bound = omega (arith, spare-first (s .party .side) (s .limit));
     }
 
 pub sound-first : (s : Settings) (receive send : List ℕ) → Opened s receive send → Sound s (first s receive send)
@@ -315,7 +315,7 @@ known {w = w} r (feed xs) e =
 known {w = w} r (take i buf) e = takes-known (take-way (w .connection) (w .receive) i buf (reached-receives r)) e
 known {w = w} r (put i xs) e = puts-known (put-way (w .connection) (w .send) i xs (reached-sends r)) e
 known {w = w} r (next time buf) e = nexts-known (next-way (w .connection) (w .send) time buf (reached-sends r)) e
-known {w = w} r status e = true≢false (sym (r .ranged) ∙ connection.status-exactly (w .connection) .1 .0 e)
+known {w = w} r status e = true≢false (sym (r .ranged) ∙ status-exactly (w .connection) .1 .0 e)
 
 -- ---- the theorem
 

@@ -12,12 +12,12 @@ use borrow.Author.Tests.{eq-eqb}
 use Rattle.base.proofs.Conds.{cond-cases}
 use Rattle.base.proofs.ListLaws.{zeros}
 use Rattle.wire.specs.declared.segment.Header.{Header}
-use Rattle.wire.specs.declared.instances.Side.{Side}
+use Rattle.wire.specs.declared.instances.Party.{Party}
 use Rattle.wire.specs.Segments.{headerLength, empty, added}
 use Rattle.wire.specs.Instances.{most}
 use Rattle.connection.specs.declared.Connection.{Connection}
 use Rattle.connection.specs.Closings.{isOpen}
-use Rattle.connection.specs.Ranges.{receives}
+use Rattle.range.specs.Ranges.{receives}
 use Rattle.feeding.specs.declared.Admission.{Admission}
 use Rattle.feeding.specs.declared.Admission.the-variants.{Fault, Payload}
 use Rattle.feeding.specs.Feeding.{Reception, admission, settled, headed, kept, step, fed, used, Told, told, given, answered, refused, feedOpen, feedOf}
@@ -45,12 +45,12 @@ blank-added h b q =
 idle-for : (n i : ℕ) → n ≡ 0 → cond (eqb n 0) 0 i ≡ 0
 idle-for n i z = rw (eq-eqb n 0 z)
 
-module _ (bundle : ℕ) (side : Side) (caps starts : List ℕ) where
+module _ (us : Party) (caps starts : List ℕ) where
   tidy-settled : (s : Reception) (a : Admission) → Tidy starts s → Tidy starts (settled s a)
   tidy-settled s (Fault x) t = record { places = t .places; many = t .many; blank = blank-empty; idle = t .idle }
   tidy-settled s (Payload i n) t = record { places = t .places; many = t .many; blank = blank-empty; idle = idle-for n i }
 
-  tidy-step : (s : Reception) (b : ℕ) → Tidy starts s → Tidy starts (step bundle side caps s b)
+  tidy-step : (s : Reception) (b : ℕ) → Tidy starts s → Tidy starts (step us caps s b)
   unfolding step headed kept
   tidy-step s b t =
       let r = s .receiving in
@@ -59,7 +59,7 @@ module _ (bundle : ℕ) (side : Side) (caps starts : List ℕ) where
       (λ o.
       cond-cases (Tidy starts) (eqb (r .rest) 0)
       (λ z.
-      cond-cases (Tidy starts) (leb headerLength (h .count)) (λ w. tidy-settled s (admission bundle side caps (r .held) h) t)
+      cond-cases (Tidy starts) (leb headerLength (h .count)) (λ w. tidy-settled s (admission us caps (r .held) h) t)
       (λ w. record { places = t .places; many = t .many; blank = blank-added (r .header) b (t .blank); idle = t .idle }))
       (λ z.
       record {
@@ -70,19 +70,19 @@ module _ (bundle : ℕ) (side : Side) (caps starts : List ℕ) where
       }))
       (λ o. t)
 
-  pub tidy-fed : (s : Reception) (xs : List ℕ) → Tidy starts s → Tidy starts (fed bundle side caps s xs)
+  pub tidy-fed : (s : Reception) (xs : List ℕ) → Tidy starts s → Tidy starts (fed us caps s xs)
   unfolding fed
   tidy-fed s [] t = t
-  tidy-fed s (x ∷ xs) t = tidy-fed (step bundle side caps s x) xs (tidy-step s x t)
+  tidy-fed s (x ∷ xs) t = tidy-fed (step us caps s x) xs (tidy-step s x t)
 
 -- ---- a call
 
 -- the state that a run leaves, and how many of its bytes are used
 abbrev pub ends : Connection → List ℕ → List ℕ → Reception
-ends c st xs = fed (c .settings .bundle) (c .settings .side) (c .settings .receive) (given c st) xs
+ends c st xs = fed (c .settings .party) (c .settings .receive) (given c st) xs
 
 abbrev pub uses : Connection → List ℕ → List ℕ → ℕ
-uses c st xs = used (c .settings .bundle) (c .settings .side) (c .settings .receive) (given c st) xs
+uses c st xs = used (c .settings .party) (c .settings .receive) (given c st) xs
 
 -- A feed to a record in range with its store: the gate is closed and nothing changes, or bytes are fed.
 pub data Feeds (c : Connection) (st xs : List ℕ) : Told → Type 0 where

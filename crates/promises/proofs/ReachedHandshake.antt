@@ -10,6 +10,7 @@ use lib.ListN.{length}
 use Rattle.base.proofs.Conds.{so, and-left}
 use Rattle.base.proofs.Table.{every}
 use Rattle.wire.specs.declared.instances.Side.{Side}
+use Rattle.wire.specs.declared.instances.Party.{Party}
 use Rattle.wire.specs.declared.instances.Side.the-variants.{Dialler, Accepter}
 use Rattle.rows.specs.declared.Protocol.the-variants.{Handshake}
 use Rattle.wire.specs.Instances.{Role, initiator, responder, ofSide, sided, Instance, bundles, known, instances, roleOf, initiates}
@@ -72,10 +73,10 @@ by-side Dialler limit confirms o = absurd (false≢true o)
 by-side Accepter limit proposes o = absurd (false≢true o)
 by-side Accepter limit confirms o = (refl, refl)
 
-pub spare-put : (bundle : ℕ) (side : Side) (limit : ℕ) {state next : ℕ} → known bundle ≡ true → Shakes state next → ours bundle side 0 state ≡ true
-    → (spare side state limit ≡ limit) × (spare side next limit ≡ 0)
+pub spare-put : (us : Party) (limit : ℕ) {state next : ℕ} → known (us .bundle) ≡ true → Shakes state next → ours us 0 state ≡ true
+    → (spare (us .side) state limit ≡ limit) × (spare (us .side) next limit ≡ 0)
 unfolding ours
-spare-put bundle side limit known-bundle k o = by-side side limit k (rw (first-role bundle known-bundle, first-speaks bundle) at o)
+spare-put us limit known-bundle k o = by-side (us .side) limit k (rw (first-role (us .bundle) known-bundle, first-speaks (us .bundle)) at o)
 
 pub spare-moved : (side : Side) (limit : ℕ) {state next : ℕ} → Shakes state next → spare side next limit ≤ spare side state limit
 unfolding spare

@@ -15,7 +15,7 @@ use Rattle.wire.proofs.SegmentLaws.{round-trip}
 use Rattle.ready.specs.declared.Choice.the-variants.{Instance}
 use Rattle.connection.specs.declared.Settings.{Settings}
 use Rattle.connection.specs.declared.Connection.{Connection}
-use Rattle.connection.proofs.RangeLaws.{ranged}
+use Rattle.range.proofs.RangeLaws.{ranged}
 use Rattle.sending.specs.NextSegment.{much, headed, payloadOf, chosenOf}
 use Rattle.sending.proofs.SendingLaws.{header-long, header-fits}
 use Rattle.promises.specs.Calls.{World}
@@ -26,9 +26,9 @@ use Rattle.promises.proofs.HistoryLaws.{front}
 
 -- bytes that are a segment of instance j
 pub record Made (w : World) (time j : ℕ) (bs : List ℕ) : Type 0 where
-  pub within : j < instances (w .connection .settings .bundle)
+  pub within : j < instances (w .connection .settings .party .bundle)
   pub some : 0 < waits w j
-  pub reads : header bs ≡ headed (w .connection .settings .bundle) (w .connection .settings .side) time j (much (w .connection) j)
+  pub reads : header bs ≡ headed (w .connection .settings .party) time j (much (w .connection) j)
   pub carries : payload bs ≡ payloadOf (w .connection) (w .send) j
   pub first : payload bs ≡ take (much (w .connection) j) (queue w j)
 
@@ -36,15 +36,15 @@ pub record Made (w : World) (time j : ℕ) (bs : List ℕ) : Type 0 where
 pub made-of : {s : Settings} {w : World} → Reached s w → (time : ℕ) (buf : List ℕ) (j : ℕ) → time < 2 ^ 32
     → chosenOf (w .connection) ≡ Instance j → headerLength + much (w .connection) j ≤ length buf
     → let n = much (w .connection) j in
-    let bs = encoded (headed (w .connection .settings .bundle) (w .connection .settings .side) time j n) ++ payloadOf (w .connection) (w .send) j in
+    let bs = encoded (headed (w .connection .settings .party) time j n) ++ payloadOf (w .connection) (w .send) j in
     Made w time j (take (headerLength + n) (sets buf 0 bs))
 made-of {w = w} r time buf j small who room =
     let c : Connection = w .connection in
     let n : ℕ = much c j in
-    let h : Segment = headed (c .settings .bundle) (c .settings .side) time j n in
+    let h : Segment = headed (c .settings .party) time j n in
     let xs : List ℕ = payloadOf c (w .send) j in
     let caps : List ℕ = c .settings .send in
-    let inside : j < instances (c .settings .bundle) = chosen-waiting c (r .shaped) j who .0 in
+    let inside : j < instances (c .settings .party .bundle) = chosen-waiting c (r .shaped) j who .0 in
     let limit = ranged c (r .ranged) .set .limit in
     let long : length (encoded h ++ xs) ≡ headerLength + n = length-append (encoded h) xs ∙ rw (header-long h, stream-length) in
     let behind : payload (encoded h ++ xs) ≡ xs = drop-at (encoded h) xs headerLength (header-long h) in
@@ -54,7 +54,7 @@ made-of {w = w} r time buf j small who room =
       some = chosen-waiting c (r .shaped) j who .1;
       reads =
           ap decoded (take-at (encoded h) xs headerLength (header-long h))
-          ∙ round-trip .read-written h (header-fits (c .settings .bundle) (c .settings .side) j time n inside small (omega arith));
+          ∙ round-trip .read-written h (header-fits (c .settings .party) j time n inside small (omega arith));
       carries = behind;
       first =
           behind ∙ sym (stream-take (w .send) (baseOf caps j) (getD caps j 0) (getD (c .sending .starts) j 0) n (waits w j) (omega arith));

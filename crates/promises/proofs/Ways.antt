@@ -1,13 +1,14 @@
 -- The ways that a call can go on a record in range with its stores, by what it answers and leaves of record, store and buffer. Each call's ways are
 -- worked out in its own crate.
 -- Assumes nothing.
-use mathlib.Core.Path.{_≡_, sym, subst, _∙_}
+use mathlib.Core.Path.{_≡_, sym, ap, subst, _∙_}
 use mathlib.Core.Bool.{true, false, true≢false}
 use mathlib.Core.List.{List, _++_}
 use mathlib.Core.Logic.{_≢_}
 use Prim.Native.Nat.{ℕ, _+_, _≤_, _<_}
-use lib.ListN.{length, getD}
+use lib.ListN.{length, getD, take}
 use lib.Seq.{sets}
+use borrow.Author.Tests.{not-false}
 use Rattle.base.proofs.Conds.{cond-cases}
 use Rattle.wire.specs.Segments.{headerLength, encoded}
 use Rattle.wire.specs.Instances.{instances}
@@ -23,13 +24,12 @@ use Rattle.ready.specs.declared.Choice.the-variants.{Instance}
 use Rattle.connection.specs.declared.Connection.{Connection}
 use Rattle.connection.specs.declared.Closing.the-variants.{Of}
 use Rattle.connection.specs.Closings.{isOpen, closedBy, takeFault}
-use Rattle.connection.specs.Parts.{withSending, withGate, firstHeld}
-use Rattle.connection.specs.Ranges.{receives, sends}
-use Rattle.judging.specs.Judging.{stateOf, ours, barred}
-use Rattle.judging.proofs.JudgingLaws.{led}
+use Rattle.connection.specs.Parts.{withSending, withGate, firstHeld, heldOf}
+use Rattle.range.specs.Ranges.{receives, sends}
+use Rattle.judging.specs.Judging.{viewOf, ours, barred, led}
 use Rattle.taking.specs.declared.Taken.{Taken}
 use Rattle.taking.specs.Taking as taking
-use Rattle.taking.proofs.TakingLaws.{held-within}
+use Rattle.taking.proofs.TakingLaws.{held-within, held-take}
 use Rattle.taking.proofs.NumberLaws as taking-laws
 use Rattle.putting.specs.Putting as putting
 use Rattle.putting.proofs.NumberLaws as putting-laws
@@ -46,10 +46,10 @@ module _ (c : Connection) (store : List ℕ) (i : ℕ) (buf : List ℕ) where
   -- nothing changes; or a fault closes; or a message is handed out, for which the peer had agency and a row
   pub data Takes : taking.Told → Type 0 where
     refuses : (n : ℕ) → n ≢ 0 → n ≢ 23 → takeFault n ≡ false → Takes (taking.told (taking.refused c n) buf)
-    faults : (n : ℕ) → 14 ≤ n → n ≤ 17 → i < instances (c .settings .bundle) → Takes (taking.told (taking.refused (withGate c (closedBy (c .gate) (Of n i))) n) buf)
-    hands : (n : ℕ) (m : Message) (to : ℕ) → i < instances (c .settings .bundle) → ours (c .settings .bundle) (c .settings .side) i (stateOf c i) ≡ false
-        → n ≤ getD (c .receiving .held) i 0 → n ≤ length buf → messageOf (speaks (c .settings .bundle) i) (firstHeld c store i n) ≡ read m
-        → nextOf (speaks (c .settings .bundle) i) (stateOf c i) (m .kind) (flagOf (speaks (c .settings .bundle) i) m) ≡ To to
+    faults : (n : ℕ) → 14 ≤ n → n ≤ 17 → i < instances (c .settings .party .bundle) → Takes (taking.told (taking.refused (withGate c (closedBy (c .gate) (Of n i))) n) buf)
+    hands : (n : ℕ) (m : Message) (to : ℕ) → i < instances (c .settings .party .bundle) → ours (c .settings .party) i (getD (c .talk .states) i 0) ≡ false
+        → n ≤ getD (c .receiving .held) i 0 → n ≤ length buf → messageOf (speaks (c .settings .party .bundle) i) (firstHeld c store i n) ≡ read m
+        → nextOf (speaks (c .settings .party .bundle) i) (getD (c .talk .states) i 0) (m .kind) (flagOf (speaks (c .settings .party .bundle) i) m) ≡ To to
         → Takes
         (taking.told (record { number = 0; len = n; message = m; connection = taking.handed c i (led n m to) })
         (sets buf 0 (firstHeld c store i n)))
@@ -63,8 +63,11 @@ module _ (c : Connection) (store : List ℕ) (i : ℕ) (buf : List ℕ) where
           subst Takes e
           (cond-cases (λ (t : Taken). Takes (taking.told t buf)) (takeFault n)
           (λ f. let (low, high) = taking-laws.among n f in faults n low high (inside f)) (λ f. refuses n z k f))
-      of (taking-laws.gone n m to s x l e) =
-          subst Takes e (hands n m to (s .awaited .0 .0 .1) (s .awaited .2) (held-within c store i n (s .whole)) l (s .read) x)
+      of (taking-laws.gone n m to a s l e) =
+          let fits = held-within c store i n (s .whole) in
+          let p = speaks (c .settings .party .bundle) i in
+          let reads = ap (messageOf p) (held-take c store i n fits) ∙ reads-forms p (take n (heldOf c store i)) m .1 (s .says) in
+          subst Takes e (hands n m to (a .1) (s .awaited .theirs) fits l reads (s .row))
 
 -- ---- put
 
@@ -72,9 +75,9 @@ module _ (c : Connection) (store : List ℕ) (i : ℕ) (xs : List ℕ) where
   -- nothing changes; or a message is queued, for which we had a row, and room
   pub data Puts : putting.Told → Type 0 where
     refuses : (n : ℕ) → n ≢ 0 → n ≢ 23 → Puts (putting.told (putting.refused c n) store)
-    queues : (m : Message) (to : ℕ) → i < instances (c .settings .bundle) → isOpen (c .gate) ≡ true → barred (c .talk) i ≡ false
-        → ours (c .settings .bundle) (c .settings .side) i (stateOf c i) ≡ true → messageOf (speaks (c .settings .bundle) i) xs ≡ read m
-        → nextOf (speaks (c .settings .bundle) i) (stateOf c i) (m .kind) (flagOf (speaks (c .settings .bundle) i) m) ≡ To to → (i ≡ 0 → length xs ≤ c .settings .limit)
+    queues : (m : Message) (to : ℕ) → i < instances (c .settings .party .bundle) → isOpen (c .gate) ≡ true → barred (viewOf c i xs) ≡ false
+        → ours (c .settings .party) i (getD (c .talk .states) i 0) ≡ true → messageOf (speaks (c .settings .party .bundle) i) xs ≡ read m
+        → nextOf (speaks (c .settings .party .bundle) i) (getD (c .talk .states) i 0) (m .kind) (flagOf (speaks (c .settings .party .bundle) i) m) ≡ To to → (i ≡ 0 → length xs ≤ c .settings .limit)
         → getD (c .sending .waiting) i 0 + length xs ≤ getD (c .settings .send) i 0
         → Puts
         (putting.told (record { number = 0; connection = putting.queued c i (length xs) (led (length xs) m to) }) (putting.stored c store i xs))
@@ -87,8 +90,8 @@ module _ (c : Connection) (store : List ℕ) (i : ℕ) (xs : List ℕ) where
       of (putting-laws.stays n z k e) = subst Puts e (refuses n z k)
       of (putting-laws.gone m to v f e) =
           let t = v .moves .turn in
-          let reads = reads-forms (speaks (c .settings .bundle) i) xs m .1 (v .moves .says) in
-          subst Puts e (queues m to (t .0 .0 .0 .1) (t .0 .0 .1) (t .0 .1) (t .1) reads (v .moves .row) (v .short) f)
+          let reads = reads-forms (speaks (c .settings .party .bundle) i) xs m .1 (v .moves .says) in
+          subst Puts e (queues m to (v .asked .1) (not-false _ (t .unclosed)) (t .allowed) (t .ours) reads (v .moves .row) (v .short) f)
 
 -- ---- next segment
 
@@ -102,9 +105,9 @@ module _ (c : Connection) (store : List ℕ) (time : ℕ) (buf : List ℕ) where
         (record {
           number = 0;
           len = headerLength + sending.much c i;
-          connection = withSending c (sending.sentOf (c .settings .bundle) (c .sending) (c .settings .send) i (sending.much c i));
+          connection = withSending c (sending.sentOf (c .settings .party .bundle) (c .sending) (c .settings .send) i (sending.much c i));
         })
-        (sets buf 0 (encoded (sending.headed (c .settings .bundle) (c .settings .side) time i (sending.much c i)) ++ sending.payloadOf c store i)))
+        (sets buf 0 (encoded (sending.headed (c .settings .party) time i (sending.much c i)) ++ sending.payloadOf c store i)))
 
   pub next-way : sends c (length store) ≡ true → Nexts (sending.nextOf c store time buf)
   next-way r = of (sending-laws.way c store time buf)

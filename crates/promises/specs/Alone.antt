@@ -2,46 +2,46 @@
 use Prim.Native.Nat.{ℕ}
 use mathlib.Core.Path.{_≡_}
 use mathlib.Core.Bool.{Bool, true, false, cond}
-use mathlib.Core.List.{List, []}
+use mathlib.Core.List.{List, [], _∷_}
 use mathlib.Core.Option.{Option, none, some}
 use lib.Dec.{eqb}
-use Rattle.wire.specs.declared.instances.Side.{Side}
+use lib.ListN.{length, drop}
+use Rattle.wire.specs.declared.instances.Party.{Party}
 use Rattle.wire.specs.Segments.{Carried, Divided}
+use Rattle.rows.specs.Spoken.{speaks}
 use Rattle.connection.specs.declared.Settings.{Settings}
+use Rattle.judging.specs.Judging.{View, judgedOf}
 use Rattle.promises.specs.Trace.{run, trace}
 use Rattle.promises.specs.Calls.{Call, take, Answer, fed, taken, queued, made, told, step, AllReal, Opened, first}
-use Rattle.promises.specs.History.{Past, bytesIn, Act, acts, receivedIn, endsInAccept, firstFault}
+use Rattle.promises.specs.History.{Past, bytesIn, Act, messageIn, acts, handedFor, receivedIn, endsInAccept, firstFault}
 
--- What a take on instance i may rest on: the bundle and the side, i's own bytes, those that feed accepted; i's own accepted puts and takes; whether Handshake
--- ended in Accept; and whether the connection is closed.
-pub record Seen : Type 0 where
-  pub bundle : ℕ
-  pub side : Side
-  pub bytes : List ℕ
-  pub acts : List Act
-  pub accepted : Bool
-  pub closed : Bool
+-- the state that acts of instance i lead to from a state, one after the other, each by its row
+unfoldable pub stateAfter : Party → ℕ → ℕ → List Act → ℕ
+stateAfter us i state [] = state
+stateAfter us i state (a ∷ more) = stateAfter us i (judgedOf (speaks (us .bundle) i) state (messageIn a) .next) more
 
 -- whether there is a closing
 abbrev pub anyClosing : Option (ℕ × Option ℕ) → Bool
 anyClosing none = false
 anyClosing (some x) = true
 
--- what a history shows of these, its bytes being divided into segments and what is left
-abbrev pub seenBy : ℕ → Side → Past → List Carried → List ℕ → ℕ → Seen
-seenBy b side past segments left i =
+-- The view that a history gives of instance i, its bytes being divided into segments and what is left. It is made of what a take on i may rest on:
+-- the bundle and the side; i's own bytes that feed accepted; i's own accepted puts and takes; whether Handshake ended in Accept; and whether the
+-- connection is closed.
+abbrev pub seenBy : Party → Past → List Carried → List ℕ → ℕ → View
+seenBy us past segments left i =
     record {
-      bundle = b;
-      side = side;
-      bytes = receivedIn b side i segments left;
-      acts = acts i past;
+      party = us;
+      instance = i;
+      state = stateAfter us i 0 (acts i past);
       accepted = endsInAccept (acts 0 past);
-      closed = anyClosing (firstFault b side [] past);
+      closed = anyClosing (firstFault us [] past);
+      bytes = drop (length (handedFor i past)) (receivedIn us i segments left);
     }
 
 -- the same, but closed or not
-abbrev pub but : Seen → Bool → Seen
-but v closed = record { bundle = v .bundle; side = v .side; bytes = v .bytes; acts = v .acts; accepted = v .accepted; closed = closed }
+abbrev pub but : View → Bool → View
+but v closed = record { party = v .party; instance = v .instance; state = v .state; accepted = v .accepted; closed = closed; bytes = v .bytes }
 
 -- 20 for 1
 abbrev pub twentyForOne : Answer → Answer
@@ -51,15 +51,15 @@ twentyForOne (queued n) = queued n
 twentyForOne (made n len buf) = made n len buf
 twentyForOne (told r) = told r
 
--- One function gives the answer and the buffer of every take after every list of calls from open on, whatever the settings, from what the take may
--- rest on and the lent buffer; and that the connection is closed only turns 1 into 20.
+-- One function gives the answer and the buffer of every take after every list of calls from open on, whatever the settings, from the view that the
+-- history gives and the lent buffer; and that the connection is closed only turns 1 into 20.
 pub record Alone : Type 0 where
-  pub answer : ℕ → Seen → List ℕ → Answer
+  pub answer : View → List ℕ → Answer
   pub takes : (s : Settings) (receive send : List ℕ) → Opened s receive send → (cs : List Call) → AllReal cs
       → let w = first s receive send in
       (segments : List Carried) (left : List ℕ) → Divided (bytesIn (trace step w cs)) segments left
-      → (i : ℕ) (buf : List ℕ) → step (run step w cs) (take i buf) .answer ≡ answer i (seenBy (s .bundle) (s .side) (trace step w cs) segments left i) buf
-  pub closes : (i : ℕ) (v : Seen) (buf : List ℕ) → answer i (but v true) buf ≡ twentyForOne (answer i (but v false) buf)
+      → (i : ℕ) (buf : List ℕ) → step (run step w cs) (take i buf) .answer ≡ answer (seenBy (s .party) (trace step w cs) segments left i) buf
+  pub closes : (v : View) (buf : List ℕ) → answer (but v true) buf ≡ twentyForOne (answer (but v false) buf)
 
 -- So two connections, whatever their settings and whatever else was called: where a take may see the same, it answers and writes the same; and where
 -- only the second is closed, the same but 20 for 1.
@@ -72,8 +72,8 @@ Alike =
     (segments segments′ : List Carried) (left left′ : List ℕ)
     → Divided (bytesIn (trace step w cs)) segments left → Divided (bytesIn (trace step w′ cs′)) segments′ left′
     → (i : ℕ) (buf : List ℕ)
-    → let v = seenBy (s .bundle) (s .side) (trace step w cs) segments left i in
-    let v′ = seenBy (s′ .bundle) (s′ .side) (trace step w′ cs′) segments′ left′ i in
+    → let v = seenBy (s .party) (trace step w cs) segments left i in
+    let v′ = seenBy (s′ .party) (trace step w′ cs′) segments′ left′ i in
     let a = step (run step w cs) (take i buf) .answer in
     let a′ = step (run step w′ cs′) (take i buf) .answer in
     (v ≡ v′ → a ≡ a′) × (v .closed ≡ false → v′ ≡ but v true → a′ ≡ twentyForOne a)

@@ -5,16 +5,18 @@ use mathlib.Core.List.{List, [], _∷_, _++_, flatMap, flatten}
 use mathlib.Core.Option.{some}
 use lib.ListN.{length, getD, take, drop}
 use Rattle.ring.specs.Ring as ring
-use Rattle.wire.specs.Instances.{instances, other, pairOf}
+use Rattle.wire.specs.Instances.{instances, otherOf, pairOf}
 use Rattle.rows.specs.declared.Next.the-variants.{To}
 use Rattle.rows.specs.Spoken.{speaks}
 use Rattle.messages.specs.declared.Message.{Message}
 use Rattle.messages.specs.Reading.{messageOf}
 use Rattle.build.specs.Building.{Told, given, buildOf}
 use Rattle.connection.specs.declared.Settings.{Settings}
+use Rattle.range.specs.Ranges.{InReceive}
 use Rattle.judging.specs.Judging.{leadsTo}
+use Rattle.judging.specs.Hearing.{Awaited}
 use Rattle.connection.specs.Parts.{heldOf}
-use Rattle.taking.specs.Numbers.{Awaited}
+use Rattle.taking.specs.Taking.{seen}
 use Rattle.promises.specs.Trace.{run, trace}
 use Rattle.promises.specs.Calls as calls
 use Rattle.promises.specs.Calls.{Call, World, step, AllReal, Opened, first}
@@ -43,10 +45,14 @@ worldOf e = run step (first (e .settings) (e .receive) (e .send)) (e .calls)
 abbrev pub holding : World → ℕ → List ℕ
 holding w i = heldOf (w .connection) (w .receive) i
 
--- The second end has the same bundle and is of the other side, and its feeds used the first's segments, end to end: all but the bytes that are on the way.
+-- the instance of the other end that instance i talks with
+abbrev pub facing : End → ℕ → ℕ
+facing e i = pairOf (e .settings .party .bundle) i
+
+-- The second end is the other party, of the same bundle and the other side, and its feeds used the first's segments, end to end: all but the bytes
+-- that are on the way.
 pub record Joined (a b : End) (way : List ℕ) : Type 0 where
-  pub bundles : b .settings .bundle ≡ a .settings .bundle
-  pub sides : b .settings .side ≡ other (a .settings .side)
+  pub parties : b .settings .party ≡ otherOf (a .settings .party)
   pub bytes : flatten (segments (pastOf a)) ≡ bytesIn (pastOf b) ++ way
 
 -- What was put of an instance is, in order: what the other end was handed of the instance that it talks with; what it holds of it; what is in
@@ -54,17 +60,17 @@ pub record Joined (a b : End) (way : List ℕ) : Type 0 where
 pub record Arrives (a b : End) (way : List ℕ) (i : ℕ) : Type 0 where
   pub flight : List ℕ
   pub put : putFor i (pastOf a)
-      ≡ ((handedFor (pairOf (a .settings .bundle) i) (pastOf b) ++ holding (worldOf b) (pairOf (a .settings .bundle) i)) ++ flight) ++ queue (worldOf a) i
+      ≡ ((handedFor (facing a i) (pastOf b) ++ holding (worldOf b) (facing a i)) ++ flight) ++ queue (worldOf a) i
   pub few : length flight ≤ length way
 
 abbrev pub Glued : Type 0
-Glued = (a b : End) (way : List ℕ) → Joined a b way → (i : ℕ) → i < instances (a .settings .bundle) → Arrives a b way i
+Glued = (a b : End) (way : List ℕ) → Joined a b way → (i : ℕ) → i < instances (a .settings .party .bundle) → Arrives a b way i
 
 -- so with nothing on the way: what was put is what the other end was handed and holds, and what still waits
 abbrev pub AllThere : Type 0
 AllThere =
-    (a b : End) → Joined a b [] → (i : ℕ) → i < instances (a .settings .bundle)
-    → putFor i (pastOf a) ≡ (handedFor (pairOf (a .settings .bundle) i) (pastOf b) ++ holding (worldOf b) (pairOf (a .settings .bundle) i)) ++ queue (worldOf a) i
+    (a b : End) → Joined a b [] → (i : ℕ) → i < instances (a .settings .party .bundle)
+    → putFor i (pastOf a) ≡ (handedFor (facing a i) (pastOf b) ++ holding (worldOf b) (facing a i)) ++ queue (worldOf a) i
 
 -- ---- a built message is taken
 
@@ -90,10 +96,11 @@ pub record Builds (b i : ℕ) (p : Parts) (bs : List ℕ) : Type 0 where
 
 -- A take on instance i is awaited, the bytes held begin with bs, and the message that these are has a row in the present state.
 pub record Awaits (w : World) (i : ℕ) (bs : List ℕ) : Type 0 where
-  pub awaited : Awaited (w .connection) (w .receive) i
+  pub asked : InReceive (w .connection) (w .receive) i
+  pub awaited : Awaited (seen (w .connection) (w .receive) i)
   pub held : take (length bs) (holding w i) ≡ bs
   pub next : ℕ
-  pub row : leadsTo (w .connection) i (messageOf (speaks (w .connection .settings .bundle) i) bs .message) ≡ To next
+  pub row : leadsTo (seen (w .connection) (w .receive) i) (messageOf (speaks (w .connection .settings .party .bundle) i) bs .message) ≡ To next
 
 -- the numbers that a message says, and the bytes at its places, of which each is a start and a length
 abbrev pub numbersIn : Message → List ℕ
@@ -118,7 +125,7 @@ pub record TakenAs (p : Parts) (bs : List ℕ) (w : World) (i : ℕ) (lent : Lis
 -- what is built for an instance is taken on one that speaks the same protocol
 abbrev pub BuiltIsTaken : Type 0
 BuiltIsTaken =
-    (b i : ℕ) (p : Parts) (bs : List ℕ) → Builds b i p bs → (w : World) (j : ℕ) → speaks (w .connection .settings .bundle) j ≡ speaks b i → Awaits w j bs
+    (b i : ℕ) (p : Parts) (bs : List ℕ) → Builds b i p bs → (w : World) (j : ℕ) → speaks (w .connection .settings .party .bundle) j ≡ speaks b i → Awaits w j bs
     → (lent : List ℕ) → length bs ≤ length lent → TakenAs p bs w j lent
 
 -- ---- the journey
@@ -128,22 +135,23 @@ BuiltIsTaken =
 -- in its state the message has a row.
 pub record Due (a b : End) (way : List ℕ) (i : ℕ) (p : Parts) (bs : List ℕ) : Type 0 where
   pub joined : Joined a b way
-  pub within : i < instances (a .settings .bundle)
-  pub built : Builds (a .settings .bundle) i p bs
+  pub within : i < instances (a .settings .party .bundle)
+  pub built : Builds (a .settings .party .bundle) i p bs
   pub before : List Act
   pub behind : List Act
   pub put : acts i (pastOf a) ≡ before ++ (gave bs ∷ behind)
-  pub handed : flatMap putBy before ≡ handedFor (pairOf (a .settings .bundle) i) (pastOf b)
-  pub come : length bs ≤ length (holding (worldOf b) (pairOf (a .settings .bundle) i))
-  pub awaited : Awaited (worldOf b .connection) (worldOf b .receive) (pairOf (a .settings .bundle) i)
+  pub handed : flatMap putBy before ≡ handedFor (facing a i) (pastOf b)
+  pub come : length bs ≤ length (holding (worldOf b) (facing a i))
+  pub asked : InReceive (worldOf b .connection) (worldOf b .receive) (facing a i)
+  pub awaited : Awaited (seen (worldOf b .connection) (worldOf b .receive) (facing a i))
   pub next : ℕ
-  pub row : leadsTo (worldOf b .connection) (pairOf (a .settings .bundle) i) (messageOf (speaks (a .settings .bundle) i) bs .message) ≡ To next
+  pub row : leadsTo (seen (worldOf b .connection) (worldOf b .receive) (facing a i)) (messageOf (speaks (a .settings .party .bundle) i) bs .message) ≡ To next
 
 -- then this is what a take hands out, if it lends room for it
 abbrev pub Journey : Type 0
 Journey =
     (a b : End) (way : List ℕ) (i : ℕ) (p : Parts) (bs : List ℕ) → Due a b way i p bs
-    → (lent : List ℕ) → length bs ≤ length lent → TakenAs p bs (worldOf b) (pairOf (a .settings .bundle) i) lent
+    → (lent : List ℕ) → length bs ≤ length lent → TakenAs p bs (worldOf b) (facing a i) lent
 
 -- there are such ends and messages
 abbrev pub SomeDue : Type 0

@@ -9,9 +9,9 @@ use Rattle.wire.specs.Instances.{known, most}
 use Rattle.messages.specs.declared.Message.{Message}
 use Rattle.connection.specs.declared.Settings.{Settings}
 use Rattle.connection.specs.declared.Connection.{Connection}
-use Rattle.connection.specs.declared.telling.Report.{Report}
-use Rattle.connection.specs.Openings.{openOf}
-use Rattle.connection.specs.Statuses.{statusOf}
+use Rattle.telling.specs.declared.Report.{Report}
+use Rattle.opening.specs.Openings.{openOf}
+use Rattle.telling.specs.Statuses.{statusOf}
 use Rattle.feeding.specs.Feeding.{feedOf}
 use Rattle.taking.specs.Taking.{takeOf}
 use Rattle.putting.specs.Putting.{putOf}
@@ -93,4 +93,4 @@ first s receive send = record { connection = openOf s (length receive) (length s
 
 -- there is such an open of every bundle
 abbrev pub SomeOpened : Type 0
-SomeOpened = (b : ℕ) → known b ≡ true → (s : Settings) × (s .bundle ≡ b) × ((receive : List ℕ) × (send : List ℕ) × Opened s receive send)
+SomeOpened = (b : ℕ) → known b ≡ true → (s : Settings) × (s .party .bundle ≡ b) × ((receive : List ℕ) × (send : List ℕ) × Opened s receive send)

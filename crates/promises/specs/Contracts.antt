@@ -1,7 +1,7 @@
 -- T1 for the seven operations: each contract, as the source has it, determines how a call ends.
 use Rattle.base.specs.Once.{Once}
-use Rattle.connection.proofs.opening.open as opening
-use Rattle.connection.proofs.opening.open.Reads as opening-says
+use Rattle.opening.proofs.open as opening
+use Rattle.opening.proofs.open.Reads as opening-says
 use Rattle.feeding.proofs.feed as feed
 use Rattle.feeding.proofs.feed.Reads as feed-says
 use Rattle.taking.proofs.take as take
@@ -12,8 +12,8 @@ use Rattle.putting.proofs.put as put
 use Rattle.putting.proofs.put.Reads as put-says
 use Rattle.sending.proofs.next_segment as next-segment
 use Rattle.sending.proofs.next_segment.Reads as next-segment-says
-use Rattle.connection.proofs.telling.status as status
-use Rattle.connection.proofs.telling.status.Reads as status-says
+use Rattle.telling.proofs.status as status
+use Rattle.telling.proofs.status.Reads as status-says
 
 pub record Contracts : Type 0 where
   pub opening : Once opening.ended opening-says.Pre opening-says.Post

@@ -6,7 +6,9 @@ use mathlib.Core.List.{List, [], _∷_, _++_}
 use lib.Dec.{eqb}
 use lib.ListN.{take, drop, replicate, set}
 use Rattle.wire.specs.declared.segment.Segment.{Segment}
+use Rattle.wire.specs.declared.instances.Side.{Side}
 use Rattle.wire.specs.declared.instances.Side.the-variants.{Dialler, Accepter}
+use Rattle.wire.specs.declared.instances.Party.{Party}
 use Rattle.wire.specs.declared.instances.Route.the-variants.{To}
 use Rattle.wire.specs.Segments.{headerLength, empty, decoded, encoded}
 use Rattle.wire.specs.Instances.{most, routeOf}
@@ -21,7 +23,7 @@ use Rattle.messages.specs.Reading.{messageOf, read, numberOf}
 use Rattle.ready.specs.declared.Ready.{Ready}
 use Rattle.connection.specs.declared.Connection.{Connection}
 use Rattle.connection.specs.declared.Gate.the-variants.{Open}
-use Rattle.connection.specs.Statuses.{statusOf}
+use Rattle.telling.specs.Statuses.{statusOf}
 use Rattle.feeding.specs.Feeding.{feedOf}
 use Rattle.sending.specs.NextSegment.{nextOf}
 
@@ -32,11 +34,15 @@ none = replicate most 0
 abbrev pub store : List ℕ
 store = replicate (most * 16) 0
 
--- a connection of node to node, bundle 0, with capacities of 16, S = 4 and turn 1: so much is held, and so much waits, by instance
+-- a party of node to node, bundle 0
+abbrev pub peer : Side → Party
+peer side = record { bundle = 0; side = side }
+
+-- a dialler's connection of node to node, with capacities of 16, S = 4 and turn 1: so much is held, and so much waits, by instance
 abbrev pub holding : List ℕ → List ℕ → Connection
 holding held waiting =
     record {
-      settings = record { bundle = 0; side = Dialler; limit = 4; receive = replicate most 16; send = replicate most 16 };
+      settings = record { party = peer Dialler; limit = 4; receive = replicate most 16; send = replicate most 16 };
       receiving = record { starts = none; held = held; header = empty; instance = 0; rest = 0 };
       sending = record { starts = none; waiting = waiting; turn = 1 };
       talk = record { states = none; accepted = false };
@@ -74,8 +80,8 @@ pub data Example : Type 0 where
 abbrev pub Holds : Example → Type 0
 Holds (carries bs s i p m) =
     (decoded (take headerLength bs) ≡ s)
-    × (routeOf 0 Dialler (s .protocol) (s .mode) ≡ To i)
-    × (routeOf 0 Accepter (s .protocol) (s .mode) ≡ To i)
+    × (routeOf (peer Dialler) (s .protocol) (s .mode) ≡ To i)
+    × (routeOf (peer Accepter) (s .protocol) (s .mode) ≡ To i)
     × (speaks 0 i ≡ p)
     × (messageOf p (drop headerLength bs) ≡ read m)
 Holds (says p bs m) = messageOf p bs ≡ read m

@@ -8,7 +8,7 @@ use lib.Dec.{eqb}
 use lib.ListN.{length, getD, drop}
 use lib.ListN as list
 use Rattle.wire.specs.declared.segment.Segment.{Segment}
-use Rattle.wire.specs.declared.instances.Side.{Side}
+use Rattle.wire.specs.declared.instances.Party.{Party}
 use Rattle.wire.specs.Segments.{headerLength, decoded}
 use Rattle.wire.specs.Instances.{instances, protocolOf, modeOf}
 use Rattle.connection.specs.declared.Settings.{Settings}
@@ -44,47 +44,47 @@ abbrev pub payload : List ℕ → List ℕ
 payload bs = drop headerLength bs
 
 -- by its mode and protocol number, a segment that a side sends as instance i of a bundle
-abbrev pub isOf : ℕ → Side → ℕ → List ℕ → Bool
-isOf b side i bs = eqb (header bs .mode) (modeOf b side i) && eqb (header bs .protocol) (protocolOf b i)
+abbrev pub isOf : Party → ℕ → List ℕ → Bool
+isOf us i bs = eqb (header bs .mode) (modeOf us i) && eqb (header bs .protocol) (protocolOf (us .bundle) i)
 
 -- the bytes of instance i in segments, end to end
-unfoldable pub sentBy : ℕ → Side → ℕ → List (List ℕ) → List ℕ
-sentBy b side i ss = flatMap (λ bs. cond (isOf b side i bs) (payload bs) []) ss
+unfoldable pub sentBy : Party → ℕ → List (List ℕ) → List ℕ
+sentBy us i ss = flatMap (λ bs. cond (isOf us i bs) (payload bs) []) ss
 
 -- One of the segments, for instance i and as long as its header says, carries byte x, in front of which there are p bytes of i:
 -- those in the segments in front of it, and those in front of x in its own payload.
-pub record Sent (b : ℕ) (side : Side) (i p x : ℕ) (ss : List (List ℕ)) : Type 0 where
+pub record Sent (us : Party) (i p x : ℕ) (ss : List (List ℕ)) : Type 0 where
   pub front : List (List ℕ)
   pub segment : List ℕ
   pub back : List (List ℕ)
   pub split : ss ≡ front ++ (segment ∷ back)
-  pub of : isOf b side i segment ≡ true
+  pub of : isOf us i segment ≡ true
   pub whole : header segment .len ≡ length (payload segment)
-  pub behind : length (sentBy b side i front) ≤ p
-  pub within : p < length (sentBy b side i front) + length (payload segment)
-  pub byte : getD (payload segment) (p - length (sentBy b side i front)) 0 ≡ x
+  pub behind : length (sentBy us i front) ≤ p
+  pub within : p < length (sentBy us i front) + length (payload segment)
+  pub byte : getD (payload segment) (p - length (sentBy us i front)) 0 ≡ x
 
 -- ---- the promises
 
 -- of the segments to come, how many are enough for a byte with p bytes of its instance in front of it: "nine" is the bundle's number of instances (K1)
 abbrev pub enough : Settings → ℕ → ℕ
-enough s p = instances (s .bundle) * (p / s .limit + 1)
+enough s p = instances (s .party .bundle) * (p / s .limit + 1)
 
 -- A byte of instance i that waits with p bytes of i in front of it is in one of so many next segments, whatever is called.
 -- Nothing need be said of the gate: where it is closed no segment is made.
 abbrev pub FairFrom : Settings → World → Type 0
 FairFrom s w =
-    (i p : ℕ) → i < instances (s .bundle) → p < waits w i → (cs : List Call) → AllReal cs
+    (i p : ℕ) → i < instances (s .party .bundle) → p < waits w i → (cs : List Call) → AllReal cs
     → let ss = segments (trace step w cs) in
-    enough s p ≤ length ss → Sent (s .bundle) (s .side) i p (getD (queue w i) p 0) (list.take (enough s p) ss)
+    enough s p ≤ length ss → Sent (s .party) i p (getD (queue w i) p 0) (list.take (enough s p) ss)
 
 -- While the gate is open and a byte waits, a segment is made by every call of next segment that lends room for header and S bytes;
 -- and notice 4 is given exactly if the gate is open and nothing waits.
 pub record Serves (s : Settings) (w : World) : Type 0 where
-  pub made : (i : ℕ) → i < instances (s .bundle) → 0 < waits w i → isOpen (w .connection .gate) ≡ true
+  pub made : (i : ℕ) → i < instances (s .party .bundle) → 0 < waits w i → isOpen (w .connection .gate) ≡ true
       → (time : ℕ) (buf : List ℕ) → headerLength + s .limit ≤ length buf → numberOf (step w (next time buf) .answer) ≡ 0
   pub nothing : (time : ℕ) (buf : List ℕ)
-      → (numberOf (step w (next time buf) .answer) ≡ 4) ↔ ((isOpen (w .connection .gate) ≡ true) × ((i : ℕ) → i < instances (s .bundle) → waits w i ≡ 0))
+      → (numberOf (step w (next time buf) .answer) ≡ 4) ↔ ((isOpen (w .connection .gate) ≡ true) × ((i : ℕ) → i < instances (s .party .bundle) → waits w i ≡ 0))
 
 -- both, after every list of calls from open on
 abbrev pub Fair : Type 0

@@ -9,7 +9,7 @@ use lib.ListN.{length, getD, take, drop}
 use lib.Count.{ones}
 use Rattle.ring.specs.Ring.{baseOf, place}
 use Rattle.wire.specs.declared.segment.Segment.{Segment}
-use Rattle.wire.specs.declared.instances.Side.{Side}
+use Rattle.wire.specs.declared.instances.Party.{Party}
 use Rattle.wire.specs.declared.instances.Route.{Route}
 use Rattle.wire.specs.declared.instances.Route.the-variants as route
 use Rattle.wire.specs.Segments.{headerLength, decoded, Carried, Divided}
@@ -22,7 +22,7 @@ use Rattle.rows.specs.Spoken.{speaks}
 use Rattle.messages.specs.declared.Message.{Message}
 use Rattle.messages.specs.Reading.{messageOf, read, flagOf}
 use Rattle.connection.specs.declared.Settings.{Settings}
-use Rattle.connection.specs.declared.telling.Report.{Report}
+use Rattle.telling.specs.declared.Report.{Report}
 use Rattle.connection.specs.Closings.{closingOf, takeFault}
 use Rattle.judging.specs.Judging.{holds, ours}
 use Rattle.connection.specs.Parts.{heldOf}
@@ -107,14 +107,14 @@ isFor i (route.Wrong j) = false
 isFor i (route.To j) = eqb j i
 
 -- what of a payload is for instance i: protocol number and mode together choose the instance
-abbrev pub payloadFor : ℕ → Side → ℕ → Segment → List ℕ → List ℕ
-payloadFor b side i h xs = cond (isFor i (routeOf b side (h .protocol) (h .mode))) xs []
+abbrev pub payloadFor : Party → ℕ → Segment → List ℕ → List ℕ
+payloadFor us i h xs = cond (isFor i (routeOf us (h .protocol) (h .mode))) xs []
 
 -- the payload for instance i of whole segments, and of the bytes that are left behind them, in which a payload may have begun
-unfoldable pub receivedIn : ℕ → Side → ℕ → List Carried → List ℕ → List ℕ
-receivedIn b side i cs left =
-    flatMap (λ c. payloadFor b side i (c .header) (c .payload)) cs
-    ++ payloadFor b side i (decoded (take headerLength left)) (drop headerLength left)
+unfoldable pub receivedIn : Party → ℕ → List Carried → List ℕ → List ℕ
+receivedIn us i cs left =
+    flatMap (λ c. payloadFor us i (c .header) (c .payload)) cs
+    ++ payloadFor us i (decoded (take headerLength left)) (drop headerLength left)
 
 -- The bytes that feeds used, divided by the layout: a refused segment has no payload among them, since its header's last byte is the last that
 -- is used. What came for an instance is what was handed out and then what is held; and byte n of it, counted from 0 at open, is kept at place n
@@ -123,19 +123,19 @@ pub record Receives (s : Settings) (past : Past) (w : World) : Type 0 where
   pub carried : List Carried
   pub left : List ℕ
   pub divided : Divided (bytesIn past) carried left
-  pub received : (i : ℕ) → i < instances (s .bundle) → receivedIn (s .bundle) (s .side) i carried left ≡ handedFor i past ++ heldOf (w .connection) (w .receive) i
-  pub held : (i : ℕ) → i < instances (s .bundle)
-      → getD (w .connection .receiving .held) i 0 ≡ length (receivedIn (s .bundle) (s .side) i carried left) - length (handedFor i past)
-  pub starts : (i : ℕ) → i < instances (s .bundle) → getD (w .connection .receiving .starts) i 0 ≡ length (handedFor i past) % getD (s .receive) i 0
-  pub places : (i n : ℕ) → i < instances (s .bundle) → length (handedFor i past) ≤ n → n < length (receivedIn (s .bundle) (s .side) i carried left)
-      → getD (w .receive) (place (baseOf (s .receive) i) (getD (s .receive) i 0) n) 0 ≡ getD (receivedIn (s .bundle) (s .side) i carried left) n 0
+  pub received : (i : ℕ) → i < instances (s .party .bundle) → receivedIn (s .party) i carried left ≡ handedFor i past ++ heldOf (w .connection) (w .receive) i
+  pub held : (i : ℕ) → i < instances (s .party .bundle)
+      → getD (w .connection .receiving .held) i 0 ≡ length (receivedIn (s .party) i carried left) - length (handedFor i past)
+  pub starts : (i : ℕ) → i < instances (s .party .bundle) → getD (w .connection .receiving .starts) i 0 ≡ length (handedFor i past) % getD (s .receive) i 0
+  pub places : (i n : ℕ) → i < instances (s .party .bundle) → length (handedFor i past) ≤ n → n < length (receivedIn (s .party) i carried left)
+      → getD (w .receive) (place (baseOf (s .receive) i) (getD (s .receive) i 0) n) 0 ≡ getD (receivedIn (s .party) i carried left) n 0
 
 -- What a take answered 0 hands out: the first bytes that were held, which are one item, and what the answer says of them is read from them.
 pub record HandsOut (w : World) (i len : ℕ) (m : Message) (buf : List ℕ) : Type 0 where
   pub long : len ≤ length buf
   pub held : take len buf ≡ take len (heldOf (w .connection) (w .receive) i)
   pub item : Item nesting (take len buf)
-  pub reads : messageOf (speaks (w .connection .settings .bundle) i) (take len buf) ≡ read m
+  pub reads : messageOf (speaks (w .connection .settings .party .bundle) i) (take len buf) ≡ read m
 
 -- bytes begin with so many items in one way
 abbrev pub AllItems : List (List ℕ) → Type 0
@@ -150,24 +150,24 @@ SplitOnce =
 -- ---- T11 (b) and (d): what was put and sent
 
 -- the payloads of instance i end to end, in the segments that were made, read back by their layout
-abbrev pub sentFor : ℕ → Side → ℕ → Past → List ℕ
-sentFor b side i past = sentBy b side i (segments past)
+abbrev pub sentFor : Party → ℕ → Past → List ℕ
+sentFor us i past = sentBy us i (segments past)
 
 -- What was put of an instance is what was sent and then what waits; and byte n of it, counted from 0 at open, is kept at place n mod capacity.
 pub record Sends (s : Settings) (past : Past) (w : World) : Type 0 where
-  pub put : (i : ℕ) → i < instances (s .bundle) → putFor i past ≡ sentFor (s .bundle) (s .side) i past ++ queue w i
-  pub waiting : (i : ℕ) → i < instances (s .bundle) → waits w i ≡ length (putFor i past) - length (sentFor (s .bundle) (s .side) i past)
-  pub starts : (i : ℕ) → i < instances (s .bundle) → getD (w .connection .sending .starts) i 0 ≡ length (sentFor (s .bundle) (s .side) i past) % getD (s .send) i 0
-  pub places : (i n : ℕ) → i < instances (s .bundle) → length (sentFor (s .bundle) (s .side) i past) ≤ n → n < length (putFor i past)
+  pub put : (i : ℕ) → i < instances (s .party .bundle) → putFor i past ≡ sentFor (s .party) i past ++ queue w i
+  pub waiting : (i : ℕ) → i < instances (s .party .bundle) → waits w i ≡ length (putFor i past) - length (sentFor (s .party) i past)
+  pub starts : (i : ℕ) → i < instances (s .party .bundle) → getD (w .connection .sending .starts) i 0 ≡ length (sentFor (s .party) i past) % getD (s .send) i 0
+  pub places : (i n : ℕ) → i < instances (s .party .bundle) → length (sentFor (s .party) i past) ≤ n → n < length (putFor i past)
       → getD (w .send) (place (baseOf (s .send) i) (getD (s .send) i 0) n) 0 ≡ getD (putFor i past) n 0
 
 -- A segment that is made reads back as it was written: the given time, mode and protocol number of what we send as an instance, the smaller of S
 -- and the bytes waiting, at least one; and the first of these bytes. Of Handshake that is all that waits: a message is always in one segment.
 pub record Segmented (s : Settings) (w : World) (time : ℕ) (bs : List ℕ) : Type 0 where
   pub instance : ℕ
-  pub within : instance < instances (s .bundle)
+  pub within : instance < instances (s .party .bundle)
   pub reads : header bs
-      ≡ record { time = time; mode = modeOf (s .bundle) (s .side) instance; protocol = protocolOf (s .bundle) instance; len = min (s .limit) (waits w instance) }
+      ≡ record { time = time; mode = modeOf (s .party) instance; protocol = protocolOf (s .party .bundle) instance; len = min (s .limit) (waits w instance) }
   pub some : 1 ≤ min (s .limit) (waits w instance)
   pub carries : payload bs ≡ take (min (s .limit) (waits w instance)) (queue w instance)
   pub whole : instance ≡ 0 → payload bs ≡ queue w 0
@@ -175,25 +175,25 @@ pub record Segmented (s : Settings) (w : World) (time : ℕ) (bs : List ℕ) : T
 -- ---- T11 (c): the states
 
 -- whether the peer has agency in a state of instance i
-abbrev pub theirs : ℕ → Side → ℕ → ℕ → Bool
-theirs b side i state = holds (not (initiates side (roleOf b i))) (agencyOf (speaks b i) state)
+abbrev pub theirs : Party → ℕ → ℕ → Bool
+theirs us i state = holds (not (initiates (us .side) (roleOf (us .bundle) i))) (agencyOf (speaks (us .bundle) i) state)
 
 -- a put wants our agency, a take the peer's
-abbrev pub allowed : ℕ → Side → ℕ → ℕ → Act → Bool
-allowed b side i state (gave xs) = ours b side i state
-allowed b side i state (got xs) = theirs b side i state
+abbrev pub allowed : Party → ℕ → ℕ → Act → Bool
+allowed us i state (gave xs) = ours us i state
+allowed us i state (got xs) = theirs us i state
 
 -- An act is one of the rows: a message of the protocol, at the agency that it wants, leads from the one state to the other.
-pub record Moves (b : ℕ) (side : Side) (i state : ℕ) (a : Act) (to : ℕ) : Type 0 where
+pub record Moves (us : Party) (i state : ℕ) (a : Act) (to : ℕ) : Type 0 where
   pub message : Message
-  pub reads : messageOf (speaks b i) (messageIn a) ≡ read message
-  pub agency : allowed b side i state a ≡ true
-  pub row : nextOf (speaks b i) state (message .kind) (flagOf (speaks b i) message) ≡ To to
+  pub reads : messageOf (speaks (us .bundle) i) (messageIn a) ≡ read message
+  pub agency : allowed us i state a ≡ true
+  pub row : nextOf (speaks (us .bundle) i) state (message .kind) (flagOf (speaks (us .bundle) i) message) ≡ To to
 
 -- acts one after the other lead from a state to a state
-pub data Walks (b : ℕ) (side : Side) (i : ℕ) : ℕ → List Act → ℕ → Type 0 where
-  rests : {state : ℕ} → Walks b side i state [] state
-  moves : {state via to : ℕ} {a : Act} {more : List Act} → Moves b side i state a via → Walks b side i via more to → Walks b side i state (a ∷ more) to
+pub data Walks (us : Party) (i : ℕ) : ℕ → List Act → ℕ → Type 0 where
+  rests : {state : ℕ} → Walks us i state [] state
+  moves : {state via to : ℕ} {a : Act} {more : List Act} → Moves us i state a via → Walks us i via more to → Walks us i state (a ∷ more) to
 
 -- the last act is message 1
 unfoldable pub endsInAccept : List Act → Bool
@@ -203,16 +203,16 @@ endsInAccept (a ∷ b ∷ more) = endsInAccept (b ∷ more)
 
 -- The state of each instance is where its own accepted puts and takes lead from the first state, and Accept is marked if Handshake ended in it.
 pub record Talks (s : Settings) (past : Past) (w : World) : Type 0 where
-  pub states : (i : ℕ) → i < instances (s .bundle) → Walks (s .bundle) (s .side) i 0 (acts i past) (getD (w .connection .talk .states) i 0)
+  pub states : (i : ℕ) → i < instances (s .party .bundle) → Walks (s .party) i 0 (acts i past) (getD (w .connection .talk .states) i 0)
   pub accepted : w .connection .talk .accepted ≡ endsInAccept (acts 0 past)
 
 -- ---- T11 (e): the closing
 
 -- where the last header among the bytes leads
-abbrev pub lastRoute : ℕ → Side → List ℕ → Route
-lastRoute b side bs =
+abbrev pub lastRoute : Party → List ℕ → Route
+lastRoute us bs =
     let d = decoded (drop (length bs - headerLength) bs) in
-    routeOf b side (d .protocol) (d .mode)
+    routeOf us (d .protocol) (d .mode)
 
 -- the instance that a route names, where there is one
 abbrev pub routed : Route → Option ℕ
@@ -222,23 +222,23 @@ routed (route.To j) = some j
 
 -- The closing of a fault that a call answered, if it answered one, where bs are the bytes so far: of 11 to 13 from feed, whose last used bytes are
 -- the refused header, with the instance that it names; and of 14 to 17 from take.
-abbrev pub faultBy : ℕ → Side → List ℕ → Call → Answer → Option (ℕ × Option ℕ)
-faultBy b side bs (calls.feed xs) a = cond (leb 11 (numberOf a) && leb (numberOf a) 13) (some (numberOf a, routed (lastRoute b side bs))) none
-faultBy b side bs (calls.take j buf) a = cond (takeFault (numberOf a)) (some (numberOf a, some j)) none
-faultBy b side bs (calls.put j xs) a = none
-faultBy b side bs (calls.next time buf) a = none
-faultBy b side bs calls.status a = none
+abbrev pub faultBy : Party → List ℕ → Call → Answer → Option (ℕ × Option ℕ)
+faultBy us bs (calls.feed xs) a = cond (leb 11 (numberOf a) && leb (numberOf a) 13) (some (numberOf a, routed (lastRoute us bs))) none
+faultBy us bs (calls.take j buf) a = cond (takeFault (numberOf a)) (some (numberOf a, some j)) none
+faultBy us bs (calls.put j xs) a = none
+faultBy us bs (calls.next time buf) a = none
+faultBy us bs calls.status a = none
 
 -- the closing of the first fault answered, with bs the bytes before
-unfoldable pub firstFault : ℕ → Side → List ℕ → Past → Option (ℕ × Option ℕ)
-firstFault b side bs [] = none
-firstFault b side bs (e ∷ past) =
+unfoldable pub firstFault : Party → List ℕ → Past → Option (ℕ × Option ℕ)
+firstFault us bs [] = none
+firstFault us bs (e ∷ past) =
     let now = bs ++ usedBy (e .call) (e .answer) in
-    orElse (faultBy b side now (e .call) (e .answer)) (firstFault b side now past)
+    orElse (faultBy us now (e .call) (e .answer)) (firstFault us now past)
 
 -- The connection is closed by the first fault answered, and open if none was.
 abbrev pub Closes : Settings → Past → World → Type 0
-Closes s past w = closingOf (w .connection .gate) ≡ firstFault (s .bundle) (s .side) [] past
+Closes s past w = closingOf (w .connection .gate) ≡ firstFault (s .party) [] past
 
 -- ---- T11
 
@@ -268,17 +268,17 @@ History =
 -- bits it has; and the lowest is the first that is ready, or 255 if none is.
 pub record Reports (s : Settings) (past : Past) (r : Report) : Type 0 where
   pub number : r .number ≡ 0
-  pub held : (cs : List Carried) (left : List ℕ) → Divided (bytesIn past) cs left → (i : ℕ) → i < instances (s .bundle)
-      → getD (r .held) i 0 ≡ length (receivedIn (s .bundle) (s .side) i cs left) - length (handedFor i past)
-  pub waiting : (i : ℕ) → i < instances (s .bundle) → getD (r .waiting) i 0 ≡ length (putFor i past) - length (sentFor (s .bundle) (s .side) i past)
+  pub held : (cs : List Carried) (left : List ℕ) → Divided (bytesIn past) cs left → (i : ℕ) → i < instances (s .party .bundle)
+      → getD (r .held) i 0 ≡ length (receivedIn (s .party) i cs left) - length (handedFor i past)
+  pub waiting : (i : ℕ) → i < instances (s .party .bundle) → getD (r .waiting) i 0 ≡ length (putFor i past) - length (sentFor (s .party) i past)
   pub many : (length (r .held) ≡ most) × (length (r .waiting) ≡ most)
-  pub above : (i : ℕ) → instances (s .bundle) ≤ i → (getD (r .held) i 0 ≡ 0) × (getD (r .waiting) i 0 ≡ 0)
-  pub bits : (i : ℕ) → i < instances (s .bundle) → r .ready .word / 2 ^ i % 2 ≡ cond (eqb (getD (r .waiting) i 0) 0) 0 1
-  pub small : r .ready .word < 2 ^ instances (s .bundle)
+  pub above : (i : ℕ) → instances (s .party .bundle) ≤ i → (getD (r .held) i 0 ≡ 0) × (getD (r .waiting) i 0 ≡ 0)
+  pub bits : (i : ℕ) → i < instances (s .party .bundle) → r .ready .word / 2 ^ i % 2 ≡ cond (eqb (getD (r .waiting) i 0) 0) 0 1
+  pub small : r .ready .word < 2 ^ instances (s .party .bundle)
   pub count : r .ready .count ≡ ones (r .ready .word)
-  pub lowest : (i : ℕ) → i < instances (s .bundle) → 0 < getD (r .waiting) i 0 → ((j : ℕ) → j < i → getD (r .waiting) j 0 ≡ 0) → r .ready .lowest ≡ i
-  pub none : ((i : ℕ) → i < instances (s .bundle) → getD (r .waiting) i 0 ≡ 0) → r .ready .lowest ≡ 255
-  pub closing : closingOf (r .gate) ≡ firstFault (s .bundle) (s .side) [] past
+  pub lowest : (i : ℕ) → i < instances (s .party .bundle) → 0 < getD (r .waiting) i 0 → ((j : ℕ) → j < i → getD (r .waiting) j 0 ≡ 0) → r .ready .lowest ≡ i
+  pub none : ((i : ℕ) → i < instances (s .party .bundle) → getD (r .waiting) i 0 ≡ 0) → r .ready .lowest ≡ 255
+  pub closing : closingOf (r .gate) ≡ firstFault (s .party) [] past
 
 abbrev pub StatusTells : Type 0
 StatusTells =
@@ -292,7 +292,7 @@ StatusTells =
 -- no store and leaves what is to be sent and the closing; and it changes nothing if it hands nothing out.
 pub record Shut (w : World) : Type 0 where
   pub feeds : (xs : List ℕ) → step w (calls.feed xs) ≡ record { world = w; answer = calls.fed 20 0 }
-  pub puts : (i : ℕ) (xs : List ℕ) → step w (calls.put i xs) ≡ record { world = w; answer = calls.queued (cond (ltb i (instances (w .connection .settings .bundle))) 20 10) }
+  pub puts : (i : ℕ) (xs : List ℕ) → step w (calls.put i xs) ≡ record { world = w; answer = calls.queued (cond (ltb i (instances (w .connection .settings .party .bundle))) 20 10) }
   pub makes : (time : ℕ) (buf : List ℕ) → step w (calls.next time buf) ≡ record { world = w; answer = calls.made 20 0 buf }
   pub takes : (i : ℕ) (buf : List ℕ)
       → let v = step w (calls.take i buf) .world in

@@ -6,7 +6,7 @@ use mathlib.Core.List.{List}
 use lib.ListN.{length, getD}
 use Rattle.connection.specs.declared.Settings.{Settings}
 use Rattle.connection.specs.Shapes.{Shaped}
-use Rattle.connection.specs.Ranges.{receiveLength, sendLength, inRange}
+use Rattle.range.specs.Ranges.{receiveLength, sendLength, inRange}
 use Rattle.feeding.specs.Numbers.{Spelt}
 use Rattle.promises.specs.Trace.{run}
 use Rattle.promises.specs.Calls.{Call, Answer, fed, taken, queued, made, told, World, step, AllReal, Opened, first}

@@ -7,7 +7,7 @@ use mathlib.Core.List.{List, [], _∷_, _++_, map, append-assoc}
 use Prim.Native.Nat.{ℕ, suc, _+_, _-_, _<_, _≤_}
 use native.Mathlib.Omega.{arith}
 use native.Mathlib.Numerals.{add-one}
-use lib.Dec.{T}
+use lib.Dec.{T, eqb, eqb→eq}
 use lib.ListN.{length, getD, take, drop, length-append}
 use lib.Seq.{drop-cons, split-at, take-append-seam, drop-append-seam}
 use Rattle.base.proofs.ListLaws.{getD-map}
@@ -33,6 +33,17 @@ each-protocol test t p = subst (λ (q : Protocol). T (test q)) (placed p .1) (at
 -- a number for each protocol
 pub number-of : (f : Protocol → ℕ) (p : Protocol) → getD (map f protocols) (placeOf p) 0 ≡ f p
 number-of f p = getD-map f protocols (placeOf p) Handshake 0 (placed p .0) ∙ ap f (placed p .1)
+
+-- a table whose entries are each one number: what a test says of all entries and their numbers it says of each
+module _ {A : Type 0} (xs : List A) (past : A) (inOne : A → ℕ) where
+  pub entry : (test : ℕ → A → Bool) → T (every past (λ i x. test (inOne x) x) 0 xs)
+      → (i : ℕ) → i < length xs → T (test (getD (map inOne xs) i 0) (getD xs i past))
+  entry test t i h = rw (getD-map inOne xs i past 0 h) (at past (λ i x. test (inOne x) x) xs t i h)
+
+  -- a column of it
+  pub column : (f : ℕ → ℕ) (g : A → ℕ) → T (every past (λ i x. eqb (f (inOne x)) (g x)) 0 xs)
+      → (i : ℕ) → i < length xs → f (getD (map inOne xs) i 0) ≡ g (getD xs i past)
+  column f g t i h = eqb→eq (f (getD (map inOne xs) i 0)) (g (getD xs i past)) (entry (λ n x. eqb (f n) (g x)) t i h)
 
 -- a search: of the first entry that passes the test it says something; what stands past the table's end is no entry
 pub record Search (A B : Type 0) : Type 0 where

@@ -9,24 +9,19 @@ use lib.Dec.{T, eqb, leb, ltb, eqb→eq, leb→le, ltb→lt, eqb·suc-suc, eqb·
 use lib.ListN.{length, getD}
 use borrow.Author.Tests.{ne-eqb}
 use Rattle.base.proofs.Conds.{by-test, and-left, and-right}
-use Rattle.base.proofs.ListLaws.{getD-map}
 use Rattle.base.proofs.Table.{every, at}
 use Rattle.rows.specs.declared.Protocol.{Protocol}
 use Rattle.rows.specs.declared.Agency.{Agency}
 use Rattle.rows.specs.declared.Agency.the-variants.{Initiator, Responder, Nobody}
 use Rattle.rows.specs.declared.Next.{Next}
 use Rattle.rows.specs.declared.Next.the-variants.{To, None}
-use Rattle.rows.specs.Rows.{State, Done, Row, states, doneOf, rowsOf, rowIn, RowsSay, fits, nextIn, nextOf, agencyIn, agencyOf, placeIn}
-use Rattle.rows.proofs.ByProtocol.{each-protocol, Search}
-use Rattle.rows.specs.Inside.{entries, allRows, rowCount, rowAt, holder, mark, columns}
+use Rattle.rows.specs.Rows.{State, Done, Row, states, doneOf, rowsOf, rowIn, RowsSay, fits, nextIn, nextOf, agencyIn, agencyOf, placeIn, talk, dialogues}
+use Rattle.rows.proofs.ByProtocol.{each-protocol, Search, entry, column}
+use Rattle.rows.specs.Inside.{entries, allRows, rowCount, rowAt, mark, inOne, stateIn, agentIn, kindIn, flagIn, leadsIn, suits}
 
 -- what stands past the table's end
 abbrev nothing : Row
 nothing = record { state = 0; agency = Nobody; kind = 0; flag = 0; next = 0 }
-
--- the table's rows are those of document 01, column by column
-pub row-at : (i : ℕ) → i < rowCount → getD (map columns allRows) i [] ≡ columns (rowAt i)
-row-at i h = getD-map columns allRows i nothing [] h
 
 -- the two searches along the rows: for where a message leads, and for who may send
 module _ (s k f : ℕ) where
@@ -45,26 +40,7 @@ module _ (s : ℕ) where
   abbrev pub holding : Search Row Agency
   holding = record { past = nothing; test = λ r. eqb (r .state) s; said = λ r. r .agency; along = agencyIn s; each = each-agent }
 
--- no row has nobody's agency
-held : (a : Agency) → Bool
-held a = leb (mark a) 1
-
-all-held : T (every nothing (λ i r. held (r .agency)) 0 allRows)
-unfolding held entries placeIn
-all-held = tt
-
-holder-mark : (a : Agency) → T (held a) → holder (mark a) ≡ a
-unfolding held
-holder-mark Initiator t = refl
-holder-mark Responder t = refl
-holder-mark Nobody t = absurd t
-
--- the number in the agency's column stands for it
-pub holder-row : (i : ℕ) → i < rowCount → holder (mark (rowAt i .agency)) ≡ rowAt i .agency
-holder-row i h = holder-mark (rowAt i .agency) (at nothing (λ i r. held (r .agency)) allRows all-held i h)
-
--- ---- T8, by tests that antt computes over each protocol's rows
-
+-- agencies, told apart by their numbers
 sameAgency : Agency → Agency → Bool
 sameAgency a b = eqb (mark a) (mark b)
 
@@ -79,6 +55,37 @@ same-agency Responder Nobody t = absurd t
 same-agency Nobody Initiator t = absurd t
 same-agency Nobody Responder t = absurd t
 same-agency Nobody Nobody t = refl
+
+-- ---- the table's rows are those of document 01, column by column, by tests that antt computes over all rows
+
+abbrev inTable : ℕ → ℕ
+inTable i = getD (map inOne allRows) i 0
+
+module _ (i : ℕ) (h : i < rowCount) where
+  pub state-at : stateIn (inTable i) ≡ rowAt i .state
+  unfolding entries placeIn
+  state-at = column allRows nothing inOne stateIn (λ r. r .state) tt i h
+
+  pub agent-at : agentIn (inTable i) ≡ rowAt i .agency
+  unfolding entries placeIn sameAgency
+  agent-at = same-agency (agentIn (inTable i)) (rowAt i .agency) (entry allRows nothing inOne (λ n r. sameAgency (agentIn n) (r .agency)) tt i h)
+
+  kind-at : kindIn (inTable i) ≡ rowAt i .kind
+  unfolding entries placeIn
+  kind-at = column allRows nothing inOne kindIn (λ r. r .kind) tt i h
+
+  flag-at : flagIn (inTable i) ≡ rowAt i .flag
+  unfolding entries placeIn
+  flag-at = column allRows nothing inOne flagIn (λ r. r .flag) tt i h
+
+  pub next-at : leadsIn (inTable i) ≡ rowAt i .next
+  unfolding entries placeIn
+  next-at = column allRows nothing inOne leadsIn (λ r. r .next) tt i h
+
+  pub suits-at : (s k f : ℕ) → suits s k f (inTable i) ≡ fits s k f (rowAt i)
+  suits-at s k f = cc (state-at, kind-at, flag-at)
+
+-- ---- T8, by tests that antt computes over each protocol's rows
 
 -- where a message leads, as a number: one more than the state, or 0
 reached : Next → ℕ
@@ -179,6 +186,15 @@ going : (p : Protocol) (s : ℕ) → s < doneOf p → agencyOf p s ≡ Nobody �
 unfolding agents sameAgency
 going p s h e = rw (ne-eqb s (doneOf p) (λ q. omega arith), e) at (at Done (agents p) (states p) (all-agents p) s (omega (arith, all-states p)))
 
+all-talked : (p : Protocol) → T (every [] (λ i d. eqb (reached (talk p 0 d)) (suc (doneOf p))) 0 (dialogues p))
+unfolding placeIn nextIn reached talk
+all-talked = each-protocol (λ p. every [] (λ i d. eqb (reached (talk p 0 d)) (suc (doneOf p))) 0 (dialogues p)) tt
+
+talked : (p : Protocol) (i : ℕ) → i < length (dialogues p) → talk p 0 (getD (dialogues p) i []) ≡ To (doneOf p)
+talked p i h =
+    same-next (talk p 0 (getD (dialogues p) i [])) (doneOf p)
+    (at [] (λ i d. eqb (reached (talk p 0 d)) (suc (doneOf p))) (dialogues p) (all-talked p) i h)
+
 pub rows-say : RowsSay
 rows-say =
     record {
@@ -191,4 +207,5 @@ rows-say =
       last = last;
       ended = ended;
       going = going;
+      talked = talked;
     }

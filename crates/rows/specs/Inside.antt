@@ -1,14 +1,17 @@
--- What only functions below the operations cite: how the table is laid out.
-use Prim.Native.Nat.{ℕ}
+-- What only functions below the operations cite: how the tables are laid out.
+use Prim.Native.Nat.{ℕ, _+_, _*_, _/_, _%_, _<_}
+use mathlib.Core.Path.{_≡_}
 use mathlib.Core.Bool.{Bool, cond, _&&_}
 use mathlib.Core.List.{List, [], _∷_, _++_}
-use lib.Dec.{eqb}
+use lib.Dec.{eqb, ltb}
 use lib.ListN.{length, getD, take}
 use Rattle.rows.specs.declared.Protocol.{Protocol}
 use Rattle.rows.specs.declared.Protocol.the-variants.{Handshake, ChainSync, BlockFetch, TxSubmission, KeepAlive, LocalTxSubmission, LocalStateQuery}
 use Rattle.rows.specs.declared.Agency.{Agency}
 use Rattle.rows.specs.declared.Agency.the-variants.{Initiator, Responder, Nobody}
-use Rattle.rows.specs.Rows.{Row, rowsOf}
+use Rattle.wire.specs.Instances.{instances}
+use Rattle.rows.specs.Rows.{Row, rowsOf, doneOf}
+use Rattle.rows.specs.Spoken.{speaks}
 
 -- the place of a protocol: document 01's order, and then K1's
 abbrev pub placeOf : Protocol → ℕ
@@ -50,19 +53,34 @@ rowCount = length allRows
 abbrev pub rowAt : ℕ → Row
 rowAt i = getD allRows i (record { state = 0; agency = Nobody; kind = 0; flag = 0; next = 0 })
 
--- the agency that a number in the table stands for, and the number of an agency
-abbrev pub holder : ℕ → Agency
-holder m = cond (eqb m 0) Initiator Responder
-
+-- a row as one number, and its columns in such a number
 abbrev pub mark : Agency → ℕ
 mark Initiator = 0
-mark Responder = 1
-mark Nobody = 2
+mark Responder = 8
+mark Nobody = 16
 
--- a row's columns: state, agency, kind, flag, next state
-abbrev pub columns : Row → List ℕ
-columns r = r .state ∷ mark (r .agency) ∷ r .kind ∷ r .flag ∷ r .next ∷ []
+abbrev pub inOne : Row → ℕ
+inOne r = r .state + mark (r .agency) + 16 * r .kind + 256 * r .flag + 512 * r .next
 
--- whether a row, by its columns, is that of a message in a state
-abbrev pub suits : ℕ → ℕ → ℕ → List ℕ → Bool
-suits s k f r = eqb (getD r 0 0) s && (eqb (getD r 2 0) k && eqb (getD r 3 0) f)
+abbrev pub stateIn : ℕ → ℕ
+stateIn n = n % 8
+
+abbrev pub agentIn : ℕ → Agency
+agentIn n = cond (ltb (n % 16) 8) Initiator Responder
+
+abbrev pub kindIn : ℕ → ℕ
+kindIn n = n % 256 / 16
+
+abbrev pub flagIn : ℕ → ℕ
+flagIn n = n % 512 / 256
+
+abbrev pub leadsIn : ℕ → ℕ
+leadsIn n = n / 512
+
+-- whether a row as one number is that of a message in a state
+abbrev pub suits : ℕ → ℕ → ℕ → ℕ → Bool
+suits s k f n = eqb (stateIn n) s && (eqb (kindIn n) k && eqb (flagIn n) f)
+
+-- an array by instance of the states that a bundle's protocols end in
+abbrev pub LastStates : ℕ → List ℕ → Type 0
+LastStates b l = (i : ℕ) → i < instances b → getD l i 0 ≡ doneOf (speaks b i)

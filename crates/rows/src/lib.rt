@@ -8,7 +8,7 @@ ghost use mathlib.Core.Path.{_≡_};
 ghost use Prim.Native.Nat.{_<_};
 ghost use lib.ListN.{length, getD};
 ghost use Rattle.rows.specs.Rows.{doneOf, rowsOf, nextOf, agencyOf};
-ghost use Rattle.rows.specs.Inside.{placeOf, protocols, firstIn, countIn, suits, holder};
+ghost use Rattle.rows.specs.Inside.{placeOf, protocols, firstIn, countIn, stateIn, agentIn, leadsIn, suits};
 
 pub enum Protocol {
     Handshake,
@@ -33,79 +33,73 @@ pub enum Next {
     None,
 }
 
-// Initiator agency, and responder agency.
-const C: u8 = 0;
+// A row is one number, the sum of its columns, each of which stays below the unit of the next: the state; whose agency it
+// is, C the initiator's and S the responder's; KIND times the message's kind; TRUE if its bool is true; NEXT times the
+// next state. Only RequestTxIds is two messages, told apart by its bool: the flag is 1 in a row with TRUE, and else 0.
+const C: u16 = 0;
 
-const S: u8 = 1;
+const S: u16 = 8;
 
-// The columns: state, agency, kind, flag, next state. RequestTxIds, of kind 0, is two messages, told apart by its bool:
-// the flag is 1 for true. The flag of every other message is 0.
-const STATE: usize = 0;
+const KIND: u16 = 16;
 
-const AGENCY: usize = 1;
+const TRUE: u16 = 256;
 
-const KIND: usize = 2;
-
-const FLAG: usize = 3;
-
-const NEXT: usize = 4;
-
-const COLUMNS: usize = 5;
+const NEXT: u16 = 512;
 
 const ROW_COUNT: usize = 44;
 
-const ROWS: [[u8; COLUMNS]; ROW_COUNT] = [
+const ROWS: [u16; ROW_COUNT] = [
     // Handshake: Propose 0, Confirm 1, Done 2
-    [0, C, 0, 0, 1],
-    [1, S, 1, 0, 2],
-    [1, S, 2, 0, 2],
+    0 + C + KIND * 0 + NEXT * 1, // Propose
+    1 + S + KIND * 1 + NEXT * 2, // Accept
+    1 + S + KIND * 2 + NEXT * 2, // Refuse
     // Chain-Sync: Idle 0, CanAwait 1, MustReply 2, Intersect 3, Done 4
-    [0, C, 0, 0, 1],
-    [0, C, 4, 0, 3],
-    [0, C, 7, 0, 4],
-    [1, S, 1, 0, 2],
-    [1, S, 2, 0, 0],
-    [1, S, 3, 0, 0],
-    [2, S, 2, 0, 0],
-    [2, S, 3, 0, 0],
-    [3, S, 5, 0, 0],
-    [3, S, 6, 0, 0],
+    0 + C + KIND * 0 + NEXT * 1, // RequestNext
+    0 + C + KIND * 4 + NEXT * 3, // FindIntersect
+    0 + C + KIND * 7 + NEXT * 4, // Done
+    1 + S + KIND * 1 + NEXT * 2, // AwaitReply
+    1 + S + KIND * 2 + NEXT * 0, // RollForward
+    1 + S + KIND * 3 + NEXT * 0, // RollBackward
+    2 + S + KIND * 2 + NEXT * 0, // RollForward
+    2 + S + KIND * 3 + NEXT * 0, // RollBackward
+    3 + S + KIND * 5 + NEXT * 0, // IntersectFound
+    3 + S + KIND * 6 + NEXT * 0, // IntersectNotFound
     // Block-Fetch: Idle 0, Busy 1, Streaming 2, Done 3
-    [0, C, 0, 0, 1],
-    [0, C, 1, 0, 3],
-    [1, S, 2, 0, 2],
-    [1, S, 3, 0, 0],
-    [2, S, 4, 0, 2],
-    [2, S, 5, 0, 0],
+    0 + C + KIND * 0 + NEXT * 1, // RequestRange
+    0 + C + KIND * 1 + NEXT * 3, // ClientDone
+    1 + S + KIND * 2 + NEXT * 2, // StartBatch
+    1 + S + KIND * 3 + NEXT * 0, // NoBlocks
+    2 + S + KIND * 4 + NEXT * 2, // Block
+    2 + S + KIND * 5 + NEXT * 0, // BatchDone
     // TxSubmission: Init 0, Idle 1, Blocking 2, NonBlocking 3, Txs 4, Done 5
-    [0, C, 6, 0, 1],
-    [1, S, 0, 1, 2],
-    [1, S, 0, 0, 3],
-    [1, S, 2, 0, 4],
-    [2, C, 1, 0, 1],
-    [2, C, 4, 0, 5],
-    [3, C, 1, 0, 1],
-    [4, C, 3, 0, 1],
+    0 + C + KIND * 6 + NEXT * 1, // Init
+    1 + S + KIND * 0 + TRUE + NEXT * 2, // RequestTxIds, blocking
+    1 + S + KIND * 0 + NEXT * 3, // RequestTxIds, not blocking
+    1 + S + KIND * 2 + NEXT * 4, // RequestTxs
+    2 + C + KIND * 1 + NEXT * 1, // ReplyTxIds
+    2 + C + KIND * 4 + NEXT * 5, // Done
+    3 + C + KIND * 1 + NEXT * 1, // ReplyTxIds
+    4 + C + KIND * 3 + NEXT * 1, // ReplyTxs
     // Keep-alive: Client 0, Server 1, Done 2
-    [0, C, 0, 0, 1],
-    [0, C, 2, 0, 2],
-    [1, S, 1, 0, 0],
+    0 + C + KIND * 0 + NEXT * 1, // KeepAlive
+    0 + C + KIND * 2 + NEXT * 2, // Done
+    1 + S + KIND * 1 + NEXT * 0, // Response
     // Local TxSubmission: Idle 0, Busy 1, Done 2
-    [0, C, 0, 0, 1],
-    [0, C, 3, 0, 2],
-    [1, S, 1, 0, 0],
-    [1, S, 2, 0, 0],
+    0 + C + KIND * 0 + NEXT * 1, // Submit
+    0 + C + KIND * 3 + NEXT * 2, // Done
+    1 + S + KIND * 1 + NEXT * 0, // Accept
+    1 + S + KIND * 2 + NEXT * 0, // Reject
     // Local State Query: Idle 0, Acquiring 1, Acquired 2, Querying 3, Done 4
-    [0, C, 0, 0, 1],
-    [0, C, 8, 0, 1],
-    [0, C, 7, 0, 4],
-    [1, S, 1, 0, 2],
-    [1, S, 2, 0, 0],
-    [2, C, 3, 0, 3],
-    [2, C, 6, 0, 1],
-    [2, C, 9, 0, 1],
-    [2, C, 5, 0, 0],
-    [3, S, 4, 0, 2],
+    0 + C + KIND * 0 + NEXT * 1, // Acquire
+    0 + C + KIND * 8 + NEXT * 1, // Acquire of no item
+    0 + C + KIND * 7 + NEXT * 4, // Done
+    1 + S + KIND * 1 + NEXT * 2, // Acquired
+    1 + S + KIND * 2 + NEXT * 0, // Failure
+    2 + C + KIND * 3 + NEXT * 3, // Query
+    2 + C + KIND * 6 + NEXT * 1, // ReAcquire
+    2 + C + KIND * 9 + NEXT * 1, // ReAcquire of no item
+    2 + C + KIND * 5 + NEXT * 0, // Release
+    3 + S + KIND * 4 + NEXT * 2, // Result
 ];
 
 // How many protocols there are.
@@ -159,12 +153,37 @@ fn count(p: Protocol) -> usize
     number_of(COUNT, p)
 }
 
+// The columns of a row: state, agency, next state.
+fn state_in(row: u16) -> u64
+    ensures { λ r. ⌜ r ≡ stateIn row ⌝ }
+{
+    (row % S) as u64
+}
+
+fn agent_in(row: u16) -> Agency
+    ensures { λ r. ⌜ r ≡ agentIn row ⌝ }
+{
+    if row % KIND < S {
+        return Agency::Initiator;
+    }
+    Agency::Responder
+}
+
+fn next_in(row: u16) -> u64
+    ensures { λ r. ⌜ r ≡ leadsIn row ⌝ }
+{
+    (row / NEXT) as u64
+}
+
 // Whether a row is that of a message in a state.
-fn is_for(row: [u8; COLUMNS], state: u64, kind: u64, flag: u64) -> bool
+fn is_for(row: u16, state: u64, kind: u64, flag: u64) -> bool
     ensures { λ r. ⌜ r ≡ suits state kind flag row ⌝ }
 {
-    let message = base::and(row[KIND] as u64 == kind, row[FLAG] as u64 == flag);
-    base::and(row[STATE] as u64 == state, message)
+    let message = base::and(
+        (row % TRUE / KIND) as u64 == kind,
+        (row % NEXT / TRUE) as u64 == flag,
+    );
+    base::and(state_in(row) == state, message)
 }
 
 // Where a message leads in a state. The table is made anew wherever it is named: so once, before the search.
@@ -177,8 +196,7 @@ pub fn find(p: Protocol, state: u64, kind: u64, flag: u64) -> Next
     while i < end {
         let row = table[i];
         if is_for(row, state, kind, flag) {
-            let next = row[NEXT] as u64;
-            return Next::To(next);
+            return Next::To(next_in(row));
         }
         i += 1;
     }
@@ -194,19 +212,10 @@ pub fn agent(p: Protocol, state: u64) -> Agency
     let end = i + count(p);
     while i < end {
         let row = table[i];
-        if row[STATE] as u64 == state {
-            return held_by(row[AGENCY]);
+        if state_in(row) == state {
+            return agent_in(row);
         }
         i += 1;
     }
     Agency::Nobody
-}
-
-fn held_by(mark: u8) -> Agency
-    ensures { λ r. ⌜ r ≡ holder mark ⌝ }
-{
-    if mark == C {
-        return Agency::Initiator;
-    }
-    Agency::Responder
 }

@@ -22,10 +22,10 @@ use Rattle.connection.specs.declared.Connection.{Connection}
 use Rattle.connection.specs.declared.Sending.{Sending}
 use Rattle.connection.specs.Shapes.{Shaped}
 use Rattle.connection.specs.Closings.{isOpen}
-use Rattle.connection.specs.Ranges.{inRange, sends}
+use Rattle.range.specs.Ranges.{inRange, sends}
 use Rattle.connection.specs.Parts.{withSending}
-use Rattle.connection.proofs.StoreLaws.{leaves-front}
-use Rattle.connection.proofs.RangeLaws.{ranged, in-range, sends-both}
+use Rattle.range.proofs.StoreLaws.{leaves-front}
+use Rattle.range.proofs.RangeLaws.{ranged, in-range, sends-both}
 use Rattle.sending.specs.declared.Made.{Made}
 use Rattle.sending.specs.NextSegment.{Told, told, refused, much, headed, payloadOf, sentOf, chosenOf, nextOf}
 use Rattle.sending.specs.Numbers.{Unclosed, When, out-of-range, closed, all-empty, no-room, done, Exactly, Untouched, Keeps}
@@ -33,21 +33,21 @@ use Rattle.sending.proofs.SendingLaws.{served, serve-short, serve-all, 
 
 -- the counts of the bundle's instances
 abbrev pub counts : Connection → List ℕ
-counts c = take (instances (c .settings .bundle)) (c .sending .waiting)
+counts c = take (instances (c .settings .party .bundle)) (c .sending .waiting)
 
-pub counts-long : (c : Connection) → Shaped c → length (counts c) ≡ instances (c .settings .bundle)
+pub counts-long : (c : Connection) → Shaped c → length (counts c) ≡ instances (c .settings .party .bundle)
 counts-long c s =
-    length-take-le (instances (c .settings .bundle)) (c .sending .waiting) (omega (arith, s .waiting, at-most (c .settings .bundle)))
+    length-take-le (instances (c .settings .party .bundle)) (c .sending .waiting) (omega (arith, s .waiting, at-most (c .settings .party .bundle)))
 
-pub counts-at : (c : Connection) (i : ℕ) → i < instances (c .settings .bundle) → getD (counts c) i 0 ≡ getD (c .sending .waiting) i 0
-counts-at c i h = getD-take (instances (c .settings .bundle)) (c .sending .waiting) i 0 h
+pub counts-at : (c : Connection) (i : ℕ) → i < instances (c .settings .party .bundle) → getD (counts c) i 0 ≡ getD (c .sending .waiting) i 0
+counts-at c i h = getD-take (instances (c .settings .party .bundle)) (c .sending .waiting) i 0 h
 
 -- whoever is chosen is an instance with bytes waiting
 pub chosen-waiting : (c : Connection) → Shaped c → (i : ℕ) → chosenOf c ≡ Instance i
-    → (i < instances (c .settings .bundle)) × (0 < getD (c .sending .waiting) i 0)
+    → (i < instances (c .settings .party .bundle)) × (0 < getD (c .sending .waiting) i 0)
 chosen-waiting c s i e =
     let p = chosen-waits (counts c) (c .sending .turn) i e in
-    let h : i < instances (c .settings .bundle) = omega (arith, p .0, counts-long c s) in
+    let h : i < instances (c .settings .party .bundle) = omega (arith, p .0, counts-long c s) in
     (h, omega (arith, p .1, counts-at c i h))
 
 module _ (c : Connection) (store : List ℕ) (time : ℕ) (buf : List ℕ) where
@@ -76,7 +76,7 @@ module _ (c : Connection) (store : List ℕ) (time : ℕ) (buf : List ℕ) where
   o0 (r, o) i w l = serve-all c store time buf i l ∙ next-served c store time buf r o (Instance i) (sym w)
 
   -- every queue is empty exactly where nobody is chosen
-  idle : Shaped c → Unclosed c store → (who ≡ Nobody) ↔ ((i : ℕ) → i < instances (c .settings .bundle) → getD (c .sending .waiting) i 0 ≡ 0)
+  idle : Shaped c → Unclosed c store → (who ≡ Nobody) ↔ ((i : ℕ) → i < instances (c .settings .party .bundle) → getD (c .sending .waiting) i 0 ≡ 0)
   idle s u =
       let t = ranged c (sends-both c (length store) (u .0) .0) .turn in
       let none = nobody-waits (counts c) (c .sending .turn) (t .0) (rw (counts-long c s) (t .1)) in (
@@ -144,12 +144,12 @@ untouched c store time buf = untouched-by c store time buf (way c store time buf
 -- ---- the range
 
 -- n bytes sent of instance i leave every area, and the turn, in range
-module _ (c : Connection) (s : Shaped c) (r : inRange c ≡ true) (i : ℕ) (inside : i < instances (c .settings .bundle)) (n : ℕ) where
+module _ (c : Connection) (s : Shaped c) (r : inRange c ≡ true) (i : ℕ) (inside : i < instances (c .settings .party .bundle)) (n : ℕ) where
   abbrev many : ℕ
-  many = instances (c .settings .bundle)
+  many = instances (c .settings .party .bundle)
 
   abbrev w : Sending
-  w = sentOf (c .settings .bundle) (c .sending) (c .settings .send) i n
+  w = sentOf (c .settings .party .bundle) (c .sending) (c .settings .send) i n
 
   sent-area : (j : ℕ) → j < many
       → (getD (w .starts) j 0 < getD (c .settings .send) j 0) × (getD (w .waiting) j 0 ≤ getD (c .settings .send) j 0)
@@ -159,7 +159,7 @@ module _ (c : Connection) (s : Shaped c) (r : inRange c ≡ true) (i : ℕ) (ins
       let q = k .sending j h in
       let (low, less) =
       leaves-front (c .settings .send) (c .sending .starts) (c .sending .waiting) i n (omega arith)
-      (omega (arith, s .send-starts, at-most (c .settings .bundle))) (omega (arith, s .waiting, at-most (c .settings .bundle))) j (q .0) in
+      (omega (arith, s .send-starts, at-most (c .settings .party .bundle))) (omega (arith, s .waiting, at-most (c .settings .party .bundle))) j (q .0) in
       (low, omega (arith, less, q .1))
 
   sent-turn : (1 ≤ w .turn) × (w .turn < many)

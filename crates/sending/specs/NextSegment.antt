@@ -6,7 +6,7 @@ use lib.Dec.{ltb}
 use lib.ListN.{length, getD, take}
 use lib.Seq.{sets}
 use Rattle.wire.specs.declared.segment.Segment.{Segment}
-use Rattle.wire.specs.declared.instances.Side.{Side}
+use Rattle.wire.specs.declared.instances.Party.{Party}
 use Rattle.wire.specs.Segments.{headerLength, encoded}
 use Rattle.wire.specs.Instances.{instances, protocolOf, modeOf}
 use Rattle.ready.specs.Ready.{chosen, turnAfter}
@@ -15,7 +15,7 @@ use Rattle.ready.specs.declared.Choice.the-variants.{Instance, Nobody}
 use Rattle.connection.specs.declared.Sending.{Sending}
 use Rattle.connection.specs.declared.Connection.{Connection}
 use Rattle.connection.specs.Closings.{isOpen}
-use Rattle.connection.specs.Ranges.{sends}
+use Rattle.range.specs.Ranges.{sends}
 use Rattle.connection.specs.Areas.{startsPast, countsLess}
 use Rattle.connection.specs.Parts.{withSending, firstWaiting}
 use Rattle.sending.specs.declared.Made.{Made}
@@ -37,8 +37,8 @@ abbrev pub much : Connection → ℕ → ℕ
 much c i = min (c .settings .limit) (getD (c .sending .waiting) i 0)
 
 -- the header: the caller's time, the mode and protocol number of what we send as instance i of the bundle, and the payload's length
-abbrev pub headed : ℕ → Side → ℕ → ℕ → ℕ → Segment
-headed b side time i n = record { time = time; mode = modeOf b side i; protocol = protocolOf b i; len = n }
+abbrev pub headed : Party → ℕ → ℕ → ℕ → Segment
+headed us time i n = record { time = time; mode = modeOf us i; protocol = protocolOf (us .bundle) i; len = n }
 
 -- the payload: the first bytes waiting
 abbrev pub payloadOf : Connection → List ℕ → ℕ → List ℕ
@@ -56,10 +56,10 @@ sentOf b w caps i n =
 -- 18 is given when the lent buffer is shorter than header and payload
 unfoldable pub serve : Connection → List ℕ → ℕ → List ℕ → ℕ → Told
 serve c store time buf i =
-    let b = c .settings .bundle in
+    let us = c .settings .party in
     cond (ltb (length buf) (headerLength + much c i)) (told (refused c 18) buf)
-    (told (record { number = 0; len = headerLength + much c i; connection = withSending c (sentOf b (c .sending) (c .settings .send) i (much c i)) })
-    (sets buf 0 (encoded (headed b (c .settings .side) time i (much c i)) ++ payloadOf c store i)))
+    (told (record { number = 0; len = headerLength + much c i; connection = withSending c (sentOf (us .bundle) (c .sending) (c .settings .send) i (much c i)) })
+    (sets buf 0 (encoded (headed us time i (much c i)) ++ payloadOf c store i)))
 
 abbrev pub byChoice : Connection → List ℕ → ℕ → List ℕ → Choice → Told
 byChoice c store time buf Nobody = told (refused c 4) buf
@@ -67,7 +67,7 @@ byChoice c store time buf (Instance i) = serve c store time buf i
 
 -- who is served: of the bundle's instances, by the bytes waiting and the turn
 abbrev pub chosenOf : Connection → Choice
-chosenOf c = chosen (take (instances (c .settings .bundle)) (c .sending .waiting)) (c .sending .turn)
+chosenOf c = chosen (take (instances (c .settings .party .bundle)) (c .sending .waiting)) (c .sending .turn)
 
 unfoldable pub nextOf : Connection → List ℕ → ℕ → List ℕ → Told
 nextOf c store time buf =

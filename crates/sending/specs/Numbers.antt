@@ -11,7 +11,7 @@ use Rattle.ready.specs.declared.Choice.the-variants.{Instance}
 use Rattle.connection.specs.declared.Connection.{Connection}
 use Rattle.connection.specs.Shapes.{Shaped}
 use Rattle.connection.specs.Closings.{isOpen}
-use Rattle.connection.specs.Ranges.{inRange, sends}
+use Rattle.range.specs.Ranges.{inRange, sends}
 use Rattle.sending.specs.declared.Made.{Made}
 use Rattle.sending.specs.NextSegment.{told, much, chosenOf, nextOf}
 
@@ -23,7 +23,7 @@ Unclosed c store = (sends c (length store) ≡ true) × (isOpen (c .gate) ≡ tr
 pub data When (c : Connection) (store : List ℕ) (buf : List ℕ) : ℕ → Type 0 where
   out-of-range : sends c (length store) ≡ false → When c store buf 23
   closed : sends c (length store) ≡ true → isOpen (c .gate) ≡ false → When c store buf 20
-  all-empty : Unclosed c store → ((i : ℕ) → i < instances (c .settings .bundle) → getD (c .sending .waiting) i 0 ≡ 0) → When c store buf 4
+  all-empty : Unclosed c store → ((i : ℕ) → i < instances (c .settings .party .bundle) → getD (c .sending .waiting) i 0 ≡ 0) → When c store buf 4
   -- the buffer is shorter than header and payload
   no-room : {i : ℕ} → Unclosed c store → chosenOf c ≡ Instance i → length buf < headerLength + much c i
       → When c store buf 18

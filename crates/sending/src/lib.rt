@@ -4,29 +4,24 @@
 use base::smaller;
 use connection::Connection;
 use connection::Sending;
-use connection::areas::fewer;
-use connection::areas::past;
+use connection::areas::leave;
 use connection::areas::read;
-use connection::parts::at;
-use connection::parts::is_open;
-use connection::parts::with_sending;
-use connection::range::sends;
+use connection::closings::is_open;
+use range::Marks;
+use range::in_range;
 use ready::Choice;
 use ready::turn_after;
-use wire::instances::INSTANCES;
-use wire::instances::Side;
+use wire::instances::Party;
 use wire::instances::count;
 use wire::segment::HEADER;
 use wire::segment::Segment;
 ghost use mathlib.Core.Path.{_≡_};
-ghost use Prim.Native.Nat.{_+_, _<_, _≤_, _^_};
-ghost use lib.ListN.{length, getD};
+ghost use Prim.Native.Nat.{_<_, _≤_};
+ghost use lib.ListN.{length};
 ghost use lib.Seq.{sets};
 ghost use Rattle.wire.specs.Segments.{headerLength, encoded};
 ghost use Rattle.wire.specs.Instances.{instances};
-ghost use Rattle.connection.specs.Parts.{InSend};
-ghost use Rattle.sending.specs.NextSegment.{told, refused, headed, sentOf, serve, byChoice, nextOf};
-ghost use Rattle.sending.specs.Inside.{Chosen};
+ghost use Rattle.sending.specs.NextSegment.{told, refused, headed, nextOf};
 
 // The number; where it is 0, how long header and payload are together; and the record.
 pub struct Made {
@@ -47,85 +42,86 @@ fn refused(c: Connection, number: u64) -> Made
 }
 
 // The header of n bytes of instance i.
-fn put_header(buf: &mut [u8], bundle: u64, side: Side, time: u32, i: usize, n: usize)
-    requires { ⌜ (i < instances bundle) × (n ≤ 65535) × (headerLength ≤ length (now buf)) ⌝ }
-    ensures { λ _. ⌜ now (buf .exit) ≡ sets (now (buf .entry)) 0 (encoded (headed bundle side time i n)) ⌝ }
+fn put_header(buf: &mut [u8], party: Party, time: u32, i: usize, n: usize)
+    requires { ⌜ (i < instances (party .bundle)) × (n ≤ 65535) × (headerLength ≤ length (now buf)) ⌝ }
+    ensures { λ _. ⌜ now (buf .exit) ≡ sets (now (buf .entry)) 0 (encoded (headed party time i n)) ⌝ }
 {
     let header = Segment {
         time,
-        mode: wire::instances::mode(bundle, side, i),
-        protocol: wire::instances::protocol(bundle, i),
+        mode: wire::instances::mode(party, i),
+        protocol: wire::instances::protocol(party.bundle, i),
         len: n as u16,
     };
     wire::segment::write(buf, header);
 }
 
-// n bytes of instance i are sent, and the turn moves, round the bundle's instances.
-fn sent(bundle: u64, w: Sending, caps: [u64; INSTANCES], i: usize, n: u64) -> Sending
-    requires { ⌜ (i < instances bundle) × (0 < getD caps i 0) × (getD (w .starts) i 0 + n < 2 ^ 32) × (n ≤ getD (w .waiting) i 0) ⌝ }
-    ensures { λ r. ⌜ r ≡ sentOf bundle w caps i n ⌝ }
+// Makes the next segment at the front of the lent buffer: 23, 20, notice 4, 18, and else the smaller of S and the bytes
+// waiting of whoever is chosen. The caller gives the time. The record is taken apart once, and put together once.
+pub fn next_segment(c: Connection, store: &[u8], time: u32, buf: &mut [u8]) -> Made
+    ensures { λ r. ⌜ told r (now (buf .exit)) ≡ nextOf c (now (store .entry)) time (now (buf .entry)) ⌝ }
 {
-    let starts = w.starts;
-    let waiting = w.waiting;
-    let many = count(bundle);
-    Sending {
-        starts: past(caps, starts, i, n),
-        waiting: fewer(waiting, i, n),
-        turn: turn_after(many, i, w.turn),
+    let s = c.settings;
+    let r = c.receiving;
+    let w = c.sending;
+    let t = c.talk;
+    let gate = c.gate;
+    let party = s.party;
+    let header = r.header;
+    let marks = Marks {
+        limit: s.limit,
+        turn: w.turn,
+        bytes: header.count,
+        instance: r.instance,
+        rest: r.rest,
+        accepted: t.accepted,
+        gate,
+    };
+    let range = in_range(
+        party.bundle,
+        &s.receive,
+        &r.starts,
+        &r.held,
+        &s.send,
+        &w.starts,
+        &w.waiting,
+        &t.states,
+        marks,
+    );
+    if !base::and(range.ok, store.len() as u64 == range.send) {
+        return refused(c, 23);
     }
-}
-
-// The smaller of S and the bytes waiting of instance i, where header and payload have room.
-fn serve(c: Connection, store: &[u8], time: u32, buf: &mut [u8], i: usize) -> Made
-    requires { ⌜ InSend c (now store) i ⌝ }
-    ensures { λ r. ⌜ told r (now (buf .exit)) ≡ serve c (now (store .entry)) time (now (buf .entry)) i ⌝ }
-{
-    let settings = c.settings;
-    let caps = settings.send;
-    let sending = c.sending;
-    let starts = sending.starts;
-    let waiting = sending.waiting;
-    let n = smaller(settings.limit as usize, at(waiting, i) as usize);
+    if !is_open(gate) {
+        return refused(c, 20);
+    }
+    let many = count(party.bundle);
+    let mut waiting = w.waiting;
+    let choice = ready::choose(many, ready::word(waiting, many), w.turn as usize);
+    let Choice::Instance(i) = choice else {
+        return refused(c, 4);
+    };
+    let n = smaller(s.limit as usize, waiting[i] as usize);
     let len = HEADER + n;
     if buf.len() < len {
         return refused(c, 18);
     }
-    let side = settings.side;
-    put_header(buf, settings.bundle, side, time, i, n);
-    read(buf, HEADER, store, &caps, i, at(starts, i), n);
+    put_header(buf, party, time, i, n);
+    let mut starts = w.starts;
+    read(buf, HEADER, store, &s.send, i, starts[i], n);
+    leave(&s.send, &mut starts, &mut waiting, i, n as u64);
+    let sending = Sending {
+        starts,
+        waiting,
+        turn: turn_after(many, i, w.turn),
+    };
     Made {
         number: 0,
         len,
-        connection: with_sending(c, sent(settings.bundle, sending, caps, i, n as u64)),
+        connection: Connection {
+            settings: s,
+            receiving: r,
+            sending,
+            talk: t,
+            gate,
+        },
     }
-}
-
-// Whoever is chosen is served.
-fn by_choice(c: Connection, store: &[u8], time: u32, buf: &mut [u8], choice: Choice) -> Made
-    requires { ⌜ Chosen c (now store) choice ⌝ }
-    ensures { λ r. ⌜ told r (now (buf .exit)) ≡ byChoice c (now (store .entry)) time (now (buf .entry)) choice ⌝ }
-{
-    match choice {
-        Choice::Nobody => refused(c, 4),
-        Choice::Instance(i) => serve(c, store, time, buf, i),
-    }
-}
-
-// Makes the next segment at the front of the lent buffer. The caller gives the time.
-pub fn next_segment(c: Connection, store: &[u8], time: u32, buf: &mut [u8]) -> Made
-    ensures { λ r. ⌜ told r (now (buf .exit)) ≡ nextOf c (now (store .entry)) time (now (buf .entry)) ⌝ }
-{
-    if !sends(c, store.len()) {
-        return refused(c, 23);
-    }
-    let gate = c.gate;
-    if !is_open(gate) {
-        return refused(c, 20);
-    }
-    let sending = c.sending;
-    let waiting = sending.waiting;
-    let settings = c.settings;
-    let n = count(settings.bundle);
-    let choice = ready::choose(n, ready::word(waiting, n), sending.turn as usize);
-    by_choice(c, store, time, buf, choice)
 }

@@ -1,16 +1,16 @@
--- What only this crate's own functions cite.
-use Prim.Native.Nat.{ℕ}
-use mathlib.Core.Bool.{Bool, cond}
+-- What only this crate's own functions cite: what a record in range with its receive store has of one of its instances.
+use Prim.Native.Nat.{ℕ, _+_, _<_, _≤_}
 use mathlib.Core.List.{List}
-use Rattle.ring.specs.Ring.{around}
-use Rattle.item.specs.declared.Verdict.{Verdict}
-use Rattle.item.specs.declared.Verdict.the-variants.{Whole, Bad, Incomplete}
-use Rattle.rows.specs.declared.Protocol.{Protocol}
-use Rattle.judging.specs.declared.Judged.{Judged}
-use Rattle.judging.specs.Judging.{unjudged, judgedOf}
+use lib.ListN.{length, getD}
+use Rattle.ring.specs.Ring.{baseOf}
+use Rattle.wire.specs.Instances.{most}
 
--- what the verdict on bytes around an area comes to
-abbrev pub heardAs : List ℕ → ℕ → Protocol → ℕ → Bool → Verdict → Judged
-heardAs area start p state open′ Incomplete = unjudged (cond open′ 1 20)
-heardAs area start p state open′ (Bad at) = unjudged 14
-heardAs area start p state open′ (Whole n) = judgedOf p state (around area start n)
+-- The area of instance i is in a store of n bytes, and what is held, from the place `first` on, is in the area.
+pub record Held (caps : List ℕ) (n i first count : ℕ) : Type 0 where
+  pub below : i < most
+  pub listed : i < length caps
+  pub stored : baseOf caps i + getD caps i 0 ≤ n
+  pub some : 0 < getD caps i 0
+  pub small : getD caps i 0 ≤ 131072
+  pub placed : first < getD caps i 0
+  pub within : count ≤ getD caps i 0

@@ -1,26 +1,22 @@
--- Take (document 01, "Numbers and their order", and document 02, K1: 10 above the bundle's last instance; 19 from 1 up; at Done, notice 3 with
--- nothing held, else 17; our agency, notice 2; incomplete, notice 1, or 20 if closed; 14; 15; 16; 18; 23 before all others).
+-- Take (document 01, "Numbers and their order", and document 02, K1: 10 above the bundle's last instance; then what is heard of the instance, from 19
+-- to 16; 18; 23 before all others).
 use Prim.Native.Nat.{ℕ}
 use mathlib.Core.Bool.{cond}
 use mathlib.Core.List.{List}
 use lib.Dec.{eqb, ltb}
-use lib.ListN.{length, getD}
+use lib.ListN.{length}
 use lib.Seq.{sets}
 use Rattle.wire.specs.Instances.{instances}
-use Rattle.item.specs.declared.Verdict.{Verdict}
-use Rattle.item.specs.declared.Verdict.the-variants.{Whole, Bad, Incomplete}
-use Rattle.item.specs.Verdict.{verdict}
-use Rattle.rows.specs.Rows.{doneOf}
 use Rattle.messages.specs.Matching.{begun}
 use Rattle.connection.specs.declared.Receiving.{Receiving}
 use Rattle.connection.specs.declared.Connection.{Connection}
 use Rattle.connection.specs.declared.Closing.the-variants.{Of}
-use Rattle.connection.specs.Closings.{isOpen, closedBy, takeFault}
-use Rattle.connection.specs.Ranges.{receives}
+use Rattle.connection.specs.Closings.{closedBy, takeFault}
+use Rattle.range.specs.Ranges.{receives}
 use Rattle.connection.specs.Areas.{startsPast, countsLess}
 use Rattle.connection.specs.Parts.{withReceiving, withTalk, withGate, firstHeld, heldOf}
 use Rattle.judging.specs.declared.Judged.{Judged}
-use Rattle.judging.specs.Judging.{spokenBy, stateOf, oursNow, barred, movedBy, unjudged, judgedOf}
+use Rattle.judging.specs.Judging.{View, viewOf, heard, movedBy}
 use Rattle.taking.specs.declared.Taken.{Taken}
 
 -- an answer, and what the lent buffer then holds
@@ -31,24 +27,9 @@ pub record Told : Type 0 where
 abbrev pub told : Taken → List ℕ → Told
 told t buf = record { answer = t; buffer = buf }
 
--- ---- judging
-
--- 19; at Done, notice 3 with nothing held, else 17; our agency, notice 2; and else 0: the bytes decide
-abbrev pub earlyOf : Connection → ℕ → ℕ
-earlyOf c i =
-    cond (barred (c .talk) i) 19
-    (cond (eqb (stateOf c i) (doneOf (spokenBy c i))) (cond (eqb (getD (c .receiving .held) i 0) 0) 3 17)
-    (cond (oursNow c i) 2 0))
-
--- incomplete, notice 1, or 20 if closed; 14; 15; 16
-abbrev pub byVerdict : Connection → List ℕ → ℕ → Verdict → Judged
-byVerdict c store i Incomplete = unjudged (cond (isOpen (c .gate)) 1 20)
-byVerdict c store i (Bad at) = unjudged 14
-byVerdict c store i (Whole n) = judgedOf (spokenBy c i) (stateOf c i) (firstHeld c store i n)
-
--- what take answers behind 23 and 10, up to 16
-unfoldable pub judgeOf : Connection → List ℕ → ℕ → Judged
-judgeOf c store i = cond (eqb (earlyOf c i) 0) (byVerdict c store i (verdict (heldOf c store i))) (unjudged (earlyOf c i))
+-- the view that a record and its receive store give of instance i: the bytes are those held
+abbrev pub seen : Connection → List ℕ → ℕ → View
+seen c store i = viewOf c i (heldOf c store i)
 
 -- ---- refusals
 
@@ -93,5 +74,5 @@ byJudged c store i buf j = cond (eqb (j .number) 0) (hand c store i buf j) (told
 unfoldable pub takeOf : Connection → List ℕ → ℕ → List ℕ → Told
 takeOf c store i buf =
     cond (receives c (length store))
-    (cond (ltb i (instances (c .settings .bundle))) (byJudged c store i buf (judgeOf c store i)) (told (refused c 10) buf))
+    (cond (ltb i (instances (c .settings .party .bundle))) (byJudged c store i buf (heard (seen c store i))) (told (refused c 10) buf))
     (told (refused c 23) buf)

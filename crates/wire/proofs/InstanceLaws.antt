@@ -2,21 +2,25 @@
 -- Assumes nothing.
 use mathlib.Core.Path.{_≡_, refl, sym, ap, _∙_}
 use mathlib.Core.Bool.{Bool, true, false, true≢false, cond, not, _&&_}
-use mathlib.Core.List.{List, [], _∷_, _++_}
-use Prim.Native.Nat.{ℕ, zero, suc, _+_, _-_, _^_, _<_, _≤_}
+use mathlib.Core.List.{List, [], _∷_, _++_, map}
+use Prim.Native.Nat.{ℕ, zero, suc, _+_, _-_, _*_, _/_, _%_, _^_, _<_, _≤_}
+use native.Mathlib.Nat.{add-zero, suc-mul, mul-le-mul-right, mul-add-div-right, mul-add-mod-self-right, div-eq-of-lt, mod-eq-of-lt}
 use native.Mathlib.Omega.{arith}
 use lib.Dec.{T, eqb, ltb, leb, eqb→eq, ltb→lt, leb→le}
 use lib.ListN.{length, getD}
 use borrow.Author.Tests.{eq-eqb, ne-eqb, eqb-false, ltb-true, ltb-false}
 use mathlib.Core.Logic.{_↔_}
 use mathlib.Core.Option.{Option, none, some}
-use Rattle.base.proofs.Conds.{by-test, cond-cases, and-left, and-right}
-use Rattle.base.proofs.Table.{every, at, passes, rows}
+use Rattle.base.specs.Below.{allBelow}
+use Rattle.base.proofs.Conds.{by-test, cond-cases, and-left, and-right, below-at}
+use Rattle.base.proofs.ListLaws.{getD-map}
+use Rattle.base.proofs.Table.{every, at}
 use Rattle.wire.specs.declared.instances.Side.{Side}
 use Rattle.wire.specs.declared.instances.Side.the-variants.{Dialler, Accepter}
+use Rattle.wire.specs.declared.instances.Party.{Party}
 use Rattle.wire.specs.declared.instances.Route.{Route}
 use Rattle.wire.specs.declared.instances.Route.the-variants.{Unknown, Wrong, To}
-use Rattle.wire.specs.Instances.{Instance, Role, initiator, responder, ofSide, sided, bundles, known, bundleOf, instances, most, roleOf, protocolOf, modeOf, modeFrom, initiates, find, takes, orElse, routeOf, Within, other, pairOf, OneWay}
+use Rattle.wire.specs.Instances.{Instance, Role, initiator, responder, ofSide, sided, bundles, known, bundleOf, instances, most, roleOf, protocolOf, modeOf, modeFrom, initiates, find, takes, orElse, routeOf, Within, otherOf, pairOf, OneWay}
 use Rattle.wire.specs.Instances as instances
 use Rattle.wire.specs.Inside.{numbers, markOf, byMode}
 
@@ -137,59 +141,37 @@ are-same (To i) Unknown t = absurd t
 are-same (To i) (Wrong j) t = absurd t
 are-same (To i) (To j) t = ap To (eqb→eq i j t)
 
--- the table of the code, a table for each bundle
-unfoldable pub table : List (List (List ℕ))
-table =
-    ((0 ∷ 0 ∷ []) ∷ (255 ∷ 255 ∷ []) ∷ (2 ∷ 1 ∷ []) ∷ (4 ∷ 3 ∷ []) ∷ (6 ∷ 5 ∷ [])
-    ∷ (255 ∷ 255 ∷ []) ∷ (255 ∷ 255 ∷ []) ∷ (255 ∷ 255 ∷ []) ∷ (8 ∷ 7 ∷ []) ∷ [])
-    ∷ ((0 ∷ 0 ∷ []) ∷ (255 ∷ 255 ∷ []) ∷ (255 ∷ 255 ∷ []) ∷ (255 ∷ 255 ∷ []) ∷ (255 ∷ 255 ∷ [])
-    ∷ (1 ∷ 1 ∷ []) ∷ (2 ∷ 2 ∷ []) ∷ (3 ∷ 3 ∷ []) ∷ (255 ∷ 255 ∷ []) ∷ [])
-    ∷ []
+-- our end of a bundle, on one side
+abbrev party : Side → ℕ → Party
+party side b = record { bundle = b; side = side }
+
+-- the instance that a route names, if any; both sides' routes name the same
+unfoldable pub named : Route → ℕ
+named Unknown = 255
+named (Wrong i) = i
+named (To i) = i
+
+unfoldable pub entry : ℕ → ℕ → ℕ → ℕ
+entry b p m = named (routeOf (party Dialler b) p m)
 
 -- an entry is right: none for an unknown number, else an instance
-right : Side → ℕ → ℕ → ℕ → ℕ → Bool
-right side b p m e =
-    cond (eqb e 255) (same Unknown (routeOf b side p m)) (ltb e (instances b) && same (byMode b side m e) (routeOf b side p m))
+right : Party → ℕ → ℕ → Bool
+right us p m =
+    let e = entry (us .bundle) p m in
+    cond (eqb e 255) (same Unknown (routeOf us p m)) (ltb e (instances (us .bundle)) && same (byMode us m e) (routeOf us p m))
 
-rightly : Side → ℕ → List (List ℕ) → Bool
-rightly side b t = eqb (length t) numbers && every [] (passes (right side b) 2) 0 t
+rightly : Side → ℕ → Bool
+rightly side b = allBelow (λ p. allBelow (right (party side b) p) 2) numbers
 
-all-right : (side : Side) → T (every [] (rightly side) 0 table)
-unfolding rightly right same table routeOf byMode find bundleOf instances
+all-right : (side : Side) → T (allBelow (rightly side) (length bundles))
+unfolding allBelow rightly right entry named same routeOf byMode find bundleOf instances
 all-right Dialler = tt
 all-right Accepter = tt
 
-abbrev pub entry : ℕ → ℕ → ℕ → ℕ
-entry b p m = getD (getD (getD table b []) p []) m 0
-
-module _ (b : ℕ) (side : Side) (p m : ℕ) (here : b < length bundles) (low : p < numbers) (two : m < 2) where
-  tested : T (right side b p m (entry b p m))
-  unfolding rightly table
-  tested =
-      let t : List (List ℕ) = getD table b [] in
-      let test : T (rightly side b t) = at [] (rightly side) table (all-right side) b here in
-      let long : length t ≡ numbers = eqb→eq (length t) numbers (and-left (eqb (length t) numbers) (every [] (passes (right side b) 2) 0 t) test) in
-      rows (right side b) 2 t (and-right (eqb (length t) numbers) (every [] (passes (right side b) 2) 0 t) test) p m (omega arith) two
-
-  -- no instance: the number is unknown
-  pub none-known : entry b p m ≡ 255 → Unknown ≡ routeOf b side p m
-  unfolding right
-  none-known e = are-same Unknown (routeOf b side p m) (rw (eq-eqb (entry b p m) 255 e) at tested)
-
-  -- an instance: it is one, and the mode decides
-  pub one-known : (entry b p m ≡ 255 → ⊥) → (entry b p m < instances b) × (byMode b side m (entry b p m) ≡ routeOf b side p m)
-  unfolding right
-  one-known n =
-      let e = entry b p m in
-      let low = ltb e (instances b) in
-      let said = same (byMode b side m e) (routeOf b side p m) in
-      let t : T (low && said) = rw (ne-eqb e 255 n) at tested in
-      (ltb→lt e (instances b) (and-left low said t), are-same (byMode b side m e) (routeOf b side p m) (and-right low said t))
-
 -- an unknown bundle knows no number
-pub no-bundle : (b : ℕ) (side : Side) (p m : ℕ) → length bundles ≤ b → Unknown ≡ routeOf b side p m
+pub no-bundle : (us : Party) (p m : ℕ) → length bundles ≤ us .bundle → Unknown ≡ routeOf us p m
 unfolding routeOf find
-no-bundle b side p m h = rw (unknown-none b h)
+no-bundle us p m h = rw (unknown-none (us .bundle) h)
 
 -- every protocol number of a bundle has a row
 numbered : ℕ → ℕ → Instance → Bool
@@ -203,54 +185,94 @@ pub protocol-row : (b i : ℕ) → i < instances b → protocolOf b i < numbers
 unfolding numbered
 protocol-row b i h = ltb→lt (protocolOf b i) numbers (of-instances numbered all-numbered b i h)
 
--- a number past the table is unknown
-pub past : (b : ℕ) (side : Side) (p m : ℕ) → numbers ≤ p → Unknown ≡ routeOf b side p m
-unfolding routeOf instances
-past b side p m h =
-    let no : (j : ℕ) → j < instances b → eqb (protocolOf b j) p ≡ false = λ j l. ne-eqb (protocolOf b j) p (λ e. omega (arith, protocol-row b j l)) in
-    let one : find (takes side p m) 0 (bundleOf b) ≡ none = find-none (takes side p m) nobody (bundleOf b) 0 (λ j l. rw (no j l)) in
-    let two : find (λ (x : Instance). eqb (x .protocol) p) 0 (bundleOf b) ≡ none = find-none (λ (x : Instance). eqb (x .protocol) p) nobody (bundleOf b) 0 no in
-    rw (one, two)
+-- ---- the tables of the code
 
--- ---- the tables by bundle and instance
+-- what f says at n places from k on: a table
+unfoldable pub table : {A : Type 0} → (ℕ → A) → ℕ → ℕ → List A
+table f k zero = []
+table f k (suc n) = f k ∷ table f (suc k) n
 
-unfoldable pub counts : List ℕ
-counts = 9 ∷ 4 ∷ []
+in-table : {A : Type 0} (f : ℕ → A) (d : A) (k n i : ℕ) → i < n → getD (table f k n) i d ≡ f (k + i)
+unfolding table
+in-table f d k zero i h = absurd (omega arith)
+in-table f d k (suc n) zero h = ap f (omega arith)
+in-table f d k (suc n) (suc i) h = in-table f d (suc k) n i (omega arith) ∙ ap f (omega arith)
 
-unfoldable pub protocols : List (List ℕ)
-protocols = (0 ∷ 2 ∷ 2 ∷ 3 ∷ 3 ∷ 4 ∷ 4 ∷ 8 ∷ 8 ∷ []) ∷ (0 ∷ 5 ∷ 6 ∷ 7 ∷ 0 ∷ 0 ∷ 0 ∷ 0 ∷ 0 ∷ []) ∷ []
+-- a table by bundle, w places for each
+abbrev pub byBundle : {A : Type 0} → ℕ → (ℕ → ℕ → A) → List A
+byBundle w f = table (λ k. f (k / w) (k % w)) 0 (length bundles * w)
 
-unfoldable pub roles : List (List ℕ)
-roles = (2 ∷ 0 ∷ 1 ∷ 0 ∷ 1 ∷ 0 ∷ 1 ∷ 0 ∷ 1 ∷ []) ∷ (2 ∷ 2 ∷ 2 ∷ 2 ∷ 0 ∷ 0 ∷ 0 ∷ 0 ∷ 0 ∷ []) ∷ []
+by-bundle : {A : Type 0} (w : ℕ) (f : ℕ → ℕ → A) (d : A) (b i : ℕ) → b < length bundles → i < w → getD (byBundle w f) (b * w + i) d ≡ f b i
+by-bundle w f d b i here h =
+    let some : 0 < w = omega arith in
+    let k : 0 + (b * w + i) ≡ b * w + i = omega arith in
+    let q : (b * w + i) / w ≡ b = mul-add-div-right some b i ∙ rw (div-eq-of-lt h) (add-zero b) in
+    let r : (b * w + i) % w ≡ i = mul-add-mod-self-right b w i ∙ mod-eq-of-lt h in
+    let in-all : b * w + i < length bundles * w = omega (arith, mul-le-mul-right w here, suc-mul b w) in
+    in-table (λ k. f (k / w) (k % w)) d 0 (length bundles * w) (b * w + i) in-all ∙ rw (k, q, r)
 
-counted : ℕ → List Instance → Bool
-counted b xs = eqb (getD counts b 0) (length xs)
+-- how many instances, which protocol number, which role, and which instance by number and mode
+abbrev pub counts : List ℕ
+counts = map (λ (xs : List Instance). length xs) bundles
 
 pub count-right : (b : ℕ) → b < length bundles → getD counts b 0 ≡ instances b
-unfolding counts counted instances
-count-right b h = eqb→eq (getD counts b 0) (instances b) (of-bundles counted tt b h)
+unfolding instances bundleOf
+count-right b h = getD-map (λ (xs : List Instance). length xs) bundles b [] 0 h
 
-named : ℕ → ℕ → Instance → Bool
-named b i x = eqb (getD (getD protocols b []) i 0) (x .protocol)
+abbrev pub protocols : List ℕ
+protocols = byBundle most protocolOf
 
-all-named : T (every [] (each named) 0 bundles)
-unfolding named protocols
-all-named = tt
+pub protocol-right : (b i : ℕ) → i < instances b → getD protocols (b * most + i) 0 ≡ protocolOf b i
+protocol-right b i h = by-bundle most protocolOf 0 b i (known-some b i h) (omega (arith, at-most b))
 
-pub protocol-right : (b i : ℕ) → i < instances b → getD (getD protocols b []) i 0 ≡ protocolOf b i
-unfolding named
-protocol-right b i h = eqb→eq (getD (getD protocols b []) i 0) (protocolOf b i) (of-instances named all-named b i h)
+abbrev mark : ℕ → ℕ → ℕ
+mark b i = markOf (roleOf b i)
 
-played : ℕ → ℕ → Instance → Bool
-played b i x = eqb (getD (getD roles b []) i 0) (markOf (x .role))
+abbrev pub roles : List ℕ
+roles = byBundle most mark
 
-all-played : T (every [] (each played) 0 bundles)
-unfolding played roles markOf
-all-played = tt
+pub role-right : (b i : ℕ) → i < instances b → getD roles (b * most + i) 0 ≡ markOf (roleOf b i)
+role-right b i h = by-bundle most mark 0 b i (known-some b i h) (omega (arith, at-most b))
 
-pub role-right : (b i : ℕ) → i < instances b → getD (getD roles b []) i 0 ≡ markOf (roleOf b i)
-unfolding played
-role-right b i h = eqb→eq (getD (getD roles b []) i 0) (markOf (roleOf b i)) (of-instances played all-played b i h)
+abbrev row : ℕ → ℕ → List ℕ
+row b p = entry b p 0 ∷ entry b p 1 ∷ []
+
+abbrev pub routes : List (List ℕ)
+routes = byBundle numbers row
+
+pub route-right : (b p m : ℕ) → b < length bundles → p < numbers → m < 2 → getD (getD routes (b * numbers + p) []) m 0 ≡ entry b p m
+route-right b p zero here low two = ap (λ (r : List ℕ). getD r 0 0) (by-bundle numbers row [] b p here low)
+route-right b p (suc zero) here low two = ap (λ (r : List ℕ). getD r 1 0) (by-bundle numbers row [] b p here low)
+route-right b p (suc (suc m)) here low two = absurd (omega arith)
+
+module _ (us : Party) (p m : ℕ) (here : us .bundle < length bundles) (low : p < numbers) (two : m < 2) where
+  tested : T (right us p m)
+  unfolding rightly
+  tested =
+      let test = below-at (rightly (us .side)) (length bundles) (all-right (us .side)) (us .bundle) here in
+      below-at (right us p) 2 (below-at (λ q. allBelow (right us q) 2) numbers test p low) m two
+
+  -- what the code finds
+  abbrev e : ℕ
+  e = getD (getD routes (us .bundle * numbers + p) []) m 0
+
+  is-entry : e ≡ entry (us .bundle) p m
+  is-entry = route-right (us .bundle) p m here low two
+
+  -- no instance: the number is unknown
+  pub none-known : e ≡ 255 → Unknown ≡ routeOf us p m
+  unfolding right
+  none-known q = are-same Unknown (routeOf us p m) (rw (eq-eqb (entry (us .bundle) p m) 255 (sym is-entry ∙ q)) at tested)
+
+  -- an instance: it is one, and the mode decides
+  pub one-known : (e ≡ 255 → ⊥) → (e < instances (us .bundle)) × (byMode us m e ≡ routeOf us p m)
+  unfolding right
+  one-known n =
+      let i = entry (us .bundle) p m in
+      let small = ltb i (instances (us .bundle)) in
+      let said = same (byMode us m i) (routeOf us p m) in
+      let t : T (small && said) = rw (ne-eqb i 255 (λ q. n (is-entry ∙ q))) at tested in
+      rw is-entry (ltb→lt i (instances (us .bundle)) (and-left small said t), are-same (byMode us m i) (routeOf us p m) (and-right small said t))
 
 -- what the number of a role says
 pub role-sided : (r : Role) → eqb (markOf r) 2 ≡ sided r
@@ -275,10 +297,10 @@ role-side ofSide e = refl
 
 module _ (side : Side) where
   reaches : ℕ → ℕ → Instance → Bool
-  reaches b i x = same (routeOf b side (protocolOf b i) (1 - modeOf b side i)) (To i)
+  reaches b i x = same (routeOf (party side b) (protocolOf b i) (1 - modeOf (party side b) i)) (To i)
 
   arriving : ℕ → ℕ → Instance → Bool
-  arriving b i x = same (routeOf b (other side) (protocolOf b i) (modeOf b side i)) (To (pairOf b i))
+  arriving b i x = same (routeOf (otherOf (party side b)) (protocolOf b i) (modeOf (party side b) i)) (To (pairOf b i))
 
 all-reached : (side : Side) → T (every [] (each (reaches side)) 0 bundles)
 unfolding reaches same routeOf find bundleOf
@@ -297,21 +319,26 @@ all-back : T (every [] (each back) 0 bundles)
 unfolding back find pairOf bundleOf
 all-back = tt
 
-reached : (b : ℕ) (side : Side) (i : ℕ) → i < instances b → routeOf b side (protocolOf b i) (1 - modeOf b side i) ≡ To i
-unfolding reaches
-reached b side i h =
-    are-same (routeOf b side (protocolOf b i) (1 - modeOf b side i)) (To i) (of-instances (reaches side) (all-reached side) b i h)
+module _ (us : Party) where
+  abbrev b : ℕ
+  b = us .bundle
 
-arrives : (b : ℕ) (side : Side) (i : ℕ) → i < instances b → routeOf b (other side) (protocolOf b i) (modeOf b side i) ≡ To (pairOf b i)
-unfolding arriving
-arrives b side i h =
-    are-same (routeOf b (other side) (protocolOf b i) (modeOf b side i)) (To (pairOf b i)) (of-instances (arriving side) (all-arrive side) b i h)
+  reached : (i : ℕ) → i < instances b → routeOf us (protocolOf b i) (1 - modeOf us i) ≡ To i
+  unfolding reaches
+  reached i h =
+      are-same (routeOf us (protocolOf b i) (1 - modeOf us i)) (To i) (of-instances (reaches (us .side)) (all-reached (us .side)) b i h)
+
+  arrives : (i : ℕ) → i < instances b → routeOf (otherOf us) (protocolOf b i) (modeOf us i) ≡ To (pairOf b i)
+  unfolding arriving
+  arrives i h =
+      are-same (routeOf (otherOf us) (protocolOf b i) (modeOf us i)) (To (pairOf b i))
+      (of-instances (arriving (us .side)) (all-arrive (us .side)) b i h)
 
 paired : (b i : ℕ) → i < instances b → pairOf b (pairOf b i) ≡ i
 unfolding back
 paired b i h = eqb→eq (pairOf b (pairOf b i)) i (of-instances back all-back b i h)
 
--- a segment goes to i only where i takes it
+-- what a search, and then another, say of a route
 wrong-or-unknown : (o : Option ℕ) (i : ℕ) → orElse o Wrong Unknown ≡ To i → ⊥
 wrong-or-unknown (some j) i e = let z : _≡_ {A = ℕ} 0 1 = cc in omega arith
 wrong-or-unknown none i e = let z : _≡_ {A = ℕ} 0 1 = cc in omega arith
@@ -320,75 +347,113 @@ found : (o q : Option ℕ) (i : ℕ) → orElse o To (orElse q Wrong Unknown) �
 found (some j) q i e = cc
 found none q i e = absurd (wrong-or-unknown q i e)
 
-one-mode : (m : ℕ) (b : Bool) → T (eqb m (modeFrom (not b))) → m ≡ 1 - modeFrom b
-one-mode m true t = eqb→eq m 1 t
-one-mode m false t = eqb→eq m 0 t
-
-only : (b : ℕ) (side : Side) (p m i : ℕ) → routeOf b side p m ≡ To i → (p ≡ protocolOf b i) × (m ≡ 1 - modeOf b side i)
-unfolding routeOf
-only b side p m i e =
-    of (find-some (takes side p m) nobody (bundleOf b) 0 i (found (find (takes side p m) 0 (bundleOf b)) (find (λ (x : Instance). eqb (x .protocol) p) 0 (bundleOf b)) i e))
-  where
-    of : Found (takes side p m) nobody (bundleOf b) 0 i → (p ≡ protocolOf b i) × (m ≡ 1 - modeOf b side i)
-    of (j, q, l, t) =
-        let same-place : i ≡ j = omega arith in
-        let a = initiates side (roleOf b j) in
-        let u : T (takes side p m (instances.at b j)) = rw t tt in
-        rw same-place (
-          sym (eqb→eq (protocolOf b j) p (and-left (eqb (protocolOf b j) p) (eqb m (modeFrom (not a))) u)),
-          one-mode m a (and-right (eqb (protocolOf b j) p) (eqb m (modeFrom (not a))) u),
-        )
-
--- an unknown number is that of no instance
 known-not : (o q : Option ℕ) → orElse o To (orElse q Wrong Unknown) ≡ Unknown → q ≡ none
 known-not (some j) q e = absurd (let z : _≡_ {A = ℕ} 0 1 = cc in omega arith)
 known-not none (some j) e = absurd (let z : _≡_ {A = ℕ} 0 1 = cc in omega arith)
 known-not none none e = refl
 
-unknown : (b : ℕ) (side : Side) (p m : ℕ) → (routeOf b side p m ≡ Unknown) ↔ ((i : ℕ) → i < instances b → p ≡ protocolOf b i → ⊥)
-unfolding routeOf instances
-unknown b side p m = (to, from)
-  where
-    f : Instance → Bool
-    f x = eqb (x .protocol) p
-
-    to : routeOf b side p m ≡ Unknown → (i : ℕ) → i < instances b → p ≡ protocolOf b i → ⊥
-    to e i h q =
-        let n : find f 0 (bundleOf b) ≡ none = known-not (find (takes side p m) 0 (bundleOf b)) (find f 0 (bundleOf b)) e in
-        eqb-false (protocolOf b i) p (find-none-all f nobody (bundleOf b) 0 n i h) (sym q)
-
-    from : ((i : ℕ) → i < instances b → p ≡ protocolOf b i → ⊥) → routeOf b side p m ≡ Unknown
-    from h =
-        let no : (j : ℕ) → j < instances b → eqb (protocolOf b j) p ≡ false = λ j l. ne-eqb (protocolOf b j) p (λ e. h j l (sym e)) in
-        rw (
-          find-none (takes side p m) nobody (bundleOf b) 0 (λ j l. rw (no j l)),
-          find-none f nobody (bundleOf b) 0 no,
-        )
-
--- a segment is wrong at i where i has its number, and nobody takes it
 wrong-found : (o q : Option ℕ) (i : ℕ) → orElse o To (orElse q Wrong Unknown) ≡ Wrong i → (o ≡ none) × (q ≡ some i)
 wrong-found (some j) q i e = absurd (let z : _≡_ {A = ℕ} 0 1 = cc in omega arith)
 wrong-found none (some j) i e = (refl, cc)
 wrong-found none none i e = absurd (let z : _≡_ {A = ℕ} 0 1 = cc in omega arith)
 
+-- a mode is the one or the other
+one-mode : (m : ℕ) (b : Bool) → T (eqb m (modeFrom (not b))) → m ≡ 1 - modeFrom b
+one-mode m true t = eqb→eq m 1 t
+one-mode m false t = eqb→eq m 0 t
+
 other-mode : (m : ℕ) (b : Bool) → m < 2 → eqb m (modeFrom (not b)) ≡ false → m ≡ modeFrom b
 other-mode m true h e = omega (arith, eqb-false m 1 e)
 other-mode m false h e = omega (arith, eqb-false m 0 e)
 
-wrong-at : (b : ℕ) (side : Side) (p m i : ℕ) → m < 2 → routeOf b side p m ≡ Wrong i → (i < instances b) × (p ≡ protocolOf b i) × (m ≡ modeOf b side i)
-unfolding routeOf instances
-wrong-at b side p m i two e =
-    let f : Instance → Bool = λ x. eqb (x .protocol) p in
-    of (find-some f nobody (bundleOf b) 0 i (wrong-found (find (takes side p m) 0 (bundleOf b)) (find f 0 (bundleOf b)) i e .1))
-  where
-    of : Found (λ (x : Instance). eqb (x .protocol) p) nobody (bundleOf b) 0 i → (i < instances b) × (p ≡ protocolOf b i) × (m ≡ modeOf b side i)
-    of (j, q, l, t) =
-        let f : Instance → Bool = λ x. eqb (x .protocol) p in
-        let same-place : i ≡ j = omega arith in
-        let none-takes = wrong-found (find (takes side p m) 0 (bundleOf b)) (find f 0 (bundleOf b)) i e .0 in
-        let n : takes side p m (instances.at b j) ≡ false = find-none-all (takes side p m) nobody (bundleOf b) 0 none-takes j l in
-        let mode : eqb m (modeFrom (not (initiates side (roleOf b j)))) ≡ false = rw t at n in
-        rw same-place (l, sym (eqb→eq (protocolOf b j) p (rw t tt)), other-mode m (initiates side (roleOf b j)) two mode)
+-- where nothing was found, or an instance
+within-or : (b : ℕ) (o : Option ℕ) (r : Route) → ((i : ℕ) → o ≡ some i → i < instances b) → Within b r → Within b (orElse o Wrong r)
+within-or b none r f h = h
+within-or b (some i) r f h = f i refl
+
+module _ (us : Party) (p m : ℕ) where
+  abbrev ours : ℕ
+  ours = us .bundle
+
+  abbrev xs : List Instance
+  xs = bundleOf ours
+
+  -- an instance that has the number, and one that takes the segment
+  abbrev speaks : Instance → Bool
+  speaks x = eqb (x .protocol) p
+
+  abbrev hears : Instance → Bool
+  hears = takes (us .side) p m
+
+  abbrev initiating : ℕ → Bool
+  initiating j = initiates (us .side) (roleOf ours j)
+
+  -- a segment goes to i only where i takes it
+  only-there : (i : ℕ) → Found hears nobody xs 0 i → (p ≡ protocolOf ours i) × (m ≡ 1 - modeOf us i)
+  only-there i (j, q, l, t) =
+      let same-place : i ≡ j = omega arith in
+      let number = eqb (protocolOf ours j) p in
+      let mode = eqb m (modeFrom (not (initiating j))) in
+      let u : T (hears (instances.at ours j)) = rw t tt in
+      rw same-place (sym (eqb→eq (protocolOf ours j) p (and-left number mode u)), one-mode m (initiating j) (and-right number mode u))
+
+  only : (i : ℕ) → routeOf us p m ≡ To i → (p ≡ protocolOf ours i) × (m ≡ 1 - modeOf us i)
+  unfolding routeOf
+  only i e = only-there i (find-some hears nobody xs 0 i (found (find hears 0 xs) (find speaks 0 xs) i e))
+
+  -- an unknown number is that of no instance
+  abbrev Strange : Type 0
+  Strange = (i : ℕ) → i < instances ours → p ≡ protocolOf ours i → ⊥
+
+  strange : routeOf us p m ≡ Unknown → Strange
+  unfolding routeOf instances
+  strange e i h q =
+      let n : find speaks 0 xs ≡ none = known-not (find hears 0 xs) (find speaks 0 xs) e in
+      eqb-false (protocolOf ours i) p (find-none-all speaks nobody xs 0 n i h) (sym q)
+
+  nowhere : Strange → routeOf us p m ≡ Unknown
+  unfolding routeOf instances
+  nowhere h =
+      let no : (j : ℕ) → j < instances ours → eqb (protocolOf ours j) p ≡ false = λ j l. ne-eqb (protocolOf ours j) p (λ e. h j l (sym e)) in
+      rw (find-none hears nobody xs 0 (λ j l. rw (no j l)), find-none speaks nobody xs 0 no)
+
+  unknown : (routeOf us p m ≡ Unknown) ↔ Strange
+  unknown = (strange, nowhere)
+
+  -- a number past the table is unknown
+  pub past : numbers ≤ p → Unknown ≡ routeOf us p m
+  past h = sym (nowhere (λ i l q. omega (arith, protocol-row ours i l)))
+
+  -- a segment is wrong at i where i has its number, and nobody takes it
+  abbrev Wrongly : ℕ → Type 0
+  Wrongly i = (i < instances ours) × (p ≡ protocolOf ours i) × (m ≡ modeOf us i)
+
+  wrong-there : (i : ℕ) → m < 2 → find hears 0 xs ≡ none → Found speaks nobody xs 0 i → Wrongly i
+  unfolding instances
+  wrong-there i two nobody-takes (j, q, l, t) =
+      let same-place : i ≡ j = omega arith in
+      let n : hears (instances.at ours j) ≡ false = find-none-all hears nobody xs 0 nobody-takes j l in
+      let mode : eqb m (modeFrom (not (initiating j))) ≡ false = rw t at n in
+      rw same-place (l, sym (eqb→eq (protocolOf ours j) p (rw t tt)), other-mode m (initiating j) two mode)
+
+  wrong-at : (i : ℕ) → m < 2 → routeOf us p m ≡ Wrong i → Wrongly i
+  unfolding routeOf
+  wrong-at i two e =
+      let (takes-none, has) = wrong-found (find hears 0 xs) (find speaks 0 xs) i e in
+      wrong-there i two takes-none (find-some speaks nobody xs 0 i has)
+
+  -- a route leads to an instance, if to any
+  found-within : (f : Instance → Bool) (i : ℕ) → find f 0 xs ≡ some i → i < instances ours
+  unfolding instances
+  found-within f i e = let q = find-some f nobody xs 0 i e in omega (arith, q .1, q .2)
+
+  within : (o : Option ℕ) → find hears 0 xs ≡ o → Within ours (orElse o To (orElse (find speaks 0 xs) Wrong Unknown))
+  within (some i) e = found-within hears i e
+  within none e = within-or ours (find speaks 0 xs) Unknown (λ i q. found-within speaks i q) tt
+
+  pub route-within : Within ours (routeOf us p m)
+  unfolding routeOf
+  route-within = within (find hears 0 xs) refl
 
 -- our own mode is wrong exactly where our role is our side's
 isWrong : Route → Bool
@@ -400,65 +465,50 @@ not-wrong : (r : Route) (i : ℕ) → T (not (isWrong r)) → r ≡ Wrong i → 
 unfolding isWrong
 not-wrong r i t e = rw e at t
 
+abbrev ownRoute : Party → ℕ → Route
+ownRoute us i = routeOf us (protocolOf (us .bundle) i) (modeOf us i)
+
 wrongly : Side → ℕ → ℕ → Instance → Bool
-wrongly side b i x =
-    let r = routeOf b side (protocolOf b i) (modeOf b side i) in cond (sided (x .role)) (same r (Wrong i)) (not (isWrong r))
+wrongly side b i x = let r = ownRoute (party side b) i in cond (sided (x .role)) (same r (Wrong i)) (not (isWrong r))
 
 all-wrong : (side : Side) → T (every [] (each (wrongly side)) 0 bundles)
 unfolding wrongly isWrong same routeOf find bundleOf
 all-wrong Dialler = tt
 all-wrong Accepter = tt
 
-module _ (b : ℕ) (side : Side) (i : ℕ) (h : i < instances b) where
+module _ (us : Party) (i : ℕ) (h : i < instances (us .bundle)) where
+  abbrev role : Role
+  role = roleOf (us .bundle) i
+
   own : Route
-  own = routeOf b side (protocolOf b i) (modeOf b side i)
+  own = ownRoute us i
 
-  own-wrong : sided (roleOf b i) ≡ true → own ≡ Wrong i
+  judged : T (cond (sided role) (same own (Wrong i)) (not (isWrong own)))
   unfolding own wrongly
-  own-wrong t = are-same own (Wrong i) (rw t at (of-instances (wrongly side) (all-wrong side) b i h))
+  judged = of-instances (wrongly (us .side)) (all-wrong (us .side)) (us .bundle) i h
 
-  wrong-sided : own ≡ Wrong i → sided (roleOf b i) ≡ true
-  unfolding own wrongly
-  wrong-sided e =
-      by-test (sided (roleOf b i)) (λ t. t) (λ t. absurd (not-wrong own i (rw t at (of-instances (wrongly side) (all-wrong side) b i h)) e))
+  own-wrong : sided role ≡ true → own ≡ Wrong i
+  own-wrong t = are-same own (Wrong i) (rw t at judged)
 
-wrong : (b : ℕ) (side : Side) (p m i : ℕ) → m < 2
-    → (routeOf b side p m ≡ Wrong i) ↔ ((i < instances b) × (sided (roleOf b i) ≡ true) × (p ≡ protocolOf b i) × (m ≡ modeOf b side i))
+  wrong-sided : own ≡ Wrong i → sided role ≡ true
+  wrong-sided e = by-test (sided role) (λ t. t) (λ t. absurd (not-wrong own i (rw t at judged) e))
+
+wrong : (us : Party) (p m i : ℕ) → m < 2 → let b = us .bundle in
+    (routeOf us p m ≡ Wrong i) ↔ ((i < instances b) × (sided (roleOf b i) ≡ true) × (p ≡ protocolOf b i) × (m ≡ modeOf us i))
 unfolding own
-wrong b side p m i two = (
-  λ e. let (h, ep, em) = wrong-at b side p m i two e in (h, wrong-sided b side i h (rw (ep, em) at e), ep, em),
-  λ (h, s, ep, em). rw (ep, em) (own-wrong b side i h s),
+wrong us p m i two = (
+  λ e. let (h, ep, em) = wrong-at us p m i two e in (h, wrong-sided us i h (rw (ep, em) at e), ep, em),
+  λ (h, s, ep, em). rw (ep, em) (own-wrong us i h s),
 )
 
-pub one-way : (b : ℕ) → OneWay b
-one-way b =
-    record { reached = reached b; only = only b; unknown = unknown b; wrong = wrong b; arrives = arrives b; paired = paired b }
-
--- ---- a route leads to an instance, if to any
-
-found-within : (b : ℕ) (f : Instance → Bool) (i : ℕ) → find f 0 (bundleOf b) ≡ some i → i < instances b
-unfolding instances
-found-within b f i e = let q = find-some f nobody (bundleOf b) 0 i e in omega (arith, q .1, q .2)
-
-within-or : (b : ℕ) (o : Option ℕ) (r : Route) → ((i : ℕ) → o ≡ some i → i < instances b) → Within b r → Within b (orElse o Wrong r)
-within-or b none r f h = h
-within-or b (some i) r f h = f i refl
-
-pub route-within : (b : ℕ) (side : Side) (p m : ℕ) → Within b (routeOf b side p m)
-unfolding routeOf
-route-within b side p m = go (find (takes side p m) 0 (bundleOf b)) refl
-  where
-    speaks : Instance → Bool
-    speaks x = eqb (x .protocol) p
-
-    go : (o : Option ℕ) → find (takes side p m) 0 (bundleOf b) ≡ o → Within b (orElse o To (orElse (find speaks 0 (bundleOf b)) Wrong Unknown))
-    go (some i) e = found-within b (takes side p m) i e
-    go none e = within-or b (find speaks 0 (bundleOf b)) Unknown (λ i q. found-within b speaks i q) tt
+pub one-way : (us : Party) → OneWay us
+one-way us =
+    record { reached = reached us; only = only us; unknown = unknown us; wrong = wrong us; arrives = arrives us; paired = paired (us .bundle) }
 
 -- ---- what a header can hold
 
-pub mode-low : (b : ℕ) (side : Side) (i : ℕ) → modeOf b side i < 2
-mode-low b side i = cond-cases (λ (m : ℕ). m < 2) (initiates side (roleOf b i)) (λ t. omega arith) (λ t. omega arith)
+pub mode-low : (us : Party) (i : ℕ) → modeOf us i < 2
+mode-low us i = cond-cases (λ (m : ℕ). m < 2) (initiates (us .side) (roleOf (us .bundle) i)) (λ t. omega arith) (λ t. omega arith)
 
 pub protocol-low : (b i : ℕ) → i < instances b → protocolOf b i < 2 ^ 15
 protocol-low b i h = omega (arith, protocol-row b i h)

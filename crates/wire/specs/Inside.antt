@@ -3,7 +3,7 @@ use Prim.Native.Nat.{ℕ}
 use mathlib.Core.Bool.{cond}
 use lib.Dec.{eqb}
 use Rattle.wire.specs.Instances.{Role, initiator, responder, ofSide, modeOf}
-use Rattle.wire.specs.declared.instances.Side.{Side}
+use Rattle.wire.specs.declared.instances.Party.{Party}
 use Rattle.wire.specs.declared.instances.Route.{Route}
 use Rattle.wire.specs.declared.instances.Route.the-variants.{Unknown, Wrong, To}
 
@@ -18,5 +18,5 @@ markOf responder = 1
 markOf ofSide = 2
 
 -- a segment for instance i, by its mode: it comes from our own end or from the other
-unfoldable pub byMode : ℕ → Side → ℕ → ℕ → Route
-byMode b side m i = cond (eqb m (modeOf b side i)) (Wrong i) (To i)
+unfoldable pub byMode : Party → ℕ → ℕ → Route
+byMode us m i = cond (eqb m (modeOf us i)) (Wrong i) (To i)

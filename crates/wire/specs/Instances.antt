@@ -5,10 +5,11 @@ use mathlib.Core.Bool.{Bool, true, false, cond, not, _&&_}
 use mathlib.Core.List.{List, [], _∷_, _++_}
 use mathlib.Core.Logic.{_↔_}
 use mathlib.Core.Option.{Option, none, some, Option·getD}
-use lib.Dec.{eqb, ltb}
+use lib.Dec.{eqb, ltb, leb}
 use lib.ListN.{length, getD}
 use Rattle.wire.specs.declared.instances.Side.{Side}
 use Rattle.wire.specs.declared.instances.Side.the-variants.{Dialler, Accepter}
+use Rattle.wire.specs.declared.instances.Party.{Party}
 use Rattle.wire.specs.declared.instances.Route.{Route}
 use Rattle.wire.specs.declared.instances.Route.the-variants.{Unknown, Wrong, To}
 
@@ -56,9 +57,13 @@ bundleOf b = getD bundles b []
 unfoldable pub instances : ℕ → ℕ
 instances b = length (bundleOf b)
 
--- no bundle has more
+-- as many as the largest bundle has
+abbrev pub longest : List (List Instance) → ℕ
+longest [] = 0
+longest (xs ∷ xss) = let n = longest xss in cond (leb n (length xs)) (length xs) n
+
 abbrev pub most : ℕ
-most = length nodeToNode
+most = longest bundles
 
 -- Handshake's
 abbrev pub handshake : ℕ
@@ -86,8 +91,8 @@ abbrev pub modeFrom : Bool → ℕ
 modeFrom initiates = cond initiates 0 1
 
 -- the mode of what we send as instance i
-abbrev pub modeOf : ℕ → Side → ℕ → ℕ
-modeOf b side i = modeFrom (initiates side (roleOf b i))
+abbrev pub modeOf : Party → ℕ → ℕ
+modeOf us i = modeFrom (initiates (us .side) (roleOf (us .bundle) i))
 
 -- Mode 0 is for our responder, mode 1 for our initiator.
 abbrev pub takes : Side → ℕ → ℕ → Instance → Bool
@@ -103,10 +108,10 @@ orElse (some i) found other = found i
 orElse none found other = other
 
 -- Protocol number and mode together choose the instance. A number that only an instance for the other mode has is wrong there.
-unfoldable pub routeOf : ℕ → Side → ℕ → ℕ → Route
-routeOf b side p m =
-    orElse (find (takes side p m) 0 (bundleOf b)) To
-    (orElse (find (λ x. eqb (x .protocol) p) 0 (bundleOf b)) Wrong Unknown)
+unfoldable pub routeOf : Party → ℕ → ℕ → Route
+routeOf us p m =
+    let xs = bundleOf (us .bundle) in
+    orElse (find (takes (us .side) p m) 0 xs) To (orElse (find (λ x. eqb (x .protocol) p) 0 xs) Wrong Unknown)
 
 -- an instance of the bundle
 abbrev pub Within : ℕ → Route → Type 0
@@ -118,6 +123,10 @@ Within b (To i) = i < instances b
 abbrev pub other : Side → Side
 other Dialler = Accepter
 other Accepter = Dialler
+
+-- the other party: the same bundle, from the other side
+abbrev pub otherOf : Party → Party
+otherOf us = record { bundle = us .bundle; side = other (us .side) }
 
 -- an initiator talks with a responder, whichever side has which
 abbrev pub opposite : Role → Role → Bool
@@ -138,11 +147,15 @@ pairOf b i = Option·getD (find (λ x. eqb (x .protocol) (protocolOf b i) && opp
 -- T5, the route, in any bundle. Every instance is reached by one protocol number and one mode, those that its other end sends with;
 -- a number is unknown if and only if no instance has it; only a segment with the mode of our own side is wrong, for a protocol in which our
 -- role is our side's (node to node, Handshake alone); and what one side sends as i arrives at the other side's instance that i talks with.
-pub record OneWay (b : ℕ) : Type 0 where
-  pub reached : (side : Side) (i : ℕ) → i < instances b → routeOf b side (protocolOf b i) (1 - modeOf b side i) ≡ To i
-  pub only : (side : Side) (p m i : ℕ) → routeOf b side p m ≡ To i → (p ≡ protocolOf b i) × (m ≡ 1 - modeOf b side i)
-  pub unknown : (side : Side) (p m : ℕ) → (routeOf b side p m ≡ Unknown) ↔ ((i : ℕ) → i < instances b → p ≡ protocolOf b i → ⊥)
-  pub wrong : (side : Side) (p m i : ℕ) → m < 2
-      → (routeOf b side p m ≡ Wrong i) ↔ ((i < instances b) × (sided (roleOf b i) ≡ true) × (p ≡ protocolOf b i) × (m ≡ modeOf b side i))
-  pub arrives : (side : Side) (i : ℕ) → i < instances b → routeOf b (other side) (protocolOf b i) (modeOf b side i) ≡ To (pairOf b i)
-  pub paired : (i : ℕ) → i < instances b → pairOf b (pairOf b i) ≡ i
+module _ (us : Party) where
+  abbrev b : ℕ
+  b = us .bundle
+
+  pub record OneWay : Type 0 where
+    pub reached : (i : ℕ) → i < instances b → routeOf us (protocolOf b i) (1 - modeOf us i) ≡ To i
+    pub only : (p m i : ℕ) → routeOf us p m ≡ To i → (p ≡ protocolOf b i) × (m ≡ 1 - modeOf us i)
+    pub unknown : (p m : ℕ) → (routeOf us p m ≡ Unknown) ↔ ((i : ℕ) → i < instances b → p ≡ protocolOf b i → ⊥)
+    pub wrong : (p m i : ℕ) → m < 2
+        → (routeOf us p m ≡ Wrong i) ↔ ((i < instances b) × (sided (roleOf b i) ≡ true) × (p ≡ protocolOf b i) × (m ≡ modeOf us i))
+    pub arrives : (i : ℕ) → i < instances b → routeOf (otherOf us) (protocolOf b i) (modeOf us i) ≡ To (pairOf b i)
+    pub paired : (i : ℕ) → i < instances b → pairOf b (pairOf b i) ≡ i

@@ -1,7 +1,9 @@
 -- `build::build_form` meets its contract: the parts make a message of the form, or not.
 -- Assumes nothing.
+use mathlib.Core.Path.{ap, _∙_}
 use borrow.Author.Tests.{not-true, not-false}
 use Rattle.messages.specs.Inside.{formAt}
+use Rattle.build.specs.Building.{handed}
 use Rattle.build.proofs.BuildLaws.{heads-and-runs, unplanned, plan-is, planned-so}
 use borrow.Author.Needs.{needs}
 use Rattle.build.proofs.build_form.Statement.{statement}
@@ -10,10 +12,12 @@ use Rattle.build.proofs.build_form.Tie as tie
 returns : tie.Need-returns
 returns c =
     let a = c .before .before .before .before .before .before .before .before .args in
-    rw (c .refused .ensures)
-    (unplanned (a .numbers .now) (a .runs) (a .first .now) (a .second .now) (a .kind) (formAt (a .row) .fields) (a .buf .now)
-    (c .before .before .before .judge .result)
-    (c .before .before .before .judge .ensures) (not-true _ (c .before .if1 .taken)))
+    let j = c .before .before .before .judge in
+    rw (
+      c .refused .ensures,
+      unplanned (a .numbers .now) (a .runs) (a .first .now) (a .second .now) (a .kind) (formAt (a .row) .fields) (j .result) (j .ensures)
+          (not-true _ (c .before .if1 .taken)),
+    )
 
 hand-requires : tie.Need-hand-requires
 hand-requires c κs =
@@ -23,16 +27,18 @@ hand-requires c κs =
       s .pre .0,
       heads-and-runs (a .numbers .now) (a .runs) (a .first .now) (a .second .now) (a .kind) (formAt (a .row) .fields) (j .result .arguments)
           (s .pre .1)
-          (plan-is (a .numbers .now) (a .runs) (a .first .now) (a .second .now) (a .kind) (formAt (a .row) .fields) (a .buf .now) (j .result)
-          (j .ensures) (not-false _ (c .before .before .if1 .left))),
+          (plan-is (a .numbers .now) (a .runs) (a .first .now) (a .second .now) (a .kind) (formAt (a .row) .fields) (j .result) (j .ensures)
+          (not-false _ (c .before .before .if1 .left))),
     )
 
 returns-2 : tie.Need-returns-2
 returns-2 c =
     let a = c .before .before .before .before .before .before .before .before .before .before .before .before .args in
     let j = c .before .before .before .before .before .before .before .judge in
-    planned-so (a .numbers .now) (a .runs) (a .first .now) (a .second .now) (a .kind) (formAt (a .row) .fields) (a .buf .now) (j .result) (j .ensures)
-    (not-false _ (c .before .before .before .before .before .if1 .left)) (c .before .before .hand .ensures)
+    c .before .before .hand .ensures
+    ∙ ap (handed (a .buf .now))
+    (planned-so (a .numbers .now) (a .runs) (a .first .now) (a .second .now) (a .kind) (formAt (a .row) .fields) (j .result) (j .ensures)
+    (not-false _ (c .before .before .before .before .before .if1 .left)))
 
 pub build-form-spec : {M : Type 1} → statement M
 build-form-spec =

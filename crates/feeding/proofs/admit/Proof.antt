@@ -15,7 +15,7 @@ use Rattle.feeding.proofs.admit.Tie as tie
 
 room-requires : tie.Need-room-requires
 room-requires c κs =
-    let b = c .before .before .before .before .before .before .args .bundle in
+    let b = c .before .before .before .before .before .before .args .party .bundle in
     let to = c .before .route2 .given in
     let i : to .0 .0 < instances b = subst (Within b) (to .1) (c .before .before .before .before .find .ensures .1) in
     omega (arith, at-most b)
@@ -25,7 +25,7 @@ returns c =
     let a = c .before .before .before .before .before .args in
     let f = c .before .before .before .find in
     let d = c .before .before .before .before .segment in
-    let by = admission-by (a .bundle) (a .side) (now (a .caps)) (now (a .held)) (a .h) (d .result) (f .result) (d .ensures .0) (f .ensures .0) in
+    let by = admission-by (a .party) (now (a .caps)) (now (a .held)) (a .h) (d .result) (f .result) (d .ensures .0) (f .ensures .0) in
     ap (λ (r : Route). admitted (now (a .caps)) (now (a .held)) (d .result .len) r) (sym (c .enum-told .given .1)) ∙ by
 
 returns-2 : tie.Need-returns-2
@@ -33,7 +33,7 @@ returns-2 c =
     let a = c .before .before .before .before .before .before .before .args in
     let f = c .before .before .before .before .before .find in
     let d = c .before .before .before .before .before .before .segment in
-    let by = admission-by (a .bundle) (a .side) (now (a .caps)) (now (a .held)) (a .h) (d .result) (f .result) (d .ensures .0) (f .ensures .0) in
+    let by = admission-by (a .party) (now (a .caps)) (now (a .held)) (a .h) (d .result) (f .result) (d .ensures .0) (f .ensures .0) in
     c .wrong .ensures
     ∙ ap (λ (r : Route). admitted (now (a .caps)) (now (a .held)) (d .result .len) r) (sym (c .before .before .route .given .1)) ∙ by
 
@@ -42,7 +42,7 @@ returns-3 c =
     let a = c .before .before .before .before .before .before .before .args in
     let f = c .before .before .before .before .before .find in
     let d = c .before .before .before .before .before .before .segment in
-    let by = admission-by (a .bundle) (a .side) (now (a .caps)) (now (a .held)) (a .h) (d .result) (f .result) (d .ensures .0) (f .ensures .0) in
+    let by = admission-by (a .party) (now (a .caps)) (now (a .held)) (a .h) (d .result) (f .result) (d .ensures .0) (f .ensures .0) in
     c .room .ensures
     ∙ ap (λ (r : Route). admitted (now (a .caps)) (now (a .held)) (d .result .len) r) (sym (c .before .before .route2 .given .1)) ∙ by
 

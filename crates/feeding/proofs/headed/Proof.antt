@@ -11,7 +11,7 @@ returns : tie.Need-returns
 returns c =
     let n = c .before .before .before .before in
     let a = n .before .before .args in
-    heads-whole (a .bundle) (a .side) (now (a .caps)) (now (a .held)) (a .w) (a .b) (n .add .result) (c .before .admit .result) (c .settled .result)
+    heads-whole (a .party) (now (a .caps)) (now (a .held)) (a .w) (a .b) (n .add .result) (c .before .admit .result) (c .settled .result)
     (n .add .ensures)
     (sym (c .before .before .before .whole .ensures) ∙ c .before .before .if1 .taken)
     (c .before .admit .ensures)
@@ -20,7 +20,7 @@ returns c =
 returns-2 : tie.Need-returns-2
 returns-2 c =
     let a = c .before .before .before .before .args in
-    heads-part (a .bundle) (a .side) (now (a .caps)) (now (a .held)) (a .w) (a .b) (c .before .before .add .result) (c .before .before .add .ensures)
+    heads-part (a .party) (now (a .caps)) (now (a .held)) (a .w) (a .b) (c .before .before .add .result) (c .before .before .add .ensures)
     (sym (c .before .whole .ensures) ∙ c .if1 .left)
 
 pub headed-spec : {M : Type 1} → statement M

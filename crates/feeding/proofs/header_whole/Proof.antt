@@ -14,7 +14,7 @@ returns : tie.Need-returns
 returns c =
     let a = c .before .before .before .before .args in
     subst (λ (x : Admission). Settles (a .w) x headerLength (c .settled .result))
-    (c .before .admit .ensures ∙ ap (admission (a .bundle) (a .side) (now (a .caps)) (now (a .held))) (c .before .before .header-at .ensures))
+    (c .before .admit .ensures ∙ ap (admission (a .party) (now (a .caps)) (now (a .held))) (c .before .before .header-at .ensures))
     (c .settled .ensures)
 
 pub header-whole-spec : {M : Type 1} → statement M

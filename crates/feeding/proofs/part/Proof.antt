@@ -43,7 +43,7 @@ returns-2 : tie.Need-returns-2
 returns-2 c =
     let s = c .before .before .before .before .before .before .before .before .before .before in
     let q = all-there (c .before .before) in
-    let wide : length (s .args .w .header .bytes) ≡ headerLength = simp length-map at (s .good .1 .1 .1 .1 .1 .0 .1 .1 .0 .1 .1 .0 .1 .0 .1) in
+    let wide : length (s .args .w .header .bytes) ≡ headerLength = simp length-map at (s .good .1 .1 .1 .1 .0 .1 .1 .0 .1 .1 .0 .1 .0 .1) in
     steps-whole (s .pre .0) (omega (arith, q .1)) (omega arith) (q .0) wide (c .header-whole .ensures)
 
 returns-3 : tie.Need-returns-3

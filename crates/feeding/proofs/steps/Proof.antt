@@ -14,11 +14,11 @@ use Rattle.feeding.proofs.steps.Statement.{statement}
 use Rattle.feeding.proofs.steps.Tie as tie
 
 abbrev Inv-loop : tie.InvT-loop
-Inv-loop bundle side caps starts held₀ store₀ input way₀ at₀ held store way at =
-    Running bundle side caps (reception starts held₀ way₀ Open store₀) input (reception starts held way Open store) at
+Inv-loop party caps starts held₀ store₀ input way₀ at₀ held store way at =
+    Running party caps (reception starts held₀ way₀ Open store₀) input (reception starts held way Open store) at
 
 abbrev μ-loop : tie.MeasureT-loop
-μ-loop bundle side caps starts held₀ store₀ input way₀ at₀ held store way at = length input - at
+μ-loop party caps starts held₀ store₀ input way₀ at₀ held store way at = length input - at
 
 loop-holds : tie.Need-loop-holds Inv-loop μ-loop
 loop-holds c = record { ends = zero-le; long = refl; sound = c .before .before .pre; leaves = refl; counts = sym (zero-add _) }
@@ -34,7 +34,7 @@ add-at c =
 same-length : tie.Need-same-length Inv-loop μ-loop
 same-length c =
     let p = c .before .before .before .before .before .before in
-    p .part .kept .1 .1 .1 .1 .1 .1 .0 ∙ p .before .before .before .before .loop .inv .long
+    p .part .kept .1 .1 .1 .1 .1 .0 ∙ p .before .before .before .before .loop .inv .long
 
 returns : tie.Need-returns Inv-loop μ-loop
 returns c =

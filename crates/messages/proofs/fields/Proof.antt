@@ -11,7 +11,8 @@ use borrow.Author.Tests.{eqb-true}
 use Rattle.ring.specs.Ring.{around}
 use Rattle.ring.proofs.Around.{around-length}
 use Rattle.messages.specs.declared.Message.{Message}
-use Rattle.messages.specs.Matching.{ItemsAt, inMessage, begun}
+use Rattle.elements.specs.Matching.{ItemsAt, inMessage}
+use Rattle.messages.specs.Matching.{begun}
 use Rattle.messages.specs.Reading.{fieldsOf}
 use Rattle.rows.specs.Inside.{entries}
 use Rattle.messages.specs.Inside.{formAt}

@@ -6,7 +6,7 @@ use lib.ListN.{length}
 use denote.Ref.{now}
 use Rattle.ring.specs.Ring.{around}
 use native.Mathlib.Omega.{arith}
-use Rattle.messages.specs.Matching.{ItemsAt, inMessage}
+use Rattle.elements.specs.Matching.{ItemsAt, inMessage}
 use Rattle.messages.specs.Inside.{formAt}
 use Rattle.messages.proofs.FieldLaws.{count-right, count-wrong}
 use borrow.Author.Needs.{needs}

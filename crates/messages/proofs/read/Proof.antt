@@ -7,7 +7,7 @@ use Rattle.ring.specs.Ring.{around}
 use Rattle.ring.proofs.Around.{around-length}
 use native.Mathlib.Omega.{arith}
 use Rattle.item.specs.declared.Verdict.the-variants.{Whole}
-use Rattle.messages.specs.Matching.{ItemsAt, inMessage}
+use Rattle.elements.specs.Matching.{ItemsAt, inMessage}
 use Rattle.messages.proofs.FieldLaws.{array-left, message-array, message-none}
 use borrow.Author.Needs.{needs}
 use Rattle.messages.proofs.read.Statement.{statement}

@@ -1,6 +1,6 @@
 -- `messages::with_number` meets its contract: the number is set behind those before it.
 -- Assumes nothing.
-use Rattle.messages.proofs.Steps.{number-said}
+use Rattle.messages.proofs.FieldLaws.{number-said}
 use borrow.Author.Needs.{needs}
 use Rattle.messages.proofs.with_number.Statement.{statement}
 use Rattle.messages.proofs.with_number.Tie as tie

@@ -1,6 +1,6 @@
 -- `messages::with_place` meets its contract: start and length are set behind those before them.
 -- Assumes nothing.
-use Rattle.messages.proofs.Steps.{place-said}
+use Rattle.messages.proofs.FieldLaws.{place-said}
 use borrow.Author.Needs.{needs}
 use Rattle.messages.proofs.with_place.Statement.{statement}
 use Rattle.messages.proofs.with_place.Tie as tie

@@ -1,17 +1,14 @@
 -- `rows::agent` meets its contract. The loop's invariant: the rows from i on say what all of the protocol's do.
 -- Assumes nothing.
-use mathlib.Core.Path.{sym, ap, _∙_}
-use mathlib.Core.List.{List, map}
-use lib.ListN.{getD}
-use Prim.Native.Nat.{ℕ, _-_, _<_}
+use mathlib.Core.Path.{sym, _∙_}
+use Prim.Native.Nat.{_-_, _<_}
 use native.Mathlib.Omega.{arith}
 use borrow.Author.Needs.{needs}
 use borrow.Author.Tests.{eq-eqb, ne-eqb}
-use Rattle.base.proofs.Table.{cell-fits}
 use Rattle.rows.specs.Rows.{rowsOf, agencyIn, placeIn}
-use Rattle.rows.specs.Inside.{entries, allRows, columns, rowCount, holder}
+use Rattle.rows.specs.Inside.{entries, rowCount}
 use Rattle.rows.proofs.ByProtocol.{Come, ends, begun, onward, found, none-found}
-use Rattle.rows.proofs.RowLaws.{row-at, holding, holder-row}
+use Rattle.rows.proofs.RowLaws.{state-at, agent-at, holding}
 use Rattle.rows.proofs.agent.Statement.{statement}
 use Rattle.rows.proofs.agent.Tie as tie
 
@@ -30,12 +27,6 @@ loop-holds c =
     let a = c .before .before .args in
     begun rowsOf (holding (a .state)) (a .p) (c .before .first .ensures) (c .count .ensures)
 
-cast-state : tie.Need-cast-if1 Inv-loop μ-loop
-unfolding entries placeIn
-cast-state c =
-    let l = c .before .before .loop in
-    record { fits = cell-fits 5 (map columns allRows) tt (l .i) 0 (search needs) (omega arith) }
-
 returns : tie.Need-returns Inv-loop μ-loop
 unfolding entries placeIn
 returns c =
@@ -44,11 +35,9 @@ returns c =
     let n = c .before .before .before .before .before .count in
     let l = c .before .before .before .before .loop in
     let in-table : l .i < rowCount = search needs in
-    let row = row-at (l .i) in-table in
-    let t = eq-eqb _ _ (ap (λ (r : List ℕ). getD r 0 0) (sym row) ∙ c .before .if1 .taken) in
-    c .held-by .ensures
-    ∙ ap (λ (r : List ℕ). holder (getD r 1 0)) row
-    ∙ holder-row (l .i) in-table
+    let t = eq-eqb _ _ (sym (state-at (l .i) in-table) ∙ sym (c .before .before .state-in .ensures) ∙ c .before .if1 .taken) in
+    c .agent-in .ensures
+    ∙ agent-at (l .i) in-table
     ∙ found rowsOf (holding (a .state)) (a .p) (f .ensures) (n .ensures) (l .inv) (search needs) t
 
 loop-again : tie.Need-loop-again Inv-loop μ-loop
@@ -56,8 +45,7 @@ unfolding entries placeIn
 loop-again c =
     let a = c .before .before .before .before .before .before .args in
     let l = c .before .before .before .loop in
-    let row = row-at (l .i) (search needs) in
-    let t = ne-eqb _ _ (λ e. c .if1 .left (ap (λ (r : List ℕ). getD r 0 0) row ∙ e)) in
+    let t = ne-eqb _ _ (λ e. c .if1 .left (c .before .state-in .ensures ∙ state-at (l .i) (search needs) ∙ e)) in
     onward rowsOf (holding (a .state)) (l .inv) (c .before .before .loop-test .taken) t
 
 returns-2 : tie.Need-returns-2 Inv-loop μ-loop
@@ -81,9 +69,7 @@ agent-spec =
     loop-holds
     (λ c. search needs)
     (λ c. search needs)
-    (λ c. search needs)
-    cast-state
-    (λ c. search needs)
+    (λ c κs. search needs)
     (λ c κs. search needs)
     returns
     (λ c. search needs)

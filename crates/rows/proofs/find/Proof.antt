@@ -1,17 +1,14 @@
 -- `rows::find` meets its contract. The loop's invariant: the rows from i on say what all of the protocol's do.
 -- Assumes nothing.
 use mathlib.Core.Path.{sym, ap, _∙_}
-use mathlib.Core.List.{List, map}
-use Prim.Native.Nat.{ℕ, _-_}
+use Prim.Native.Nat.{_-_, _<_}
 use native.Mathlib.Omega.{arith}
-use lib.ListN.{getD}
 use borrow.Author.Needs.{needs}
-use Rattle.base.proofs.Table.{cell-fits}
 use Rattle.rows.specs.Rows.{rowsOf, nextIn, placeIn}
 use Rattle.rows.specs.declared.Next.the-variants.{To}
-use Rattle.rows.specs.Inside.{entries, allRows, columns, suits}
+use Rattle.rows.specs.Inside.{entries, rowCount}
 use Rattle.rows.proofs.ByProtocol.{Come, ends, begun, onward, found, none-found}
-use Rattle.rows.proofs.RowLaws.{row-at, leading}
+use Rattle.rows.proofs.RowLaws.{suits-at, next-at, leading}
 use Rattle.rows.proofs.find.Statement.{statement}
 use Rattle.rows.proofs.find.Tie as tie
 
@@ -30,12 +27,6 @@ loop-holds c =
     let a = c .before .before .args in
     begun rowsOf (leading (a .state) (a .kind) (a .flag)) (a .p) (c .before .first .ensures) (c .count .ensures)
 
-cast-next : tie.Need-cast-next Inv-loop μ-loop
-unfolding entries placeIn
-cast-next c =
-    let l = c .before .before .before .before .loop in
-    record { fits = cell-fits 5 (map columns allRows) tt (l .i) 4 (search needs) (omega arith) }
-
 returns : tie.Need-returns Inv-loop μ-loop
 unfolding entries placeIn
 returns c =
@@ -43,19 +34,18 @@ returns c =
     let f = c .before .before .before .before .before .before .first in
     let n = c .before .before .before .before .before .count in
     let l = c .before .before .before .before .loop in
-    let row = row-at (l .i) (search needs) in
-    let t = ap (suits (a .state) (a .kind) (a .flag)) (sym row) ∙ sym (c .before .is-for .ensures) ∙ c .if1 .taken in
-    ap (λ (r : List ℕ). To (getD r 4 0)) row
+    let in-table : l .i < rowCount = search needs in
+    let t = sym (suits-at (l .i) in-table (a .state) (a .kind) (a .flag)) ∙ sym (c .before .before .is-for .ensures) ∙ c .before .if1 .taken in
+    ap To (c .next-in .ensures ∙ next-at (l .i) in-table)
     ∙ found rowsOf (leading (a .state) (a .kind) (a .flag)) (a .p) (f .ensures) (n .ensures) (l .inv) (search needs) t
 
 loop-again : tie.Need-loop-again Inv-loop μ-loop
 unfolding entries placeIn
 loop-again c =
-    let a = c .before .before .before .before .before .before .before .args in
-    let l = c .before .before .before .before .loop in
-    let row = row-at (l .i) (search needs) in
-    let t = ap (suits (a .state) (a .kind) (a .flag)) (sym row) ∙ sym (c .before .is-for .ensures) ∙ c .if1 .left in
-    onward rowsOf (leading (a .state) (a .kind) (a .flag)) (l .inv) (c .before .before .before .loop-test .taken) t
+    let a = c .before .before .before .before .before .before .args in
+    let l = c .before .before .before .loop in
+    let t = sym (suits-at (l .i) (search needs) (a .state) (a .kind) (a .flag)) ∙ sym (c .before .is-for .ensures) ∙ c .if1 .left in
+    onward rowsOf (leading (a .state) (a .kind) (a .flag)) (l .inv) (c .before .before .loop-test .taken) t
 
 returns-2 : tie.Need-returns-2 Inv-loop μ-loop
 unfolding nextIn
@@ -79,8 +69,7 @@ find-spec =
     (λ c. search needs)
     (λ c. search needs)
     (λ c κs. search needs)
-    (λ c. search needs)
-    cast-next
+    (λ c κs. search needs)
     returns
     (λ c. search needs)
     (λ c. search needs)

@@ -12,7 +12,7 @@ write-requires c κs =
     let a = s .args in (
       s .pre .2,
       rw (c .before .before .mode .ensures, c .before .protocol .ensures .0)
-          (header-fits (a .bundle) (a .side) (a .i) (a .time) (a .n) (s .pre .0) (search needs) (s .pre .1)),
+          (header-fits (a .party) (a .i) (a .time) (a .n) (s .pre .0) (search needs) (s .pre .1)),
     )
 
 returns : tie.Need-returns

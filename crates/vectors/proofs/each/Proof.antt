@@ -1,5 +1,6 @@
--- `vectors::each` ends and is safe: each word begins behind the end of the one before.
+-- `vectors::each` ends, since the place goes up, and is safe: the lines keep their length.
 -- Assumes nothing.
+use mathlib.Core.Path.{_≡_}
 use Prim.Native.Nat.{_≤_, _-_}
 use lib.ListN.{length}
 use borrow.Author.Needs.{needs}
@@ -7,10 +8,10 @@ use Rattle.vectors.proofs.each.Statement.{statement}
 use Rattle.vectors.proofs.each.Tie as tie
 
 abbrev Inv-loop : tie.InvT-loop
-Inv-loop row from₀ from = from ≤ length row
+Inv-loop lines₀ from₀ lines from = (from ≤ length lines₀) × (length lines ≡ length lines₀)
 
 abbrev μ-loop : tie.MeasureT-loop
-μ-loop row from₀ from = length row - from
+μ-loop lines₀ from₀ lines from = length lines₀ - from
 
 pub each-spec : {M : Type 1} → statement M
 each-spec =
@@ -24,6 +25,8 @@ each-spec =
     (λ c. search needs)
     (λ c. search needs)
     (λ c κs. search needs)
+    (λ c. search needs)
+    (λ c. search needs)
     (λ c. search needs)
     (λ c. search needs)
     (λ c. search needs)

@@ -1,28 +1,20 @@
--- `messages::forms::field_at` meets its contract: the column has the number that stands for the field.
+-- `messages::forms::field_at` meets its contract: the form has the number that stands for the field.
 -- Assumes nothing.
 use mathlib.Core.Path.{ap, _∙_}
-use native.Mathlib.Omega.{arith}
-use Rattle.messages.specs.Inside.{fieldOf, formAt}
-use Rattle.messages.proofs.FormLaws.{at-most, field-cell}
+use Rattle.rows.specs.Inside.{entries}
+use Rattle.messages.specs.Inside.{fieldOf, marks}
+use Rattle.messages.proofs.FormLaws.{field-in}
 use borrow.Author.Needs.{needs}
 use Rattle.messages.proofs.forms.field_at.Statement.{statement}
 use Rattle.messages.proofs.forms.field_at.Tie as tie
 
-add-at : tie.Need-add-at
-add-at c = let few = at-most (c .args .i) (c .pre .0) in record { fits = omega arith }
-
-at-requires : tie.Need-at-requires
-at-requires c κs = let few = at-most (c .args .i) (c .pre .0) in (c .pre .0, omega arith)
-
 returns : tie.Need-returns
-returns c = let a = c .before .before .args in
-    c .field-of .ensures ∙ ap fieldOf (c .before .at .ensures) ∙ field-cell (formAt (a .i)) (a .j) (at-most (a .i) (c .before .before .pre .0)) (c .before .before .pre .1)
+unfolding entries marks
+returns c =
+    let a = c .before .before .args in
+    let pre = c .before .before .pre in
+    c .field-of .ensures ∙ ap fieldOf (c .before .mark-in .ensures) ∙ field-in (a .i) (pre .0) (a .j) (pre .1)
 
 pub field-at-spec : {M : Type 1} → statement M
-field-at-spec =
-    tie.close
-    (tie.spec
-    add-at
-    at-requires
-    (λ c κs. search needs)
-    returns)
+unfolding entries
+field-at-spec = tie.close (tie.spec (λ c. search needs) (λ c. search needs) (λ c κs. search needs) (λ c κs. search needs) returns)

@@ -1,18 +1,22 @@
--- `messages::forms::fields` meets its contract: the column has their number, and no form has more than there are columns for.
+-- `messages::forms::fields` meets its contract: the form has their number, and no form has more than there are columns for.
 -- Assumes nothing.
+use mathlib.Core.Path.{_≡_, _∙_}
 use native.Mathlib.Omega.{arith}
-use Rattle.messages.proofs.FormLaws.{at-most}
+use lib.ListN.{length}
+use Rattle.rows.specs.Inside.{entries}
+use Rattle.messages.specs.Inside.{formAt, marks}
+use Rattle.messages.proofs.FormLaws.{count-at, at-most}
 use borrow.Author.Needs.{needs}
 use Rattle.messages.proofs.forms.fields.Statement.{statement}
 use Rattle.messages.proofs.forms.fields.Tie as tie
 
 returns : tie.Need-returns
-returns c = let few = at-most (c .before .args .i) (c .before .pre) in (c .at .ensures, omega (arith, c .at .ensures))
+unfolding entries marks
+returns c =
+    let i = c .before .args .i in
+    let e : c .count-in .result ≡ length (formAt i .fields) = c .count-in .ensures ∙ count-at i (c .before .pre) in
+    (e, omega (arith, at-most i (c .before .pre)))
 
 pub fields-spec : {M : Type 1} → statement M
-fields-spec =
-    tie.close
-    (tie.spec
-    (λ c κs. search needs)
-    (λ c. search needs)
-    returns)
+unfolding entries
+fields-spec = tie.close (tie.spec (λ c. search needs) (λ c. search needs) (λ c κs. search needs) returns)

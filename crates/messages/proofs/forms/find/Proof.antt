@@ -1,17 +1,14 @@
 -- `messages::forms::find` meets its contract: the loop's invariant is that the forms from i on are found as all of the protocol's are.
 -- Assumes nothing.
-use mathlib.Core.Path.{sym, ap, _∙_}
-use mathlib.Core.List.{List, map}
-use Prim.Native.Nat.{ℕ, _-_}
-use lib.ListN.{getD}
+use mathlib.Core.Path.{sym, _∙_}
+use Prim.Native.Nat.{_-_}
 use native.Mathlib.Omega.{arith}
 use borrow.Author.Tests.{eq-eqb, ne-eqb}
-use Rattle.base.proofs.Table.{cell-fits}
 use Rattle.messages.specs.Forms.{forms, formIn}
-use Rattle.messages.specs.Inside.{allForms, columns}
+use Rattle.messages.specs.Inside.{marks}
 use Rattle.rows.specs.Inside.{entries}
 use Rattle.rows.proofs.ByProtocol.{Come, ends, begun, onward, found, none-found}
-use Rattle.messages.proofs.FormLaws.{row-at, finding}
+use Rattle.messages.proofs.FormLaws.{kind-at, finding}
 use borrow.Author.Needs.{needs}
 use Rattle.messages.proofs.forms.find.Statement.{statement}
 use Rattle.messages.proofs.forms.find.Tie as tie
@@ -31,30 +28,22 @@ loop-holds c =
     let a = c .before .before .args in
     begun forms (finding (a .kind)) (a .p) (c .before .first .ensures) (c .count .ensures)
 
-cast-kind : tie.Need-cast-if1 Inv-loop μ-loop
-unfolding entries
-cast-kind c =
-    let l = c .before .before .loop in
-    record { fits = cell-fits 5 (map columns allForms) tt (l .i) 0 (search needs) (omega arith) }
-
 returns : tie.Need-returns Inv-loop μ-loop
-unfolding entries
+unfolding entries marks
 returns c =
     let a = c .before .before .before .before .before .before .args in
     let f = c .before .before .before .before .before .first in
     let n = c .before .before .before .before .count in
     let l = c .before .before .before .loop in
-    let row = row-at (l .i) (search needs) in
-    let t = eq-eqb _ _ (ap (λ (r : List ℕ). getD r 0 0) (sym row) ∙ c .if1 .taken) in
+    let t = eq-eqb _ _ (sym (kind-at (l .i) (search needs)) ∙ sym (c .before .kind-in .ensures) ∙ c .if1 .taken) in
     (omega arith, sym (found forms (finding (a .kind)) (a .p) (f .ensures) (n .ensures) (l .inv) (search needs) t))
 
 loop-again : tie.Need-loop-again Inv-loop μ-loop
-unfolding entries
+unfolding entries marks
 loop-again c =
     let a = c .before .before .before .before .before .before .args in
     let l = c .before .before .before .loop in
-    let row = row-at (l .i) (search needs) in
-    let t = ne-eqb _ _ (λ e. c .if1 .left (ap (λ (r : List ℕ). getD r 0 0) row ∙ e)) in
+    let t = ne-eqb _ _ (λ e. c .if1 .left (c .before .kind-in .ensures ∙ kind-at (l .i) (search needs) ∙ e)) in
     onward forms (finding (a .kind)) (l .inv) (c .before .before .loop-test .taken) t
 
 returns-2 : tie.Need-returns-2 Inv-loop μ-loop
@@ -78,8 +67,7 @@ find-spec =
     loop-holds
     (λ c. search needs)
     (λ c. search needs)
-    (λ c. search needs)
-    cast-kind
+    (λ c κs. search needs)
     returns
     (λ c. search needs)
     (λ c. search needs)

@@ -13,11 +13,9 @@ returns : tie.Need-returns
 returns c = (sym (none-unknown _ (c .if1 .taken)), omega arith)
 
 cast-result : tie.Need-cast-result
-unfolding counts
 cast-result c = record { fits = entry-fits counts tt (c .before .args .bundle) (search needs) }
 
 returns-2 : tie.Need-returns-2
-unfolding counts
 returns-2 c =
     let a = c .before .args in
     let e = count-right (a .bundle) (search needs) in

@@ -1,0 +1,76 @@
+// The gate: why a connection was closed, and which closings a fault leaves.
+use crate::Closing;
+use crate::Gate;
+use wire::instances::count;
+use wire::instances::of_side;
+ghost use mathlib.Core.Path.{_≡_};
+ghost use Rattle.connection.specs.Closings.{closedBy, isOpen, numberOf, takeFault, faultLeaves, gateOk};
+ghost use Rattle.connection.specs.declared.Closing.the-variants.{Of};
+
+// Only the first closing is kept.
+pub fn close(gate: Gate, why: Closing) -> Gate
+    ensures { λ r. ⌜ r ≡ closedBy gate why ⌝ }
+{
+    match gate {
+        Gate::Open => Gate::Closed(why),
+        Gate::Closed(_) => gate,
+    }
+}
+
+// Whether no fault has closed the connection.
+pub fn is_open(gate: Gate) -> bool
+    ensures { λ r. ⌜ r ≡ isOpen gate ⌝ }
+{
+    match gate {
+        Gate::Open => true,
+        Gate::Closed(_) => false,
+    }
+}
+
+// The refusal number that a closing names.
+pub fn number_of(x: Closing) -> u64
+    ensures { λ r. ⌜ r ≡ numberOf x ⌝ }
+{
+    match x {
+        Closing::Bare(n) => n,
+        Closing::Of(n, _) => n,
+    }
+}
+
+// 14 to 17 from take are faults.
+pub fn take_fault(n: u64) -> bool
+    ensures { λ r. ⌜ r ≡ takeFault n ⌝ }
+{
+    base::and(14 <= n, n <= 17)
+}
+
+// A closing with its instance: 12 is of one in which our role is our side's, 13 and those of take may be anyone's.
+fn named(bundle: u64, n: u64, i: u64) -> bool
+    ensures { λ r. ⌜ r ≡ faultLeaves bundle (Of n i) ⌝ }
+{
+    if count(bundle) as u64 <= i {
+        return false;
+    }
+    let wrong = base::and(n == 12, of_side(bundle, i as usize));
+    base::or(wrong, base::or(n == 13, take_fault(n)))
+}
+
+// A closing that a fault leaves.
+fn fault_leaves(bundle: u64, x: Closing) -> bool
+    ensures { λ r. ⌜ r ≡ faultLeaves bundle x ⌝ }
+{
+    match x {
+        Closing::Bare(n) => n == 11,
+        Closing::Of(n, i) => named(bundle, n, i),
+    }
+}
+
+// Open, or closed by a closing that a fault leaves.
+pub fn gate_ok(bundle: u64, g: Gate) -> bool
+    ensures { λ r. ⌜ r ≡ gateOk bundle g ⌝ }
+{
+    match g {
+        Gate::Open => true,
+        Gate::Closed(x) => fault_leaves(bundle, x),
+    }
+}

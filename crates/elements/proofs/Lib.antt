@@ -1,0 +1,4 @@
+pub mod Heads
+pub mod ElementLaws
+pub mod Steps
+pub mod Examples

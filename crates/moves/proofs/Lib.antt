@@ -1,0 +1,3 @@
+pub mod Tell
+pub mod Frames
+pub mod AnyHead

@@ -1,0 +1,4 @@
+pub mod Given
+pub mod Counting
+pub mod Theorem
+pub mod Inside

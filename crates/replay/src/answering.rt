@@ -1,0 +1,136 @@
+// The line that answers each call of a script, as docs/REPLAY.md fixes it: a name, numbers, and then lists or runs.
+use base::smaller;
+use connection::Closing;
+use connection::Gate;
+use messages::MOST_PLACES;
+use messages::Message;
+use telling::Report;
+
+// How much of a line is written at once.
+const OUT: usize = 4096;
+
+// A name, and numbers.
+fn numbers(name: &[u8], numbers: &[u64]) {
+    let mut space = [0u8; OUT];
+    let out: &mut [u8] = &mut space;
+    let end = begun(out, name, numbers);
+    answers::end(out, end);
+}
+
+fn begun(out: &mut [u8], name: &[u8], numbers: &[u64]) -> usize {
+    let at = answers::words(out, 0, name);
+    answers::numbers(out, at, numbers)
+}
+
+// The name of a call alone, with its number, and with its number and a count.
+pub fn name(name: &[u8]) {
+    numbers(name, &[]);
+}
+
+pub fn number(name: &[u8], n: u64) {
+    numbers(name, &[n]);
+}
+
+pub fn counted(name: &[u8], n: u64, count: usize) {
+    numbers(name, &[n, count as u64]);
+}
+
+// What a line that is no call is answered: its number, counted from 1.
+pub fn bad(line: u64) {
+    numbers(b"bad line", &[line]);
+}
+
+// A number and a count, with the lent buffer.
+pub fn filled(name: &[u8], n: u64, count: usize, buf: &[u8]) {
+    let mut space = [0u8; OUT];
+    let out: &mut [u8] = &mut space;
+    let at = begun(out, name, &[n, count as u64]);
+    let end = answers::run(out, at, buf);
+    answers::end(out, end);
+}
+
+// What a message says, its length, and the lent buffer.
+pub fn taken(number: u64, len: usize, m: Message, buf: &[u8]) {
+    let mut space = [0u8; OUT];
+    let out: &mut [u8] = &mut space;
+    let at = message(out, number, len, m);
+    let end = answers::run(out, at, buf);
+    answers::end(out, end);
+}
+
+// The numbers and the places of a message.
+fn message(out: &mut [u8], number: u64, len: usize, m: Message) -> usize {
+    let at = begun(out, b"take", &[number, m.kind, len as u64]);
+    let numbers = m.numbers;
+    let next = listed(out, at, &numbers, m.count);
+    let places = places_of(m);
+    let parts = smaller(m.parts, MOST_PLACES);
+    listed(out, next, &places, parts + parts)
+}
+
+// The first n of some numbers, of which there are so many.
+fn listed(out: &mut [u8], at: usize, numbers: &[u64], n: usize) -> usize {
+    if numbers.len() < n {
+        return at;
+    }
+    answers::list(out, at, &numbers[0..n])
+}
+
+// Starts and lengths.
+fn places_of(m: Message) -> [u64; 2 * MOST_PLACES] {
+    let p = m.places;
+    [p[0] as u64, p[1] as u64, p[2] as u64, p[3] as u64]
+}
+
+// What status tells.
+pub fn told(r: Report) {
+    let mut space = [0u8; OUT];
+    let out: &mut [u8] = &mut space;
+    let numbers = numbers_of(r);
+    let held = r.held;
+    let waiting = r.waiting;
+    let at = begun(out, b"status", &numbers);
+    let next = answers::list(out, at, &held);
+    let end = answers::list(out, next, &waiting);
+    answers::end(out, end);
+}
+
+fn numbers_of(r: Report) -> [u64; 7] {
+    let ready = r.ready;
+    let gate = r.gate;
+    let c = closing(gate);
+    [
+        r.number,
+        ready.word,
+        ready.count,
+        ready.lowest,
+        c[0],
+        c[1],
+        c[2],
+    ]
+}
+
+// Whether closed, the number and the instance.
+fn closing(gate: Gate) -> [u64; 3] {
+    match gate {
+        Gate::Open => [0, 0, 0],
+        Gate::Closed(why) => closed(why),
+    }
+}
+
+fn closed(why: Closing) -> [u64; 3] {
+    match why {
+        Closing::Bare(n) => [1, n, 255],
+        Closing::Of(n, i) => [1, n, i],
+    }
+}
+
+// The lent parts of both stores.
+pub fn stores(receive: &[u8], send: &[u8]) {
+    let mut space = [0u8; OUT];
+    let out: &mut [u8] = &mut space;
+    let at = answers::words(out, 0, b"stores");
+    let next = answers::run(out, at, receive);
+    let end = answers::run(out, next, send);
+    answers::end(out, end);
+}

@@ -1,0 +1,314 @@
+// Each line of a script: its words are read, its call is made, and its answer is printed. A line that is no call changes nothing.
+//
+// A call is an entry of the table in `called`, which says the kinds of its words, and so the places of what they say; its
+// name among the numbers below; and a clause of `made`, or of `chosen` where it says what later calls are given.
+use crate::Desk;
+use crate::FILL;
+use crate::Given;
+use crate::answering;
+use crate::lent;
+use base::smaller;
+use build::Built;
+use calls::LENT;
+use calls::STORE;
+use calls::WORDS;
+use connection::Connection;
+use connection::Settings;
+use wire::instances::INSTANCES;
+use wire::instances::Party;
+use wire::instances::Side;
+use wire::instances::count;
+
+// The calls by their places in the table; a line that is no call; and one that is passed over.
+const BUNDLE: usize = 0;
+
+const OPEN: usize = 1;
+
+const LEND: usize = 2;
+
+const FEED: usize = 3;
+
+const TAKE: usize = 4;
+
+const BUILD: usize = 5;
+
+const PUT: usize = 6;
+
+const NEXT: usize = 7;
+
+const STATUS: usize = 8;
+
+const SHOW: usize = 9;
+
+const BAD: usize = 10;
+
+const NOTHING: usize = 11;
+
+// Which call a line is, and what its words say. Of a line that is too long only that is known.
+fn called(line: &mut [u8], long: bool, words: &mut [u64; WORDS]) -> usize {
+    if long {
+        return BAD;
+    }
+    if line.len() == 0 {
+        return NOTHING;
+    }
+    if line[0] == b'#' {
+        return NOTHING;
+    }
+    calls::said(
+        b"bundle n open snnnnnnnnnnnnnnnnnnn lend kk feed r take nb build nnlpb put nr next tb status . stores .",
+        BAD,
+        line,
+        words,
+    )
+}
+
+// Makes the call that a line spells.
+pub fn line(
+    d: Desk,
+    receive: &mut [u8; STORE],
+    send: &mut [u8; STORE],
+    line: &mut [u8],
+    long: bool,
+) -> Desk {
+    let mut words = [0; WORDS];
+    let call = called(line, long, &mut words);
+    let before = d.given;
+    let given = chosen(counted(before), call, words);
+    let c = d.connection;
+    let mut buf = [FILL; LENT];
+    let connection = made(c, given, receive, send, line, &mut buf, call, words);
+    Desk { connection, given }
+}
+
+// One line more.
+fn counted(g: Given) -> Given {
+    Given {
+        bundle: g.bundle,
+        receive: g.receive,
+        send: g.send,
+        lines: std::num::wrapping_add_u64(g.lines, 1),
+    }
+}
+
+// What this and later calls are given.
+fn chosen(g: Given, call: usize, words: [u64; WORDS]) -> Given {
+    match call {
+        BUNDLE => choosing(g, words[0]),
+        OPEN => opened(g, words),
+        LEND => lending(g, words[0] as usize, words[1] as usize),
+        _ => g,
+    }
+}
+
+fn opened(g: Given, words: [u64; WORDS]) -> Given {
+    let receive = sum(g.bundle, capacities(words, 2));
+    let send = sum(g.bundle, capacities(words, 11));
+    lending(g, receive, send)
+}
+
+fn choosing(g: Given, bundle: u64) -> Given {
+    Given {
+        bundle,
+        receive: g.receive,
+        send: g.send,
+        lines: g.lines,
+    }
+}
+
+fn lending(g: Given, receive: usize, send: usize) -> Given {
+    Given {
+        bundle: g.bundle,
+        receive,
+        send,
+        lines: g.lines,
+    }
+}
+
+// What a bundle's capacities add up to, and the whole store where that is more.
+fn sum(bundle: u64, caps: [u64; INSTANCES]) -> usize {
+    let n = count(bundle);
+    let mut sum: usize = 0;
+    let mut i: usize = 0;
+    while i < n {
+        sum = plus(sum, caps[i]);
+        i += 1;
+    }
+    sum
+}
+
+fn plus(sum: usize, cap: u64) -> usize {
+    if STORE as u64 <= cap {
+        return STORE;
+    }
+    smaller(STORE, smaller(STORE, sum) + cap as usize)
+}
+
+// As many numbers as the largest bundle has instances, from a place on.
+fn capacities(words: [u64; WORDS], from: usize) -> [u64; INSTANCES] {
+    let mut caps = [0; INSTANCES];
+    let mut i: usize = 0;
+    while i < INSTANCES {
+        caps[i] = calls::at(words, std::num::wrapping_add_usize(from, i));
+        i += 1;
+    }
+    caps
+}
+
+// The settings that SIDE S R0 .. R8 W0 .. W8 say.
+pub fn settings(bundle: u64, words: [u64; WORDS]) -> Settings {
+    let receive = capacities(words, 2);
+    let send = capacities(words, 11);
+    let party = Party {
+        bundle,
+        side: side(words[0]),
+    };
+    Settings {
+        party,
+        limit: words[1],
+        receive,
+        send,
+    }
+}
+
+fn side(n: u64) -> Side {
+    if n == 0 {
+        return Side::Dialler;
+    }
+    Side::Accepter
+}
+
+// Makes a call, prints its answer, and hands back the record.
+fn made(
+    c: Connection,
+    g: Given,
+    receive: &mut [u8; STORE],
+    send: &mut [u8; STORE],
+    line: &[u8],
+    buf: &mut [u8; LENT],
+    call: usize,
+    words: [u64; WORDS],
+) -> Connection {
+    match call {
+        OPEN => open(g, receive, send, words),
+        FEED => feed(c, g, receive, line, words),
+        TAKE => take(c, g, receive, words, buf),
+        BUILD => build(c, g, line, words, buf),
+        PUT => put(c, g, send, line, words),
+        NEXT => next(c, g, send, words, buf),
+        SHOW => show(c, g, receive, send),
+        _ => plain(c, g, call),
+    }
+}
+
+// The calls that are lent nothing, and a line that is no call.
+fn plain(c: Connection, g: Given, call: usize) -> Connection {
+    match call {
+        BUNDLE => answering::name(b"bundle"),
+        LEND => answering::name(b"lend"),
+        STATUS => answering::told(telling::status(c)),
+        BAD => answering::bad(g.lines),
+        _ => {}
+    }
+    c
+}
+
+// open SIDE S R0 .. R8 W0 .. W8
+fn open(g: Given, receive: &[u8], send: &[u8], words: [u64; WORDS]) -> Connection {
+    let r = lent(g.receive, receive);
+    let s = lent(g.send, send);
+    let o = opening::open(settings(g.bundle, words), &receive[..r], &send[..s]);
+    answering::number(b"open", o.number);
+    o.connection
+}
+
+// feed RUN
+fn feed(
+    c: Connection,
+    g: Given,
+    receive: &mut [u8],
+    line: &[u8],
+    words: [u64; WORDS],
+) -> Connection {
+    let r = lent(g.receive, receive);
+    let f = feeding::feed(c, &mut receive[..r], calls::bytes(line, words, 0));
+    answering::counted(b"feed", f.number, f.used);
+    f.connection
+}
+
+// take I LEN
+fn take(
+    c: Connection,
+    g: Given,
+    receive: &[u8],
+    words: [u64; WORDS],
+    buf: &mut [u8],
+) -> Connection {
+    let n = lent(words[1] as usize, buf);
+    taken(c, g, receive, words[0], &mut buf[..n])
+}
+
+fn taken(c: Connection, g: Given, receive: &[u8], i: u64, buf: &mut [u8]) -> Connection {
+    let r = lent(g.receive, receive);
+    let t = taking::take(c, &receive[..r], i, buf);
+    let m = t.message;
+    answering::taken(t.number, t.len, m, buf);
+    t.connection
+}
+
+// build I KIND NUMS PARTS LEN
+fn build(c: Connection, g: Given, line: &[u8], words: [u64; WORDS], buf: &mut [u8]) -> Connection {
+    let n = lent(words[14] as usize, buf);
+    built(g.bundle, line, words, &mut buf[..n]);
+    c
+}
+
+fn built(bundle: u64, line: &[u8], words: [u64; WORDS], buf: &mut [u8]) {
+    let b = message(bundle, line, words, buf);
+    answering::filled(b"build", b.number, b.len, buf);
+}
+
+// Of three runs the last is counted, and not handed over.
+fn message(bundle: u64, line: &[u8], words: [u64; WORDS], buf: &mut [u8]) -> Built {
+    let all = words;
+    build::build(
+        bundle,
+        words[0],
+        words[1],
+        calls::listed(&all, 2),
+        words[7],
+        calls::bytes(line, words, 8),
+        calls::bytes(line, words, 10),
+        buf,
+    )
+}
+
+// put I RUN
+fn put(c: Connection, g: Given, send: &mut [u8], line: &[u8], words: [u64; WORDS]) -> Connection {
+    let s = lent(g.send, send);
+    let q = putting::put(c, &mut send[..s], words[0], calls::bytes(line, words, 1));
+    answering::number(b"put", q.number);
+    q.connection
+}
+
+// next TIME LEN
+fn next(c: Connection, g: Given, send: &[u8], words: [u64; WORDS], buf: &mut [u8]) -> Connection {
+    let n = lent(words[1] as usize, buf);
+    segment(c, g, send, words[0], &mut buf[..n])
+}
+
+fn segment(c: Connection, g: Given, send: &[u8], time: u64, buf: &mut [u8]) -> Connection {
+    let s = lent(g.send, send);
+    let t = (time % 4294967296) as u32;
+    let m = sending::next_segment(c, &send[..s], t, buf);
+    answering::filled(b"next", m.number, m.len, buf);
+    m.connection
+}
+
+// stores
+fn show(c: Connection, g: Given, receive: &[u8], send: &[u8]) -> Connection {
+    let r = lent(g.receive, receive);
+    let s = lent(g.send, send);
+    answering::stores(&receive[..r], &send[..s]);
+    c
+}

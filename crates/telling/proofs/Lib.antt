@@ -1,0 +1,3 @@
+pub mod ShownLaws
+pub mod NumberLaws
+pub mod Once
