@@ -13,8 +13,9 @@ use Rattle.head.specs.declared.read.Head.the-variants.{Definite}
 use Rattle.head.proofs.ReadLaws.{definite-within, head-front, head-behind}
 use Rattle.item.specs.Grammar.{Frame, Reads}
 use Rattle.item.proofs.Local.{shorter}
-use Rattle.elements.specs.Matching.{Stands, PairsAt, no-pair, pair, VersionsAt, no-version, version}
-use Rattle.elements.proofs.ElementLaws.{pairs-items, versions-items}
+use Rattle.elements.specs.declared.Element.{Element}
+use Rattle.elements.specs.Besides.Matching.{Stands, ElementAt, an-item, a-pair, a-version, ElementsAt, no-element, an-element}
+use Rattle.elements.proofs.ElementLaws.{advance, elements-on}
 
 -- the run from place a up to place e
 module _ (bs : List ℕ) (a e : ℕ) (h : a ≤ e) (l : e ≤ length bs) where
@@ -56,26 +57,22 @@ module _ (bs : List ℕ) (a e : ℕ) (h : a ≤ e) (l : e ≤ length bs) where
             (subst (Reads d f (drop p bs)) (drop-cut q (omega arith) to) (s .reads)));
       }
 
-  pairs-cut : {k p q : ℕ} → a ≤ p → q ≤ e → PairsAt bs k p q → PairsAt part k (p - a) (q - a)
-  pairs-cut from to no-pair = no-pair
-  pairs-cut from to (pair {p = p} {b = b} o i u less r) =
+  element-cut : {d : ℕ} {el : Element} {low p next q : ℕ} → a ≤ p → q ≤ e → ElementAt bs d el low p next q → ElementAt part d el low (p - a) next (q - a)
+  element-cut from to (an-item i) = an-item (cut from to i)
+  element-cut from to (a-pair {p = p} {b = b} o i u less) =
       let w = definite-within bs p o in
       let w′ = definite-within bs b u in
-      let rest = pairs-items bs (w′ .1) r in
-      pair (head-cut from (omega (arith, i .forward, w′ .0, rest .forward)) o)
-      (cut (omega (arith, w .0)) (omega (arith, w′ .0, rest .forward)) i)
-      (head-cut (omega (arith, w .0, i .forward)) (omega (arith, rest .forward)) u)
+      a-pair (head-cut from (omega (arith, i .forward, w′ .0)) o) (cut (omega (arith, w .0)) (omega (arith, w′ .0)) i)
+      (head-cut (omega (arith, w .0, i .forward)) to u)
       less
-      (pairs-cut (omega (arith, w .0, i .forward, w′ .0)) to r)
-
-  versions-cut : {low k p q : ℕ} → a ≤ p → q ≤ e → VersionsAt bs low k p q → VersionsAt part low k (p - a) (q - a)
-  versions-cut from to no-version = no-version
-  versions-cut from to (version {p = p} u low high i r) =
+  element-cut from to (a-version {p = p} u low high i) =
       let w = definite-within bs p u in
-      let rest = versions-items bs (i .inside) r in
-      version (head-cut from (omega (arith, i .forward, rest .forward)) u) low high
-      (cut (omega (arith, w .0)) (omega (arith, rest .forward)) i)
-      (versions-cut (omega (arith, w .0, i .forward)) to r)
+      a-version (head-cut from (omega (arith, i .forward)) u) low high (cut (omega (arith, w .0)) to i)
+
+  elements-cut : {d : ℕ} {el : Element} {low k p q : ℕ} → a ≤ p → q ≤ e → ElementsAt bs d el low k p q → ElementsAt part d el low k (p - a) (q - a)
+  elements-cut from to no-element = no-element
+  elements-cut from to (an-element s r) =
+      an-element (element-cut from (omega (arith, elements-on bs r)) s) (elements-cut (omega (arith, advance bs s .0)) to r)
 
 -- the run from where it begins up to where it ends: from its first place up to its last
 module _ (bs : List ℕ) (p q : ℕ) (h : p ≤ q) (l : q ≤ length bs) where
@@ -91,8 +88,5 @@ module _ (bs : List ℕ) (p q : ℕ) (h : p ≤ q) (l : q ≤ length bs) where
   pub stands-alone : {d : ℕ} {f : Frame} → Stands bs d f p q → Stands alone d f 0 (length alone)
   stands-alone {d} {f} s = from-first (Stands alone d f) (cut bs p q h l (omega arith) (omega arith) s)
 
-  pub pairs-alone : {k : ℕ} → PairsAt bs k p q → PairsAt alone k 0 (length alone)
-  pairs-alone {k} r = from-first (PairsAt alone k) (pairs-cut bs p q h l (omega arith) (omega arith) r)
-
-  pub versions-alone : {low k : ℕ} → VersionsAt bs low k p q → VersionsAt alone low k 0 (length alone)
-  versions-alone {low} {k} r = from-first (VersionsAt alone low k) (versions-cut bs p q h l (omega arith) (omega arith) r)
+  pub elements-alone : {d : ℕ} {e : Element} {low k : ℕ} → ElementsAt bs d e low k p q → ElementsAt alone d e low k 0 (length alone)
+  elements-alone {d} {e} {low} {k} r = from-first (ElementsAt alone d e low k) (elements-cut bs p q h l (omega arith) (omega arith) r)

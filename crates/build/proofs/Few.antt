@@ -1,7 +1,8 @@
--- What is small of a form: its kind is at most 9, and it has no more than three fields, of which no more than two are given by runs.
+-- What is small of a form: its kind is at most 9, and it has no more than three fields, of which no more than two are given by runs; its numbers
+-- are below 2^32.
 -- Each holds of every row of the tables, and so of what is found in one.
 -- Assumes nothing.
-use Prim.Native.Nat.{ℕ, zero, suc, _≤_}
+use Prim.Native.Nat.{ℕ, zero, suc, _^_, _≤_}
 use mathlib.Core.Path.{_≡_, refl, ap, subst}
 use mathlib.Core.Bool.{Bool, true, cond, _&&_}
 use mathlib.Core.List.{List, [], _∷_}
@@ -14,39 +15,76 @@ use Rattle.rows.specs.declared.Protocol.{Protocol}
 use Rattle.rows.proofs.ByProtocol.{each-protocol}
 use Rattle.item.proofs.Derivative.{nothing}
 use Rattle.elements.specs.declared.Field.{Field}
+use Rattle.elements.specs.declared.Field.the-variants as field
 use Rattle.messages.specs.Forms.{Form, forms, formIn, formOf}
-use Rattle.elements.specs.Matching.{Value, FieldAt}
-use Rattle.messages.specs.Matching.{FieldsAt, no-field, a-field}
-use Rattle.elements.specs.Matching as matching
+use Rattle.elements.specs.Besides.Matching.{Value, FieldAt}
+use Rattle.messages.specs.Besides.Matching.{FieldsAt, no-field, a-field}
+use Rattle.elements.specs.Besides.Matching as matching
 use Rattle.parts.specs.Given.{numeric}
-use Rattle.build.specs.Theorem.{runsOf}
+use Rattle.build.specs.Besides.Theorem.{runsOf}
 
 -- how many fields are given by runs
 pub runsIn : List Field → ℕ
 runsIn [] = zero
 runsIn (f ∷ fs) = cond (numeric f) (runsIn fs) (suc (runsIn fs))
 
+-- the limit of a field that is a number
+abbrev pub Low : Field → Type 0
+Low field.Item = Unit {0}
+Low (field.List e) = Unit {0}
+Low (field.Below limit) = limit ≤ 2 ^ 32
+Low field.Bool = Unit {0}
+
+abbrev pub AllLow : List Field → Type 0
+AllLow [] = Unit {0}
+AllLow (f ∷ fs) = Low f × AllLow fs
+
 pub record Few (kind : ℕ) (fs : List Field) : Type 0 where
   pub kinds : kind ≤ 9
   pub fields : length fs ≤ 3
   pub runs : runsIn fs ≤ 2
+  pub limits : AllLow fs
 
 -- the same as a test, and of all rows
+low : Field → Bool
+low field.Item = true
+low (field.List e) = true
+low (field.Below limit) = leb limit (2 ^ 32)
+low field.Bool = true
+
+all-low : List Field → Bool
+all-low [] = true
+all-low (f ∷ fs) = low f && all-low fs
+
 few : ℕ → List Field → Bool
-few k fs = leb k 9 && (leb (length fs) 3 && leb (runsIn fs) 2)
+few k fs = leb k 9 && (leb (length fs) 3 && (leb (runsIn fs) 2 && all-low fs))
 
 all-few : List Form → Bool
 all-few [] = true
 all-few (f ∷ l) = few (f .kind) (f .fields) && all-few l
 
+is-low : (f : Field) → T (low f) → Low f
+unfolding low
+is-low field.Item t = tt
+is-low (field.List e) t = tt
+is-low (field.Below limit) t = leb→le limit (2 ^ 32) t
+is-low field.Bool t = tt
+
+are-low : (fs : List Field) → T (all-low fs) → AllLow fs
+unfolding all-low
+are-low [] t = tt
+are-low (f ∷ fs) t = (is-low f (and-left (low f) (all-low fs) t), are-low fs (and-right (low f) (all-low fs) t))
+
 is-few : (k : ℕ) (fs : List Field) → T (few k fs) → Few k fs
 unfolding few
 is-few k fs t =
-    let u = and-right (leb k 9) (leb (length fs) 3 && leb (runsIn fs) 2) t in
+    let u = and-right (leb k 9) (leb (length fs) 3 && (leb (runsIn fs) 2 && all-low fs)) t in
+    let v = and-right (leb (length fs) 3) (leb (runsIn fs) 2 && all-low fs) u in
     record {
-      kinds = leb→le k 9 (and-left (leb k 9) (leb (length fs) 3 && leb (runsIn fs) 2) t);
-      fields = leb→le (length fs) 3 (and-left (leb (length fs) 3) (leb (runsIn fs) 2) u);
-      runs = leb→le (runsIn fs) 2 (and-right (leb (length fs) 3) (leb (runsIn fs) 2) u);
+      kinds = leb→le k 9 (and-left (leb k 9) (leb (length fs) 3 && (leb (runsIn fs) 2 && all-low fs)) t);
+      fields = leb→le (length fs) 3 (and-left (leb (length fs) 3) (leb (runsIn fs) 2 && all-low fs) u);
+      runs = leb→le (runsIn fs) 2 (and-left (leb (runsIn fs) 2) (all-low fs) v);
+      limits = are-low fs (and-right (leb (runsIn fs) 2) (all-low fs) v);
     }
 
 few-in : (k : ℕ) (l : List Form) {fs : List Field} → T (all-few l) → formIn k l ≡ some fs → Few k fs
@@ -62,7 +100,7 @@ few-in k (f ∷ l) {fs} t =
     (λ _. few-in k l (and-right (few (f .kind) (f .fields)) (all-few l) t))
 
 each-few : (p : Protocol) → T (all-few (forms p))
-unfolding all-few few runsIn
+unfolding all-few few runsIn all-low low
 each-few = each-protocol (λ p. all-few (forms p)) tt
 
 pub form-few : (p : Protocol) (kind : ℕ) {fs : List Field} → formOf p kind ≡ some fs → Few kind fs
@@ -74,13 +112,9 @@ one-more : (bs : List ℕ) {f : Field} {p q : ℕ} {x : Value} (fs : List Field)
 unfolding runsIn
 one-more bs fs xs (matching.item i) e = ap suc e
 one-more bs fs xs (matching.list o s) e = ap suc e
-one-more bs fs xs (matching.pairs o r) e = ap suc e
-one-more bs fs xs (matching.version-map o r) e = ap suc e
-one-more bs fs xs (matching.word u l) e = e
+one-more bs fs xs (matching.below u l) e = e
 one-more bs fs xs (matching.false b) e = e
 one-more bs fs xs (matching.true b) e = e
-one-more bs fs xs (matching.a-version u l) e = e
-one-more bs fs xs (matching.failure u l) e = e
 
 pub runs-counted : (bs : List ℕ) {fs : List Field} {p q : ℕ} {xs : List Value} → FieldsAt bs fs p xs q → length (runsOf bs xs) ≡ runsIn fs
 unfolding runsIn

@@ -18,10 +18,11 @@ use Rattle.elements.specs.declared.Field.the-variants as field
 use Rattle.elements.specs.declared.End.{End}
 use Rattle.elements.specs.declared.End.the-variants.{At, Nowhere}
 use Rattle.messages.specs.Forms.{formOf}
-use Rattle.elements.specs.Matching.{array, map, words, versions, failures, inMessage}
+use Rattle.elements.specs.Matching.{array, inMessage, opener}
 use Rattle.elements.specs.Reading.{onEnd, itemEnd}
+use Rattle.elements.proofs.ElementLaws.{opener-low}
 use Rattle.parts.specs.Given.{numeric}
-use Rattle.parts.specs.Counting.{onSome, elementsOf, nextItem, nextPair, nextVersion}
+use Rattle.parts.specs.Counting.{onSome, countOf}
 use Rattle.parts.proofs.Counting.{Found}
 use Rattle.build.specs.Made.{headed, limited, ofNumber, ofRun, firstOf, allUsed, made, encoded}
 
@@ -33,14 +34,10 @@ limited-bytes limit v = cond-cases (Found Bytes) (ltb v limit) (λ _. shortest-b
 number-bytes : (f : Field) (v : ℕ) → Found Bytes (ofNumber f v)
 unfolding Bytes
 number-bytes field.Item v = tt
-number-bytes field.Items v = tt
-number-bytes field.Pairs v = tt
-number-bytes field.Versions v = tt
-number-bytes field.Word v = limited-bytes words v
+number-bytes (field.List e) v = tt
+number-bytes (field.Below limit) v = limited-bytes limit v
 number-bytes field.Bool v =
     cond-cases (Found Bytes) (eqb v 0) (λ _. (omega arith, tt)) (λ _. cond-cases (Found Bytes) (eqb v 1) (λ _. (omega arith, tt)) (λ _. tt))
-number-bytes field.Version v = limited-bytes versions v
-number-bytes field.Failure v = limited-bytes failures v
 
 item-bytes : (r : List ℕ) (e : End) → Bytes r → Found Bytes (onEnd none e (λ q. cond (eqb q (length r)) (some r) none))
 item-bytes r (At q) b = cond-cases (Found Bytes) (eqb q (length r)) (λ _. b) (λ _. tt)
@@ -52,13 +49,9 @@ headed-bytes m r (some k) h b = bytes-append (shortest m k) r (shortest-bytes m 
 
 run-bytes : (f : Field) (r : List ℕ) → Bytes r → Found Bytes (ofRun f r)
 run-bytes field.Item r b = item-bytes r (itemEnd r inMessage 0) b
-run-bytes field.Items r b = headed-bytes array r (elementsOf (nextItem r) r) (omega arith) b
-run-bytes field.Pairs r b = headed-bytes array r (elementsOf (nextPair r) r) (omega arith) b
-run-bytes field.Versions r b = headed-bytes map r (elementsOf (nextVersion r) r) (omega arith) b
-run-bytes field.Word r b = tt
+run-bytes (field.List e) r b = headed-bytes (opener e) r (countOf e r) (omega (arith, opener-low e)) b
+run-bytes (field.Below limit) r b = tt
 run-bytes field.Bool r b = tt
-run-bytes field.Version r b = tt
-run-bytes field.Failure r b = tt
 
 -- ---- messages
 

@@ -18,16 +18,16 @@ use Rattle.ring.specs.Ring.{run}
 use Rattle.wire.specs.Instances.{bundles, known, instances}
 use Rattle.wire.proofs.InstanceLaws.{known-some}
 use Rattle.rows.specs.Spoken.{speaks}
-use Rattle.elements.specs.Matching.{Value}
-use Rattle.messages.specs.Matching.{Matches}
+use Rattle.elements.specs.Besides.Matching.{Value}
+use Rattle.messages.specs.Besides.Matching.{Matches}
 use Rattle.parts.specs.Given.{allGiven}
 use Rattle.parts.specs.Counting.{onSome}
 use Rattle.parts.proofs.Counting.{Found}
 use Rattle.build.specs.declared.Built.{Built}
 use Rattle.build.specs.Made.{encoded}
 use Rattle.build.specs.Building.{Told, told, refused, given, bytesOf, handed, buildOf}
-use Rattle.build.specs.Theorem.{numbersOf, runsOf, Slices, OwnLeast}
-use Rattle.build.specs.Numbers.{When, unknown-bundle, no-instance, makes-none, no-room, done, Exactly, NoMessage, Untouched, Stands, ReadsBack, Givable, Rebuilds}
+use Rattle.build.specs.Besides.Theorem.{numbersOf, runsOf, Slices, OwnLeast}
+use Rattle.build.specs.Besides.Numbers.{When, unknown-bundle, no-instance, makes-none, no-room, done, Exactly, NoMessage, Untouched, Stands, ReadsBack, Givable, Rebuilds}
 use Rattle.build.proofs.Few.{form-few, runs-counted}
 use Rattle.build.proofs.MadeBytes.{AllBytes, encoded-bytes}
 use Rattle.build.proofs.Pieces.{message-made}

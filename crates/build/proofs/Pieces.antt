@@ -20,17 +20,16 @@ use Rattle.head.proofs.ReadLaws.{definite-within}
 use Rattle.head.proofs.WriteLaws.{none-shorter}
 use Rattle.rows.specs.declared.Protocol.{Protocol}
 use Rattle.elements.specs.declared.Field.{Field}
-use Rattle.elements.specs.Matching.{Value, number, place, Opens, array, False, True, FieldAt}
-use Rattle.messages.specs.Matching.{FieldsAt, no-field, a-field, Matches}
-use Rattle.elements.specs.Matching as matching
-use Rattle.elements.proofs.ElementLaws.{item-found, pairs-items, versions-items}
-use Rattle.elements.proofs.ElementLaws.{field-item}
-use Rattle.parts.specs.declared.runs.Element.the-variants as element
+use Rattle.elements.specs.Besides.Matching.{Value, number, place, Opens, FieldAt}
+use Rattle.elements.specs.Matching.{array, False, True}
+use Rattle.messages.specs.Besides.Matching.{FieldsAt, no-field, a-field, Matches}
+use Rattle.elements.specs.Besides.Matching as matching
+use Rattle.elements.proofs.ElementLaws.{item-found, elements-on, elements-inside, field-item}
 use Rattle.parts.specs.Counting.{onSome}
 use Rattle.parts.proofs.Counted.{counts}
 use Rattle.build.specs.Made.{headed, limited, ofNumber, ofRun, made, encoded}
-use Rattle.build.specs.Theorem.{numbersOf, runsOf, Least, FieldLeast, FieldsLeast, OwnLeast}
-use Rattle.build.proofs.Cut.{stands-alone, pairs-alone, versions-alone}
+use Rattle.build.specs.Besides.Theorem.{numbersOf, runsOf, Least, FieldLeast, FieldsLeast, OwnLeast}
+use Rattle.build.proofs.Cut.{stands-alone, elements-alone}
 
 -- ---- pieces
 
@@ -120,22 +119,13 @@ module _ (bs : List ℕ) where
       let r : List ℕ = run bs p (q - p) in
       let n : ℕ = length r in
       (r, rw (item-found r (stands-alone bs p q (i .forward) (i .inside) i), eq-eqb n n refl), run-piece (i .forward) (i .inside) refl)
-  field-made bytes (matching.list {k = k} {a = a} {q = q} o s) =
-      list-made bytes o (s .forward) (s .inside)
-      (counts element.Item (run bs a (q - a)) k .1 (stands-alone bs a q (s .forward) (s .inside) s))
-  field-made bytes (matching.pairs {p = p} {k = k} {a = a} {q = q} o s) =
-      let i = pairs-items bs (definite-within bs p o .1) s in
-      list-made bytes o (i .forward) (i .inside)
-      (counts element.Pair (run bs a (q - a)) k .1 (pairs-alone bs a q (i .forward) (i .inside) s))
-  field-made bytes (matching.version-map {p = p} {k = k} {a = a} {q = q} o s) =
-      let i = versions-items bs (definite-within bs p o .1) s in
-      list-made bytes o (i .forward) (i .inside)
-      (counts element.Version (run bs a (q - a)) k .1 (versions-alone bs a q (i .forward) (i .inside) s))
-  field-made bytes (matching.word u l) = number-made bytes u l
+  field-made bytes (matching.list {e = e} {p = p} {k = k} {a = a} {q = q} o s) =
+      let h = elements-on bs s in
+      let l = elements-inside bs (definite-within bs p o .1) s in
+      list-made bytes o (omega arith) l (counts e (run bs a (q - a)) k .1 (elements-alone bs a q (omega arith) l s))
+  field-made bytes (matching.below u l) = number-made bytes u l
   field-made bytes (matching.false e) = (False ∷ [], refl, byte-piece False e (field-item bs (matching.false e) .inside))
   field-made bytes (matching.true e) = (True ∷ [], refl, byte-piece True e (field-item bs (matching.true e) .inside))
-  field-made bytes (matching.a-version u l) = number-made bytes u l
-  field-made bytes (matching.failure u l) = number-made bytes u l
 
   -- the first field takes what it says
   first-made : {f : Field} {p q : ℕ} {x : Value} → FieldAt bs f p x q → (fs : List Field) (xs : List Value)
@@ -144,13 +134,9 @@ module _ (bs : List ℕ) where
   unfolding made
   first-made (matching.item i) fs xs = refl
   first-made (matching.list o s) fs xs = refl
-  first-made (matching.pairs o r) fs xs = refl
-  first-made (matching.version-map o r) fs xs = refl
-  first-made (matching.word u l) fs xs = refl
+  first-made (matching.below u l) fs xs = refl
   first-made (matching.false e) fs xs = refl
   first-made (matching.true e) fs xs = refl
-  first-made (matching.a-version u l) fs xs = refl
-  first-made (matching.failure u l) fs xs = refl
 
   fields-made : {fs : List Field} {p q : ℕ} {xs : List Value} → Bytes bs → p ≤ length bs → (s : FieldsAt bs fs p xs q)
       → Gives (made fs (numbersOf xs) (runsOf bs xs)) p q (FieldsLeast s)

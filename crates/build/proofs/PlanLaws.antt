@@ -18,7 +18,7 @@ use Rattle.elements.specs.declared.Field.{Field}
 use Rattle.elements.specs.declared.Field.the-variants as field
 use Rattle.elements.specs.declared.End.{End}
 use Rattle.elements.specs.declared.End.the-variants.{At, Nowhere}
-use Rattle.elements.specs.Matching.{words, versions, failures, inMessage}
+use Rattle.elements.specs.Matching.{inMessage}
 use Rattle.elements.specs.Reading.{onEnd, itemEnd}
 use Rattle.parts.specs.Given.{numeric, allGiven, empty}
 use Rattle.parts.specs.Counting.{onSome}
@@ -37,16 +37,12 @@ limited-piece limit v f e = by-test (ltb v limit) (λ t. rw t (ap some (sym (e v
 pub number-piece : (f : Field) (v : ℕ) (run : List ℕ) → numeric f ≡ true → ofNumber f v ≡ onSome (numberArgument f v) (λ a. some (pieceOf f a run))
 unfolding pieceOf shortest octets
 number-piece field.Item v run t = absurd (false≢true t)
-number-piece field.Items v run t = absurd (false≢true t)
-number-piece field.Pairs v run t = absurd (false≢true t)
-number-piece field.Versions v run t = absurd (false≢true t)
-number-piece field.Word v run t = limited-piece words v (λ a. pieceOf field.Word a run) (λ a. append-nil (shortest 0 a))
+number-piece (field.List e) v run t = absurd (false≢true t)
+number-piece (field.Below limit) v run t = limited-piece limit v (λ a. pieceOf (field.Below limit) a run) (λ a. append-nil (shortest 0 a))
 number-piece field.Bool zero run t = refl
 number-piece field.Bool (suc zero) run t = refl
 number-piece field.Bool (suc (suc v)) run t =
     rw (ne-eqb (suc (suc v)) 0 (λ e. omega arith), ne-eqb (suc (suc v)) 1 (λ e. omega arith), le-ltb (suc (suc v)) 2 (omega arith))
-number-piece field.Version v run t = limited-piece versions v (λ a. pieceOf field.Version a run) (λ a. append-nil (shortest 0 a))
-number-piece field.Failure v run t = limited-piece failures v (λ a. pieceOf field.Failure a run) (λ a. append-nil (shortest 0 a))
 
 one-piece : (run : List ℕ) (e : End) → onEnd none e (λ q. cond (eqb q (length run)) (some run) none)
     ≡ onSome (onEnd none e (λ q. cond (eqb q (length run)) (some 0) none)) (λ a. some (pieceOf field.Item a run))
@@ -57,13 +53,9 @@ one-piece run Nowhere = refl
 pub run-piece : (f : Field) (run : List ℕ) → numeric f ≡ false → ofRun f run ≡ onSome (runArgument f run) (λ a. some (pieceOf f a run))
 unfolding pieceOf
 run-piece field.Item run t = one-piece run (itemEnd run inMessage 0)
-run-piece field.Items run t = refl
-run-piece field.Pairs run t = refl
-run-piece field.Versions run t = refl
-run-piece field.Word run t = absurd (true≢false t)
+run-piece (field.List e) run t = refl
+run-piece (field.Below limit) run t = absurd (true≢false t)
 run-piece field.Bool run t = absurd (true≢false t)
-run-piece field.Version run t = absurd (true≢false t)
-run-piece field.Failure run t = absurd (true≢false t)
 
 -- ---- a field in front of others: its argument stays where it was set
 

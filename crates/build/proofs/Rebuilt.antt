@@ -9,8 +9,8 @@ use native.Mathlib.Nat.{min-le-right}
 use lib.ListN.{length, drop, length-take, length-drop}
 use lib.Seq.{take-all}
 use Rattle.ring.specs.Ring.{run}
-use Rattle.elements.specs.Matching.{Value, number, place}
-use Rattle.build.specs.Theorem.{runsOf, numbersOf, Slices, Rebuilds}
+use Rattle.elements.specs.Besides.Matching.{Value, number, place}
+use Rattle.build.specs.Besides.Theorem.{runsOf, numbersOf, Slices, Rebuilds}
 use Rattle.build.proofs.Pieces.{message-made}
 use Rattle.build.proofs.Theorem.{read-back}
 

@@ -11,7 +11,8 @@ use Rattle.head.specs.declared.read.Head.the-variants.{Definite}
 use Rattle.head.proofs.ReadLaws.{moved, cut-short, head-longer, head-moved}
 use Rattle.item.specs.Grammar.{Frame, Reads}
 use Rattle.item.proofs.Local.{longer}
-use Rattle.elements.specs.Matching.{Stands, PairsAt, no-pair, pair, VersionsAt, no-version, version}
+use Rattle.elements.specs.declared.Element.{Element}
+use Rattle.elements.specs.Besides.Matching.{Stands, ElementAt, an-item, a-pair, a-version, ElementsAt, no-element, an-element}
 
 module _ (xs bs ys : List ℕ) where
   abbrev whole : List ℕ
@@ -38,10 +39,11 @@ module _ (xs bs ys : List ℕ) where
             (subst (λ (l : List ℕ). Reads d f (drop p bs ++ ys) l) (sym (drop-shift q (s .inside))) (longer ys (s .reads)));
       }
 
-  pub pairs-shift : {k p q : ℕ} → PairsAt bs k p q → PairsAt whole k (length xs + p) (length xs + q)
-  pairs-shift no-pair = no-pair
-  pairs-shift (pair {p = p} {b = b} o i u l r) = pair (head-shift p o) (shift i) (head-shift b u) l (pairs-shift r)
+  element-shift : {d : ℕ} {e : Element} {low p next q : ℕ} → ElementAt bs d e low p next q → ElementAt whole d e low (length xs + p) next (length xs + q)
+  element-shift (an-item i) = an-item (shift i)
+  element-shift (a-pair {p = p} {b = b} o i u l) = a-pair (head-shift p o) (shift i) (head-shift b u) l
+  element-shift (a-version {p = p} u l h i) = a-version (head-shift p u) l h (shift i)
 
-  pub versions-shift : {low k p q : ℕ} → VersionsAt bs low k p q → VersionsAt whole low k (length xs + p) (length xs + q)
-  versions-shift no-version = no-version
-  versions-shift (version {p = p} u l h i r) = version (head-shift p u) l h (shift i) (versions-shift r)
+  pub elements-shift : {d : ℕ} {e : Element} {low k p q : ℕ} → ElementsAt bs d e low k p q → ElementsAt whole d e low k (length xs + p) (length xs + q)
+  elements-shift no-element = no-element
+  elements-shift (an-element s r) = an-element (element-shift s) (elements-shift r)

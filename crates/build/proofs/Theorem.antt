@@ -14,14 +14,15 @@ use Rattle.head.proofs.WriteLaws.{reads-back}
 use Rattle.rows.specs.declared.Protocol.{Protocol}
 use Rattle.elements.specs.declared.Field.{Field}
 use Rattle.messages.specs.Forms.{formOf}
-use Rattle.elements.specs.Matching.{Value, number, place, array}
-use Rattle.messages.specs.Matching.{FieldsAt, no-field, a-field, Matches}
+use Rattle.elements.specs.Besides.Matching.{Value, number, place}
+use Rattle.elements.specs.Matching.{array}
+use Rattle.messages.specs.Besides.Matching.{FieldsAt, no-field, a-field, Matches}
 use Rattle.parts.specs.Given.{numeric}
 use Rattle.parts.specs.Counting.{onSome}
 use Rattle.parts.proofs.Counting.{Found, some-cases}
 use Rattle.build.specs.Made.{ofNumber, ofRun, firstOf, allUsed, made, encoded}
-use Rattle.build.specs.Theorem.{numbersOf, runsOf, Slices, FieldsLeast, OwnLeast, ReadsBack}
-use Rattle.build.proofs.Few.{Few, form-few}
+use Rattle.build.specs.Besides.Theorem.{numbersOf, runsOf, Slices, FieldsLeast, OwnLeast, ReadsBack}
+use Rattle.build.proofs.Few.{Low, AllLow, Few, form-few}
 use Rattle.build.proofs.Written.{LeastAt, run-there, number-says, run-holds}
 
 -- the fields stand there, and their own heads are as short as can be
@@ -57,11 +58,11 @@ none-say [] [] =
 none-say [] (r ∷ rs) = tt
 none-say (n ∷ ns) rs = tt
 
-number-step : (f : Field) (fs : List Field) (v : ℕ) (ns : List ℕ) (rs : List (List ℕ)) → Found (Say fs ns rs) (made fs ns rs)
+number-step : (f : Field) (fs : List Field) (v : ℕ) (ns : List ℕ) (rs : List (List ℕ)) → Low f → Found (Say fs ns rs) (made fs ns rs)
     → Found (Say (f ∷ fs) (v ∷ ns) rs) (onSome (ofNumber f v) (λ xs. onSome (made fs ns rs) (λ ys. some (xs ++ ys))))
-number-step f fs v ns rs rest =
+number-step f fs v ns rs low rest =
     let P : Option (List ℕ) → Type 0 = Found (Say (f ∷ fs) (v ∷ ns) rs) in
-    some-cases P (λ xs. onSome (made fs ns rs) (λ ys. some (xs ++ ys))) (ofNumber f v) (number-says f v) tt
+    some-cases P (λ xs. onSome (made fs ns rs) (λ ys. some (xs ++ ys))) (ofNumber f v) (number-says f v low) tt
     (λ cs here.
     some-cases P (λ ys. some (cs ++ ys)) (made fs ns rs) rest tt
     (λ ys say xs.
@@ -89,10 +90,10 @@ run-step f fs r ns rs small rest =
       ap (λ (l : List ℕ). l ∷ runsOf (xs ++ (cs ++ ys)) (s .0)) (h .3) ∙ ap (λ (l : List (List ℕ)). r ∷ l) others,
     )))
 
-of-numbers : (f : Field) (fs : List Field) (ns : List ℕ) (rs : List (List ℕ)) → ((ns : List ℕ) → Found (Say fs ns rs) (made fs ns rs))
+of-numbers : (f : Field) (fs : List Field) (ns : List ℕ) (rs : List (List ℕ)) → Low f → ((ns : List ℕ) → Found (Say fs ns rs) (made fs ns rs))
     → Found (Say (f ∷ fs) ns rs) (firstOf ns (λ v ns. onSome (ofNumber f v) (λ xs. onSome (made fs ns rs) (λ ys. some (xs ++ ys)))))
-of-numbers f fs [] rs rest = tt
-of-numbers f fs (v ∷ ns) rs rest = number-step f fs v ns rs (rest ns)
+of-numbers f fs [] rs low rest = tt
+of-numbers f fs (v ∷ ns) rs low rest = number-step f fs v ns rs low (rest ns)
 
 of-runs : (f : Field) (fs : List Field) (ns : List ℕ) (rs : List (List ℕ)) → Slices rs
     → ((rs : List (List ℕ)) → Slices rs → Found (Say fs ns rs) (made fs ns rs))
@@ -100,13 +101,13 @@ of-runs : (f : Field) (fs : List Field) (ns : List ℕ) (rs : List (List ℕ)) �
 of-runs f fs ns [] fit rest = tt
 of-runs f fs ns (r ∷ rs) (small, fit) rest = run-step f fs r ns rs small (rest rs fit)
 
-fields-say : (fs : List Field) (ns : List ℕ) (rs : List (List ℕ)) → Slices rs → Found (Say fs ns rs) (made fs ns rs)
+fields-say : (fs : List Field) (ns : List ℕ) (rs : List (List ℕ)) → AllLow fs → Slices rs → Found (Say fs ns rs) (made fs ns rs)
 unfolding made
-fields-say [] ns rs fit = none-say ns rs
-fields-say (f ∷ fs) ns rs fit =
+fields-say [] ns rs low fit = none-say ns rs
+fields-say (f ∷ fs) ns rs low fit =
     cond-cases (Found (Say (f ∷ fs) ns rs)) (numeric f)
-    (λ _. of-numbers f fs ns rs (λ ns. fields-say fs ns rs fit))
-    (λ _. of-runs f fs ns rs fit (λ rs fit. fields-say fs ns rs fit))
+    (λ _. of-numbers f fs ns rs (low .0) (λ ns. fields-say fs ns rs (low .1) fit))
+    (λ _. of-runs f fs ns rs fit (λ rs fit. fields-say fs ns rs (low .1) fit))
 
 -- ---- the message
 
@@ -154,7 +155,7 @@ encoded-back p kind ns rs fit =
     some-cases P (λ fs. onSome (made fs ns rs) (λ ys. some (shortest array (length fs + 1) ++ (shortest 0 kind ++ ys)))) (formOf p kind)
     (known (formOf p kind)) tt
     (λ fs e.
-    some-cases P (λ ys. some (shortest array (length fs + 1) ++ (shortest 0 kind ++ ys))) (made fs ns rs) (fields-say fs ns rs fit) tt
+    some-cases P (λ ys. some (shortest array (length fs + 1) ++ (shortest 0 kind ++ ys))) (made fs ns rs) (fields-say fs ns rs (form-few p kind e .limits) fit) tt
     (λ ys say. message-back p kind ns rs fs ys e say))
 
 pub read-back : ReadsBack

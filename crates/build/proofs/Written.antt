@@ -16,22 +16,21 @@ use Rattle.head.specs.Read.{headAt}
 use Rattle.head.specs.declared.read.Head.the-variants.{Definite}
 use Rattle.head.specs.Write.{shortest}
 use Rattle.head.proofs.WriteLaws.{reads-back}
-use Rattle.item.specs.Grammar.{Frame}
+use Rattle.elements.specs.declared.Element.{Element}
 use Rattle.elements.specs.declared.Field.{Field}
 use Rattle.elements.specs.declared.Field.the-variants as field
-use Rattle.elements.specs.Matching.{Value, number, place, Stands, ItemAt, Opens, UnsignedAt, array, map, versions, words, failures, False, True, inMessage, PairsAt, VersionsAt, FieldAt}
-use Rattle.elements.specs.Matching as matching
+use Rattle.elements.specs.Besides.Matching.{Value, number, place, ItemAt, Opens, ElementsAt, FieldAt}
+use Rattle.elements.specs.Matching.{False, True, inMessage, inList, opener}
+use Rattle.elements.specs.Besides.Matching as matching
 use Rattle.elements.specs.Reading.{itemEnd}
-use Rattle.elements.proofs.ElementLaws.{end-cases, item-sound}
-use Rattle.parts.specs.declared.runs.Element.{Element}
-use Rattle.parts.specs.declared.runs.Element.the-variants as element
+use Rattle.elements.proofs.ElementLaws.{opener-low, end-cases, item-sound}
 use Rattle.parts.specs.Counting.{countOf}
-use Rattle.parts.specs.Theorem.{Elements}
 use Rattle.parts.proofs.Counting.{Found, some-cases}
 use Rattle.parts.proofs.Counted.{counted}
 use Rattle.build.specs.Made.{oneItem, headed, limited, truth, ofNumber, ofRun}
-use Rattle.build.specs.Theorem.{Least, FieldLeast}
-use Rattle.build.proofs.Shift.{shift, pairs-shift, versions-shift}
+use Rattle.build.specs.Besides.Theorem.{Least, FieldLeast}
+use Rattle.build.proofs.Few.{Low}
+use Rattle.build.proofs.Shift.{shift, elements-shift}
 
 -- a field stands there, and its own heads are as short as can be
 abbrev pub LeastAt : List ℕ → Field → ℕ → Value → ℕ → Type 0
@@ -47,16 +46,13 @@ run-there xs r ys l e = ap (take l) (drop-at xs (r ++ ys) (length xs) refl) ∙ 
 abbrev pub Says : Field → ℕ → List ℕ → Type 0
 Says f v cs = (xs ys : List ℕ) → LeastAt (xs ++ (cs ++ ys)) f (length xs) (number v) (length xs + length cs)
 
-limited-says : (f : Field) (limit v : ℕ) → limit ≤ 2 ^ 32
-    → ((bs : List ℕ) (p q : ℕ) → UnsignedAt bs p v q → v < limit → Least bs 0 v p q → LeastAt bs f p (number v) q)
-    → Found (Says f v) (limited limit v)
-limited-says f limit v h k =
-    cond-cases (Found (Says f v)) (ltb v limit)
+below-says : (limit v : ℕ) → limit ≤ 2 ^ 32 → Found (Says (field.Below limit) v) (limited limit v)
+below-says limit v h =
+    cond-cases (Found (Says (field.Below limit) v)) (ltb v limit)
     (λ t xs ys.
     let low : v < limit = ltb-true v limit t in
     let cs : List ℕ = shortest 0 v in
-    k (xs ++ (cs ++ ys)) (length xs) (length xs + length cs) (reads-back 0 v xs ys (omega arith) (omega arith)) low
-    (run-there xs cs ys (length xs + length cs - length xs) (omega arith)))
+    (matching.below (reads-back 0 v xs ys (omega arith) (omega arith)) low, run-there xs cs ys (length xs + length cs - length xs) (omega arith)))
     (λ _. tt)
 
 truth-says : (v : ℕ) → Found (Says field.Bool v) (truth v)
@@ -72,15 +68,11 @@ truth-says v =
     (matching.true (getD-append-seam xs True ys 0), tt))
     (λ _. tt))
 
-pub number-says : (f : Field) (v : ℕ) → Found (Says f v) (ofNumber f v)
-number-says field.Item v = tt
-number-says field.Items v = tt
-number-says field.Pairs v = tt
-number-says field.Versions v = tt
-number-says field.Word v = limited-says field.Word words v (omega arith) (λ bs p q u l s. (matching.word u l, s))
-number-says field.Bool v = truth-says v
-number-says field.Version v = limited-says field.Version versions v (omega arith) (λ bs p q u l s. (matching.a-version u l, s))
-number-says field.Failure v = limited-says field.Failure failures v (omega arith) (λ bs p q u l s. (matching.failure u l, s))
+pub number-says : (f : Field) (v : ℕ) → Low f → Found (Says f v) (ofNumber f v)
+number-says field.Item v h = tt
+number-says (field.List e) v h = tt
+number-says (field.Below limit) v h = below-says limit v h
+number-says field.Bool v h = truth-says v
 
 -- ---- runs
 
@@ -93,7 +85,7 @@ Holds f r cs =
 item-holds : (r : List ℕ) → Found (Holds field.Item r) (oneItem r)
 item-holds r =
     end-cases (Found (Holds field.Item r)) (λ q. cond (eqb q (length r)) (some r) none) (itemEnd r inMessage 0)
-    (item-sound r inMessage 0 (omega arith)) tt
+    (item-sound r inMessage 0) tt
     (λ q i.
     cond-cases (Found (Holds field.Item r)) (eqb q (length r))
     (λ t xs ys.
@@ -131,37 +123,18 @@ headed-holds f major r k low small here xs ys =
       ap (λ (bs : List ℕ). run bs a l) (sym same) ∙ run-there (xs ++ h) r ys l (omega arith),
     )
 
--- a list or map whose elements stand in the run, where the field then stands behind its head
-list-holds : (f : Field) (major : ℕ) (e : Element) (r : List ℕ) → major < 7 → length r < 2 ^ 64
-    → ((k : ℕ) (xs ys : List ℕ) (p : ℕ) → Elements e r 0 k 0 → Opens (xs ++ (r ++ ys)) major p k (length xs)
-    → Least (xs ++ (r ++ ys)) major k p (length xs)
-    → LeastAt (xs ++ (r ++ ys)) f p (place (length xs) (length xs + length r - length xs)) (length xs + length r))
-    → Found (Holds f r) (headed major r (countOf e r))
-list-holds f major e r low small here =
-    some-cases (Found (Holds f r)) (λ k. some (shortest major k ++ r)) (countOf e r) (counted e r) tt
-    (λ k (x, h). headed-holds f major r k low (omega arith) (λ xs ys p o s. here k xs ys p x o s))
-
--- from the front of the run to its end, in the whole
-at-front : (xs r ys : List ℕ) {d : ℕ} {g : Frame} → Stands r d g 0 (length r) → Stands (xs ++ (r ++ ys)) d g (length xs) (length xs + length r)
-at-front xs r ys {d} {g} s =
+-- a list or map whose elements stand in the run
+list-holds : (e : Element) (r : List ℕ) → length r < 2 ^ 64 → Found (Holds (field.List e) r) (headed (opener e) r (countOf e r))
+list-holds e r small =
+    some-cases (Found (Holds (field.List e) r)) (λ k. some (shortest (opener e) k ++ r)) (countOf e r) (counted e r) tt
+    (λ k (s, h).
+    headed-holds (field.List e) (opener e) r k (opener-low e) (omega arith)
+    (λ xs ys p o t.
     let z : length xs + 0 ≡ length xs = omega arith in
-    subst (λ (n : ℕ). Stands (xs ++ (r ++ ys)) d g n (length xs + length r)) z (shift xs r ys s)
+    (matching.list o (subst (λ (n : ℕ). ElementsAt (xs ++ (r ++ ys)) inList e 0 k n (length xs + length r)) z (elements-shift xs r ys s)), t)))
 
 pub run-holds : (f : Field) (r : List ℕ) → length r < 2 ^ 64 → Found (Holds f r) (ofRun f r)
 run-holds field.Item r small = item-holds r
-run-holds field.Items r small =
-    list-holds field.Items array element.Item r (omega arith) small (λ k xs ys p s o t. (matching.list o (at-front xs r ys s), t))
-run-holds field.Pairs r small =
-    list-holds field.Pairs array element.Pair r (omega arith) small
-    (λ k xs ys p s o t.
-    let z : length xs + 0 ≡ length xs = omega arith in
-    (matching.pairs o (subst (λ (n : ℕ). PairsAt (xs ++ (r ++ ys)) k n (length xs + length r)) z (pairs-shift xs r ys s)), t))
-run-holds field.Versions r small =
-    list-holds field.Versions map element.Version r (omega arith) small
-    (λ k xs ys p s o t.
-    let z : length xs + 0 ≡ length xs = omega arith in
-    (matching.version-map o (subst (λ (n : ℕ). VersionsAt (xs ++ (r ++ ys)) 0 k n (length xs + length r)) z (versions-shift xs r ys s)), t))
-run-holds field.Word r small = tt
+run-holds (field.List e) r small = list-holds e r small
+run-holds (field.Below limit) r small = tt
 run-holds field.Bool r small = tt
-run-holds field.Version r small = tt
-run-holds field.Failure r small = tt

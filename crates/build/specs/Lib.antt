@@ -1,5 +1,4 @@
 pub mod Made
-pub mod Theorem
 pub mod Building
-pub mod Numbers
+pub mod Besides
 pub mod Inside

@@ -10,12 +10,10 @@ use Rattle.rows.specs.declared.Protocol.{Protocol}
 use Rattle.elements.specs.declared.Field.{Field}
 use Rattle.elements.specs.declared.Field.the-variants as field
 use Rattle.messages.specs.Forms.{formOf}
-use Rattle.elements.specs.Matching.{array, map, versions, words, failures, False, True, inMessage}
+use Rattle.elements.specs.Matching.{array, False, True, inMessage, opener}
 use Rattle.elements.specs.Reading.{onEnd, itemEnd}
 use Rattle.parts.specs.Given.{numeric}
-use Rattle.parts.specs.Counting.{onSome, elementsOf, nextItem, nextPair, nextVersion}
--- How many elements a run has is said in `parts`; who computes with what is made unfolds it too.
-unfoldable pub use Rattle.parts.specs.Counting.{howMany}
+use Rattle.parts.specs.Counting.{onSome, countOf}
 
 -- An item's run is exactly one item.
 abbrev pub oneItem : List ℕ → Option (List ℕ)
@@ -35,23 +33,15 @@ truth v = cond (eqb v 0) (some (False ∷ [])) (cond (eqb v 1) (some (True ∷ [
 -- The bytes of a field that is given by a number, or by a run.
 abbrev pub ofNumber : Field → ℕ → Option (List ℕ)
 ofNumber field.Item v = none
-ofNumber field.Items v = none
-ofNumber field.Pairs v = none
-ofNumber field.Versions v = none
-ofNumber field.Word v = limited words v
+ofNumber (field.List e) v = none
+ofNumber (field.Below limit) v = limited limit v
 ofNumber field.Bool v = truth v
-ofNumber field.Version v = limited versions v
-ofNumber field.Failure v = limited failures v
 
 abbrev pub ofRun : Field → List ℕ → Option (List ℕ)
 ofRun field.Item run = oneItem run
-ofRun field.Items run = headed array run (elementsOf (nextItem run) run)
-ofRun field.Pairs run = headed array run (elementsOf (nextPair run) run)
-ofRun field.Versions run = headed map run (elementsOf (nextVersion run) run)
-ofRun field.Word run = none
+ofRun (field.List e) run = headed (opener e) run (countOf e run)
+ofRun (field.Below limit) run = none
 ofRun field.Bool run = none
-ofRun field.Version run = none
-ofRun field.Failure run = none
 
 -- The bytes of the fields, each from the next number or the next run; nothing is left over.
 abbrev pub firstOf : {A : Type 0} → List A → (A → List A → Option (List ℕ)) → Option (List ℕ)

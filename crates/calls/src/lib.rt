@@ -11,6 +11,7 @@
 //   r  2  a run of bytes: where in the line its bytes are, and how many
 //   l  5  a list of at most four numbers: how many, and which
 //   p  7  a list of at most three runs: how many, and for each the same as of a run
+//   m     numbers up to the end of the line, each a word: how many, and which. Only as the last kind
 //
 // So a call is one entry of a table, and the places of its numbers follow from its kinds.
 use base::smaller;
@@ -69,7 +70,7 @@ fn all(line: &mut [u8], w: Word, kinds: &[u8], words: &mut [u64; WORDS]) -> bool
     let mut at: usize = 0;
     let mut i: usize = 0;
     while i < n {
-        last = script::next(line, last);
+        last = behind(line, last, kinds[i]);
         if !one(line, last, kinds[i], words, at) {
             return false;
         }
@@ -77,6 +78,18 @@ fn all(line: &mut [u8], w: Word, kinds: &[u8], words: &mut [u64; WORDS]) -> bool
         i += 1;
     }
     script::last(line, last)
+}
+
+// What a kind takes behind a word: the next one, or all that are left.
+fn behind(line: &[u8], w: Word, kind: u8) -> Word {
+    let next = script::next(line, w);
+    if kind != b'm' {
+        return next;
+    }
+    Word {
+        from: next.from,
+        to: line.len(),
+    }
 }
 
 // How many kinds there are: a point is none.
@@ -105,8 +118,9 @@ fn width(kind: u8) -> usize {
 // Whether a word is of a kind; what it says is put at a place.
 fn one(line: &mut [u8], w: Word, kind: u8, words: &mut [u64; WORDS], at: usize) -> bool {
     match kind {
-        b'l' => list(line, w, b'n', 4, words, at),
-        b'p' => list(line, w, b'r', 3, words, at),
+        b'l' => list(line, w, b',', b'n', 4, words, at),
+        b'p' => list(line, w, b',', b'r', 3, words, at),
+        b'm' => list(line, w, b' ', b'n', WORDS, words, at),
         _ => piece(line, w, kind, words, at),
     }
 }
@@ -172,10 +186,11 @@ fn side(line: &[u8], w: Word) -> Number {
     Number::Not
 }
 
-// A list of at most so many of a kind; the empty one is a stroke.
+// A list of at most so many of a kind, parted by a byte; the empty one is a stroke.
 fn list(
     line: &mut [u8],
     w: Word,
+    by: u8,
     kind: u8,
     most: usize,
     words: &mut [u64; WORDS],
@@ -184,7 +199,7 @@ fn list(
     if script::is(line, w, b"-") {
         return true;
     }
-    let mut element = first(line, w);
+    let mut element = first(line, w, by);
     let mut place = std::num::wrapping_add_usize(at, 1);
     let mut i: usize = 0;
     while i < most {
@@ -196,20 +211,20 @@ fn list(
             set(words, at, i as u64);
             return true;
         }
-        element = after(line, element, w);
+        element = after(line, element, w, by);
         place = std::num::wrapping_add_usize(place, width(kind));
     }
     false
 }
 
-// The first element of a list: up to a comma, or the end of the list; and the one behind an element.
-fn first(line: &[u8], list: Word) -> Word {
-    up_to(script::part(line, list.from, b','), list)
+// The first element of a list: up to what parts it, or the end of the list; and the one behind an element.
+fn first(line: &[u8], list: Word, by: u8) -> Word {
+    up_to(script::part(line, list.from, by), list)
 }
 
-fn after(line: &[u8], e: Word, list: Word) -> Word {
+fn after(line: &[u8], e: Word, list: Word, by: u8) -> Word {
     let from = std::num::wrapping_add_usize(e.to, 1);
-    up_to(script::part(line, from, b','), list)
+    up_to(script::part(line, from, by), list)
 }
 
 fn up_to(e: Word, list: Word) -> Word {

@@ -8,12 +8,13 @@ use native.Mathlib.Omega.{arith}
 use Rattle.base.proofs.ListLaws.{zeros}
 use Rattle.item.specs.declared.Verdict.{Verdict}
 use Rattle.item.specs.Grammar.{One, Items, no-more, nesting}
-use Rattle.item.specs.Verdict.{Stack, nil, push, judge, start, verdict, headsOf}
+use Rattle.item.specs.Verdict.{Stack, nil, push, judge, start, verdict}
+use Rattle.item.specs.Besides.Verdict.{headsOf}
 use Rattle.item.proofs.Derivative.{Rest, then}
 use Rattle.item.proofs.Parts.{judge-same}
 use Rattle.cbor.specs.declared.Walk.{Walk}
-use Rattle.moves.specs.Levels.{frameOf, tell}
-use Rattle.cbor.specs.Walk.{levels, stackOf, comes, Sound, Resumed, firstAt}
+use Rattle.moves.specs.Inside.Levels.{frameOf, tell}
+use Rattle.cbor.specs.Inside.Walk.{levels, stackOf, comes, Sound, Resumed, firstAt}
 use Rattle.moves.proofs.Tell.{pair, tell-one, tell-empty}
 
 pub first-sound : (at d : ℕ) → Sound (firstAt at d)

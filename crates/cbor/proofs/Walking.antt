@@ -16,8 +16,8 @@ use Rattle.item.specs.Grammar.{Content, nesting}
 use Rattle.item.specs.Verdict.{Stack, push}
 use Rattle.moves.specs.declared.Level.{Level}
 use Rattle.cbor.specs.declared.Walk.{Walk}
-use Rattle.moves.specs.Levels.{frameOf, tell, Good}
-use Rattle.cbor.specs.Walk.{levels, stackOf, comes, Outer, Sound, Resumed, walkOf}
+use Rattle.moves.specs.Inside.Levels.{frameOf, tell, Good}
+use Rattle.cbor.specs.Inside.Walk.{levels, stackOf, comes, Outer, Sound, Resumed, walkOf}
 use Rattle.moves.specs.declared.Move.{Move}
 use Rattle.moves.specs.declared.Move.the-variants.{Stay, Down, Skip, Fault, Lack}
 use Rattle.moves.specs.Inside.Moves.{Stays, Downs, Skips, Stops, Moves}

@@ -20,8 +20,8 @@ ghost use Prim.Native.Nat.{_≤_};
 ghost use lib.ListN.{length, drop};
 ghost use Rattle.item.specs.Grammar.{nesting};
 ghost use Rattle.item.specs.Verdict.{judge, start, verdict};
-ghost use Rattle.ring.specs.Ring.{around};
-ghost use Rattle.cbor.specs.Walk.{Sound, Resumed, walkOf, firstAt};
+ghost use Rattle.ring.specs.Inside.{around};
+ghost use Rattle.cbor.specs.Inside.Walk.{Sound, Resumed, walkOf, firstAt};
 ghost use Rattle.cbor.specs.Inside.Stops.{stopOf, stoppedAt};
 
 // As many levels as an item may be within, and one for a string of chunks, which counts for none.

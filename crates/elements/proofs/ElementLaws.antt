@@ -8,9 +8,9 @@ use mathlib.Core.Option.{some}
 use native.Mathlib.Omega.{arith}
 use native.Mathlib.Decide.{decLt}
 use lib.Dec.{ltb, leb, eqb}
-use lib.ListN.{length, getD, drop, length-drop, length-append, List·getD-eq-default}
+use lib.ListN.{length, getD, drop, drop-of-length-le, length-drop, length-append, List·getD-eq-default}
 use lib.Seq.{drop-cons, drop-drop, drop-append-seam}
-use borrow.Author.Tests.{ltb-true, leb-true, eqb-true, lt-ltb, le-leb, eq-eqb}
+use borrow.Author.Tests.{ltb-true, leb-true, eqb-true, lt-ltb, le-leb, eq-eqb, ne-eqb}
 use Rattle.base.proofs.Conds.{cond-cases, both-true}
 use Rattle.head.specs.Initial.{initial}
 use Rattle.head.specs.Read.{headAt}
@@ -20,9 +20,13 @@ use Rattle.head.proofs.ReadLaws.{definite-within}
 use Rattle.item.specs.declared.Verdict.{Verdict}
 use Rattle.item.specs.declared.Verdict.the-variants.{Whole, Bad, Incomplete}
 use Rattle.item.specs.Grammar.{Frame, One, Items, Content, Reads, nest, enter, one, no-more, item, no-byte}
-use Rattle.item.specs.Verdict.{judge, start}
+use Rattle.item.specs.Verdict.{judge, met, start}
 use Rattle.item.proofs.Local.{Cuts, cuts}
 use Rattle.item.proofs.Parts.{whole-reads, whole-place, reads-whole}
+use Rattle.elements.specs.declared.Element.{Element}
+use Rattle.elements.specs.declared.Element.the-variants as element
+use Rattle.elements.specs.declared.Extent.{Extent}
+use Rattle.elements.specs.declared.Extent.the-variants.{Counted, Rest}
 use Rattle.elements.specs.declared.Field.{Field}
 use Rattle.elements.specs.declared.Field.the-variants as field
 use Rattle.elements.specs.declared.Number.{Number}
@@ -31,9 +35,10 @@ use Rattle.elements.specs.declared.End.{End}
 use Rattle.elements.specs.declared.End.the-variants.{At, Nowhere}
 use Rattle.elements.specs.declared.Part.{Part}
 use Rattle.elements.specs.declared.Part.the-variants as part
-use Rattle.elements.specs.Matching.{Value, number, place, ItemAt, ItemsAt, UnsignedAt, Opens, array, map, versions, sizes, words, failures, False, True, inMessage, inList, inPair, PairsAt, no-pair, pair, VersionsAt, no-version, version, FieldAt}
-use Rattle.elements.specs.Matching as matching
-use Rattle.elements.specs.Reading.{onNumber, onEnd, leads, unsignedAt, opensAt, ended, itemEnd, sizeEnd, sizedEnd, pairEnd, pairsEnd, keyAt, versionAt, versionsEnd, below, upTo, boolOf, partOf}
+use Rattle.elements.specs.Besides.Matching.{Value, number, place, ItemAt, ItemsAt, UnsignedAt, Opens, ElementAt, an-item, a-pair, a-version, ElementsAt, no-element, an-element, FieldAt}
+use Rattle.elements.specs.Matching.{array, map, versions, sizes, False, True, inMessage, inList, opener}
+use Rattle.elements.specs.Besides.Matching as matching
+use Rattle.elements.specs.Reading.{onNumber, onEnd, leads, unsignedAt, opensAt, ended, itemEnd, leaving, sizeEnd, sizedEnd, pairEnd, keyAt, versionAt, elementAt, closed, walk, elementsOf, below, upTo, listed, boolOf, partOf}
 use Rattle.elements.proofs.Heads.{into, out}
 
 -- ---- by cases on what was found
@@ -60,6 +65,20 @@ end-cases P k Nowhere r x f = x
 ends-map : {R S : ℕ → Type 0} (e : End) → ((q : ℕ) → R q → S q) → Ends R e → Ends S e
 ends-map (At q) f r = f q r
 ends-map Nowhere f r = tt
+
+numbers-map : {R S : ℕ → ℕ → Type 0} (n : Number) → ((v q : ℕ) → R v q → S v q) → Numbers R n → Numbers S n
+numbers-map (Is v q) f r = f v q r
+numbers-map Not f r = tt
+
+leaving-map : {R : ℕ → Type 0} (S : ℕ → ℕ → Type 0) (next : ℕ) (e : End) → ((q : ℕ) → R q → S next q) → Ends R e → Numbers S (leaving next e)
+leaving-map S next (At q) f r = f q r
+leaving-map S next Nowhere f r = tt
+
+-- the major type of a list is that of an array or a map
+pub opener-low : (e : Element) → opener e < 7
+opener-low element.Item = omega arith
+opener-low element.Pair = omega arith
+opener-low element.Version = omega arith
 
 -- ---- heads
 
@@ -96,14 +115,25 @@ module _ (bs : List ℕ) where
   ended-sound (Bad q) = tt
   ended-sound Incomplete = tt
 
-  pub item-sound : (d p : ℕ) → p ≤ length bs → Ends (λ q. ItemAt bs d p q) (itemEnd bs d p)
+  -- past the end there is no item
+  pub item-past : (d p : ℕ) → length bs < p → Nowhere ≡ itemEnd bs d p
+  unfolding itemEnd judge met
+  item-past d p h = let e : drop p bs ≡ _ = drop-of-length-le bs {i = p} (omega arith) in rw e
+
+  item-here : (d p : ℕ) → p ≤ length bs → Ends (λ q. ItemAt bs d p q) (itemEnd bs d p)
   unfolding itemEnd
-  item-sound d p h =
+  item-here d p h =
       ends-map (ended (judge (drop p bs) p (start d)))
       (λ q e.
       let w = whole-place bs p q d One e in
       record { forward = w .0; inside = omega (arith, w .1, length-drop p bs); reads = whole-reads bs p q d One e })
       (ended-sound (judge (drop p bs) p (start d)))
+
+  pub item-sound : (d p : ℕ) → Ends (λ q. ItemAt bs d p q) (itemEnd bs d p)
+  item-sound d p = elim (decLt (length bs) p) [
+    | yes y ↦ subst (Ends (λ q. ItemAt bs d p q)) (item-past d p y) tt
+    | no x ↦ item-here d p (omega arith)
+  ]
 
   pub item-found : {d p q : ℕ} → ItemAt bs d p q → itemEnd bs d p ≡ At q
   unfolding itemEnd
@@ -193,17 +223,14 @@ module _ (bs : List ℕ) where
             record { forward = forward within (s .inside) rest; inside = s .inside; reads = rest },
           )
 
-  -- ---- pairs
+  -- ---- elements
 
-  -- a size, an item with its size, and a pair
+  -- a size, and an item with its size
   abbrev SizeAt : ℕ → ℕ → Type 0
   SizeAt p q = (v : ℕ) × UnsignedAt bs p v q × (v < sizes)
 
-  abbrev SizedAt : ℕ → ℕ → Type 0
-  SizedAt p q = (b : ℕ) × ItemAt bs inPair p b × SizeAt b q
-
-  abbrev PairAt : ℕ → ℕ → Type 0
-  PairAt p q = (a : ℕ) × Opens bs array p 2 a × SizedAt a q
+  abbrev SizedAt : ℕ → ℕ → ℕ → Type 0
+  SizedAt d p q = (b : ℕ) × ItemAt bs d p b × SizeAt b q
 
   size-sound : (p : ℕ) → Ends (SizeAt p) (sizeEnd bs p)
   unfolding sizeEnd
@@ -211,55 +238,28 @@ module _ (bs : List ℕ) where
       number-cases (Ends (SizeAt p)) (λ v q. cond (ltb v sizes) (At q) Nowhere) (unsignedAt bs p) (unsigned-sound p) tt
       (λ v q e. cond-cases (Ends (SizeAt p)) (ltb v sizes) (λ t. (v, e, ltb-true v sizes t)) (λ _. tt))
 
-  sized-sound : (p : ℕ) → p ≤ length bs → Ends (SizedAt p) (sizedEnd bs p)
+  sized-sound : (d p : ℕ) → Ends (SizedAt d p) (sizedEnd bs d p)
   unfolding sizedEnd
-  sized-sound p h =
-      end-cases (Ends (SizedAt p)) (sizeEnd bs) (itemEnd bs inPair p) (item-sound inPair p h) tt
+  sized-sound d p =
+      end-cases (Ends (SizedAt d p)) (sizeEnd bs) (itemEnd bs d p) (item-sound d p) tt
       (λ b i. ends-map (sizeEnd bs b) (λ q s. (b, i, s)) (size-sound b))
 
-  pub pair-sound : (p : ℕ) → Ends (PairAt p) (pairEnd bs p)
+  pair-sound : (d low p : ℕ) → Ends (λ q. ElementAt bs d element.Pair low p 0 q) (pairEnd bs d p)
   unfolding pairEnd
-  pair-sound p =
-      number-cases (Ends (PairAt p)) (λ k a. cond (eqb k 2) (sizedEnd bs a) Nowhere) (opensAt bs array p) (opens-sound array p) tt
+  pair-sound d low p =
+      let P : End → Type 0 = Ends (λ q. ElementAt bs d element.Pair low p 0 q) in
+      number-cases P (λ k a. cond (eqb k 2) (sizedEnd bs (d - 1) a) Nowhere) (opensAt bs array p) (opens-sound array p) tt
       (λ k a o.
-      cond-cases (Ends (PairAt p)) (eqb k 2)
+      cond-cases P (eqb k 2)
       (λ t.
       let o′ : Opens bs array p 2 a = o ∙ ap (λ (n : ℕ). head.Definite array n a) (eqb-true k 2 t) in
-      ends-map (sizedEnd bs a) (λ q s. (a, o′, s)) (sized-sound a (definite-within bs p o .1)))
+      ends-map (sizedEnd bs (d - 1) a) (λ q (b, i, (v, u, l)). a-pair o′ i u l) (sized-sound (d - 1) a))
       (λ _. tt))
 
-  pub pairs-sound : (k p : ℕ) → Ends (λ q. PairsAt bs k p q) (pairsEnd bs k p)
-  unfolding pairsEnd
-  pairs-sound zero p = no-pair
-  pairs-sound (suc k) p =
-      end-cases (Ends (λ q. PairsAt bs (suc k) p q)) (λ q. pairsEnd bs k q) (pairEnd bs p) (pair-sound p) tt
-      (λ c (a, o, (b, i, (v, u, l))). ends-map (pairsEnd bs k c) (λ q r. pair o i u l r) (pairs-sound k c))
-
-  pub pair-found : (p : ℕ) {a b v c : ℕ} → Opens bs array p 2 a → ItemAt bs inPair a b → UnsignedAt bs b v c → v < sizes → pairEnd bs p ≡ At c
-  unfolding pairEnd sizedEnd sizeEnd
-  pair-found p {a} {b} {v} {c} o i u l = rw (opens-found array p o, item-found i, unsigned-found b u, lt-ltb v sizes l)
-
-  pub pairs-found : {k p q : ℕ} → PairsAt bs k p q → pairsEnd bs k p ≡ At q
-  unfolding pairsEnd
-  pairs-found no-pair = refl
-  pairs-found (pair {p = p} o i u l r) = rw (pair-found p o i u l) (pairs-found r)
-
-  -- k pairs are k items
-  pub pairs-items : {k p q : ℕ} → p ≤ length bs → PairsAt bs k p q → ItemsAt bs inList k p q
-  pairs-items h no-pair = none-at h
-  pairs-items h (pair o i u l r) =
-      let n = number-item u in
-      item-then (array-item o (item-then i (item-then n (none-at (n .inside))))) (pairs-items (n .inside) r)
-
-  -- ---- version maps
-
-  abbrev pub KeyAt : ℕ → ℕ → ℕ → ℕ → Type 0
+  abbrev KeyAt : ℕ → ℕ → ℕ → ℕ → Type 0
   KeyAt low p v a = UnsignedAt bs p v a × (low ≤ v) × (v < versions)
 
-  abbrev pub VersionAt : ℕ → ℕ → ℕ → ℕ → Type 0
-  VersionAt low p v b = (a : ℕ) × KeyAt low p v a × ItemAt bs inList a b
-
-  key-sound : (low p : ℕ) → Numbers (KeyAt low p) (keyAt bs low p)
+  pub key-sound : (low p : ℕ) → Numbers (KeyAt low p) (keyAt bs low p)
   unfolding keyAt
   key-sound low p =
       number-cases (Numbers (KeyAt low p)) (λ v q. cond (leb low v && ltb v versions) (Is v q) Not) (unsignedAt bs p) (unsigned-sound p) tt
@@ -267,36 +267,161 @@ module _ (bs : List ℕ) where
       cond-cases (Numbers (KeyAt low p)) (leb low v && ltb v versions)
       (λ t. let ts = both-true (leb low v) (ltb v versions) t in (u, leb-true low v (ts .0), ltb-true v versions (ts .1))) (λ _. tt))
 
-  pub version-sound : (low p : ℕ) → Numbers (VersionAt low p) (versionAt bs low p)
+  version-sound : (d low p : ℕ) → Numbers (λ next q. ElementAt bs d element.Version low p next q) (versionAt bs d low p)
   unfolding versionAt
-  version-sound low p =
-      number-cases (Numbers (VersionAt low p)) (λ v a. onEnd Not (itemEnd bs inList a) (λ b. Is v b)) (keyAt bs low p) (key-sound low p) tt
-      (λ v a (u, l, l′).
-      end-cases (Numbers (VersionAt low p)) (λ b. Is v b) (itemEnd bs inList a) (item-sound inList a (definite-within bs p u .1)) tt
-      (λ b i. (a, (u, l, l′), i)))
+  version-sound d low p =
+      let P : Number → Type 0 = Numbers (λ next q. ElementAt bs d element.Version low p next q) in
+      number-cases P (λ v a. leaving (v + 1) (itemEnd bs d a)) (keyAt bs low p) (key-sound low p) tt
+      (λ v a (u, l, l′). leaving-map (λ next q. ElementAt bs d element.Version low p next q) (v + 1) (itemEnd bs d a) (λ q i. a-version u l l′ i) (item-sound d a))
 
-  pub versions-sound : (low k p : ℕ) → Ends (λ q. VersionsAt bs low k p q) (versionsEnd bs low k p)
-  unfolding versionsEnd
-  versions-sound low zero p = no-version
-  versions-sound low (suc k) p =
-      number-cases (Ends (λ q. VersionsAt bs low (suc k) p q)) (λ v b. versionsEnd bs (v + 1) k b) (versionAt bs low p) (version-sound low p) tt
-      (λ v b (a, (u, l, l′), i). ends-map (versionsEnd bs (v + 1) k b) (λ q r. version u l l′ i r) (versions-sound (v + 1) k b))
+  -- what is found next stands there, and what stands there is found
+  pub next-sound : (d : ℕ) (e : Element) (low p : ℕ) → Numbers (λ next q. ElementAt bs d e low p next q) (elementAt bs d e low p)
+  unfolding elementAt
+  next-sound d element.Item low p = leaving-map (λ next q. ElementAt bs d element.Item low p next q) 0 (itemEnd bs d p) (λ q i. an-item i) (item-sound d p)
+  next-sound d element.Pair low p = leaving-map (λ next q. ElementAt bs d element.Pair low p next q) 0 (pairEnd bs d p) (λ q s. s) (pair-sound d low p)
+  next-sound d element.Version low p = version-sound d low p
 
-  pub version-found : (low p : ℕ) {v a b : ℕ} → UnsignedAt bs p v a → low ≤ v → v < versions → ItemAt bs inList a b → versionAt bs low p ≡ Is v b
-  unfolding versionAt keyAt
-  version-found low p {v} {a} {b} u l l′ i = rw (unsigned-found p u, le-leb low v l, lt-ltb v versions l′, item-found i)
+  pub next-found : {d : ℕ} {e : Element} {low p next q : ℕ} → ElementAt bs d e low p next q → elementAt bs d e low p ≡ Is next q
+  unfolding elementAt pairEnd sizedEnd sizeEnd versionAt keyAt
+  next-found (an-item i) = rw (item-found i)
+  next-found (a-pair {p = p} {b = b} {v = v} o i u l) = rw (opens-found array p o, item-found i, unsigned-found b u, lt-ltb v sizes l)
+  next-found (a-version {low = low} {p = p} {v = v} u l l′ i) = rw (unsigned-found p u, le-leb low v l, lt-ltb v versions l′, item-found i)
 
-  pub versions-found : {low k p q : ℕ} → VersionsAt bs low k p q → versionsEnd bs low k p ≡ At q
-  unfolding versionsEnd
-  versions-found no-version = refl
-  versions-found (version {low = low} {p = p} u l l′ i r) = rw (version-found low p u l l′ i) (versions-found r)
+  -- an element has a byte at least
+  pub advance : {d : ℕ} {e : Element} {low p next q : ℕ} → ElementAt bs d e low p next q → (p < q) × (q ≤ length bs)
+  advance (an-item i) = (ahead i, i .inside)
+  advance (a-pair {p = p} {b = b} o i u l) =
+      let w = definite-within bs p o in
+      let w′ = definite-within bs b u in
+      (omega (arith, w .0, i .forward, w′ .0), w′ .1)
+  advance (a-version {p = p} u l l′ i) = let w = definite-within bs p u in (omega (arith, w .0, i .forward), i .inside)
 
-  -- k keys and values are 2 k items
-  pub versions-items : {low k p q : ℕ} → p ≤ length bs → VersionsAt bs low k p q → ItemsAt bs inList (k * 2) p q
-  versions-items h no-version = none-at h
-  versions-items {p = p} {q = q} h (version {k = k} u l l′ i r) =
-      let e : suc (suc (k * 2)) ≡ suc k * 2 = omega arith in
-      subst (λ (n : ℕ). ItemsAt bs inList n p q) e (item-then (number-item u) (item-then i (versions-items (i .inside) r)))
+  pub elements-on : {d : ℕ} {e : Element} {low k p q : ℕ} → ElementsAt bs d e low k p q → p + k ≤ q
+  elements-on no-element = omega arith
+  elements-on (an-element s r) = omega (arith, advance s .0, elements-on r)
+
+  pub elements-inside : {d : ℕ} {e : Element} {low k p q : ℕ} → p ≤ length bs → ElementsAt bs d e low k p q → q ≤ length bs
+  elements-inside h no-element = h
+  elements-inside h (an-element s r) = elements-inside (advance s .1) r
+
+  -- a pair is an item, and a version with its value two
+  abbrev pub per : Element → ℕ
+  per element.Item = 1
+  per element.Pair = 1
+  per element.Version = 2
+
+  element-then : {d : ℕ} {e : Element} {low m p next q r : ℕ} → 0 < d → ElementAt bs d e low p next q → ItemsAt bs d m q r
+      → ItemsAt bs d (per e + m) p r
+  element-then {d} {m = m} {p = p} {r = r} h (an-item i) s = let z : suc m ≡ 1 + m = omega arith in subst (λ (n : ℕ). ItemsAt bs d n p r) z (item-then i s)
+  element-then {d} {m = m} {p = p} {q = q} {r = r} h (a-pair o i u l) s =
+      let n = number-item u in
+      let z : suc m ≡ 1 + m = omega arith in
+      let y : suc (d - 1) ≡ d = omega arith in
+      let pair : ItemAt bs d p q = subst (λ (n : ℕ). ItemAt bs n p q) y (array-item o (item-then i (item-then n (none-at (n .inside))))) in
+      subst (λ (n : ℕ). ItemsAt bs d n p r) z (item-then pair s)
+  element-then {d} {m = m} {p = p} {r = r} h (a-version u l l′ i) s =
+      let z : suc (suc m) ≡ 2 + m = omega arith in
+      subst (λ (n : ℕ). ItemsAt bs d n p r) z (item-then (number-item u) (item-then i s))
+
+  pub elements-items : {d : ℕ} {e : Element} {low k p q : ℕ} → 0 < d → p ≤ length bs → ElementsAt bs d e low k p q → ItemsAt bs d (per e * k) p q
+  elements-items {d} {e} {p = p} h l no-element = let z : 0 ≡ per e * 0 = omega arith in subst (λ (n : ℕ). ItemsAt bs d n p p) z (none-at l)
+  elements-items {d} {e} {p = p} {q = r} h l (an-element {k = k} s rest) =
+      let z : per e + per e * k ≡ per e * suc k = omega arith in
+      subst (λ (n : ℕ). ItemsAt bs d n p r) z (element-then h s (elements-items h (advance s .1) rest))
+
+  -- k elements that are items are k items, and the other way round
+  pub items-elements : {d : ℕ} (k low : ℕ) {p q : ℕ} → ItemsAt bs d k p q → ElementsAt bs d element.Item low k p q
+  items-elements {d} zero low {p} s = subst (λ (n : ℕ). ElementsAt bs d element.Item low 0 p n) (no-items s) no-element
+  items-elements (suc k) low s = let f = first-item s in an-element (an-item (f .1)) (items-elements k 0 (f .2))
+
+  -- a list is an item
+  pub list-item : (e : Element) {d p k a q : ℕ} → Opens bs (opener e) p k a → ItemsAt bs d (per e * k) a q → ItemAt bs (suc d) p q
+  list-item element.Item {d} {k = k} {a = a} {q = q} o s = let z : 1 * k ≡ k = omega arith in array-item o (subst (λ (n : ℕ). ItemsAt bs d n a q) z s)
+  list-item element.Pair {d} {k = k} {a = a} {q = q} o s = let z : 1 * k ≡ k = omega arith in array-item o (subst (λ (n : ℕ). ItemsAt bs d n a q) z s)
+  list-item element.Version {d} {k = k} {a = a} {q = q} o s = let z : 2 * k ≡ k * 2 = omega arith in map-item o (subst (λ (n : ℕ). ItemsAt bs d n a q) z s)
+
+  -- ---- the walk along elements
+
+  -- elements of this extent are at their end, with k of them, the last of which ends at place q
+  abbrev pub Closes : Extent → ℕ → ℕ → Type 0
+  Closes (Counted count) k q = k ≡ count
+  Closes Rest k q = q ≡ length bs
+
+  closed-true : (x : Extent) (k q : ℕ) → closed (length bs) x k q ≡ true → Closes x k q
+  closed-true (Counted count) k q t = eqb-true k count t
+  closed-true Rest k q t = eqb-true q (length bs) t
+
+  closes-true : (x : Extent) (k q : ℕ) → Closes x k q → closed (length bs) x k q ≡ true
+  closes-true (Counted count) k q c = eq-eqb k count c
+  closes-true Rest k q c = eq-eqb q (length bs) c
+
+  -- but not where an element stands in front of their end
+  still-open : (x : Extent) (k p : ℕ) {n q : ℕ} → k < n → p < q → Closes x n q → closed (length bs) x k p ≡ false
+  still-open (Counted count) k p less on c = ne-eqb k count (λ e. omega arith)
+  still-open Rest k p less on c = ne-eqb p (length bs) (λ e. omega arith)
+
+  module _ (d : ℕ) (e : Element) (x : Extent) where
+    -- behind k elements there are j more, n in all
+    abbrev pub Walked : ℕ → ℕ → ℕ → ℕ → ℕ → Type 0
+    Walked k low p n q = (j : ℕ) × (n ≡ k + j) × ElementsAt bs d e low j p q × Closes x n q
+
+    walk-sound : (bytes k low p : ℕ) → Numbers (Walked k low p) (walk bs d e x bytes k low p)
+    unfolding walk
+    walk-sound zero k low p =
+        cond-cases (Numbers (Walked k low p)) (closed (length bs) x k p) (λ t. (0, omega arith, no-element, closed-true x k p t)) (λ _. tt)
+    walk-sound (suc bytes) k low p =
+        let P : Number → Type 0 = Numbers (Walked k low p) in
+        cond-cases P (closed (length bs) x k p) (λ t. (0, omega arith, no-element, closed-true x k p t))
+        (λ _.
+        number-cases P (λ next q. walk bs d e x bytes (k + 1) next q) (elementAt bs d e low p) (next-sound d e low p) tt
+        (λ next q s.
+        numbers-map (walk bs d e x bytes (k + 1) next q) (λ n r (j, z, rest, c). (suc j, omega (arith, z), an-element s rest, c))
+        (walk-sound bytes (k + 1) next q)))
+
+    walk-found : (j bytes k low p : ℕ) {q : ℕ} → ElementsAt bs d e low j p q → Closes x (k + j) q → q ≤ p + bytes
+        → walk bs d e x bytes k low p ≡ Is (k + j) q
+    unfolding walk
+    walk-found zero zero k low p no-element c h = let z : k ≡ k + 0 = omega arith in rw (closes-true x k p (subst⁻¹ (λ (n : ℕ). Closes x n p) z c)) (ap (λ (n : ℕ). Is n p) z)
+    walk-found zero (suc bytes) k low p no-element c h = let z : k ≡ k + 0 = omega arith in rw (closes-true x k p (subst⁻¹ (λ (n : ℕ). Closes x n p) z c)) (ap (λ (n : ℕ). Is n p) z)
+    walk-found (suc j) zero k low p (an-element s r) c h = absurd (omega (arith, advance s .0, elements-on r))
+    walk-found (suc j) (suc bytes) k low p {q} (an-element {next = next} {q = b} s r) c h =
+        let z : k + 1 + j ≡ k + suc j = omega arith in
+        let go : walk bs d e x bytes (k + 1) next b ≡ Is (k + 1 + j) q =
+        walk-found j bytes (k + 1) next b r (subst⁻¹ (λ (n : ℕ). Closes x n q) z c) (omega (arith, advance s .0)) in
+        rw (still-open x k p (omega arith) (omega (arith, advance s .0, elements-on r)) c, next-found s) (go ∙ ap (λ (n : ℕ). Is n q) z)
+
+    pub elements-sound : (p : ℕ) → Numbers (λ k q. ElementsAt bs d e 0 k p q × Closes x k q) (elementsOf bs d e x p)
+    elements-sound p =
+        numbers-map (elementsOf bs d e x p)
+        (λ k q (j, z, s, c). let y : j ≡ k = omega arith in (subst (λ (n : ℕ). ElementsAt bs d e 0 n p q) y s, c)) (walk-sound (length bs) 0 0 p)
+
+    pub elements-found : {k p q : ℕ} → p ≤ length bs → ElementsAt bs d e 0 k p q → Closes x k q → elementsOf bs d e x p ≡ Is k q
+    elements-found {k} {p} {q} h s c =
+        let z : 0 + k ≡ k = omega arith in
+        walk-found k (length bs) 0 0 p s (subst⁻¹ (λ (n : ℕ). Closes x n q) z c) (omega (arith, elements-inside h s)) ∙ ap (λ (n : ℕ). Is n q) z
+
+  -- a list of items ends where its array ends
+  pub items-end : (p : ℕ) {k a : ℕ} → opensAt bs array p ≡ Is k a
+      → upTo a (itemEnd bs inMessage p) ≡ listed a (elementsOf bs inList element.Item (Counted k) a)
+  items-end p {k} {a} found =
+      of (itemEnd bs inMessage p) refl (item-sound inMessage p) (elementsOf bs inList element.Item (Counted k) a) refl
+      (elements-sound inList element.Item (Counted k) a)
+    where
+      o : Opens bs array p k a
+      o = subst (Numbers (λ k a. Opens bs array p k a)) found (opens-sound array p)
+
+      of : (e : End) → itemEnd bs inMessage p ≡ e → Ends (λ q. ItemAt bs inMessage p q) e → (n : Number)
+          → elementsOf bs inList element.Item (Counted k) a ≡ n → Numbers (λ j q. ElementsAt bs inList element.Item 0 j a q × (j ≡ k)) n
+          → upTo a e ≡ listed a n
+      of (At q) h i n m s =
+          ap (listed a)
+          (sym (elements-found inList element.Item (Counted k) (definite-within bs p o .1) (items-elements k 0 (item-array o i)) refl) ∙ m)
+      of Nowhere h i (Is j q) m (s, c) =
+          let l = definite-within bs p o .1 in
+          let z : 1 * j ≡ k = omega arith in
+          let whole = item-found (array-item o (subst (λ (n : ℕ). ItemsAt bs inList n a q) z (elements-items (omega arith) l s))) in
+          absurd (let y : At q ≡ Nowhere = sym whole ∙ h in let x : _≡_ {A = ℕ} 0 1 = cc in omega arith)
+      of Nowhere h i Not m s = refl
 
   -- ---- fields
 
@@ -321,27 +446,18 @@ module _ (bs : List ℕ) where
       cond-cases (Parts (λ x q. FieldAt bs field.Bool p x q)) (eqb b False) (λ t. matching.false (e ∙ eqb-true b False t))
       (λ _. cond-cases (Parts (λ x q. FieldAt bs field.Bool p x q)) (eqb b True) (λ t. matching.true (e ∙ eqb-true b True t)) (λ _. tt))
 
-  pub part-sound : (f : Field) (p : ℕ) → p ≤ length bs → Parts (λ x q. FieldAt bs f p x q) (partOf bs f p)
+  pub part-sound : (f : Field) (p : ℕ) → Parts (λ x q. FieldAt bs f p x q) (partOf bs f p)
   unfolding partOf
-  part-sound field.Item p h =
-      up-to-sound p (λ x q. FieldAt bs field.Item p x q) (itemEnd bs inMessage p) (item-sound inMessage p h) (λ q i. matching.item i)
-  part-sound field.Items p h =
-      number-cases (Parts (λ x q. FieldAt bs field.Items p x q)) (λ k a. upTo a (itemEnd bs inMessage p)) (opensAt bs array p) (opens-sound array p) tt
+  part-sound field.Item p =
+      up-to-sound p (λ x q. FieldAt bs field.Item p x q) (itemEnd bs inMessage p) (item-sound inMessage p) (λ q i. matching.item i)
+  part-sound (field.List e) p =
+      let P : Part → Type 0 = Parts (λ x q. FieldAt bs (field.List e) p x q) in
+      number-cases P (λ k a. listed a (elementsOf bs inList e (Counted k) a)) (opensAt bs (opener e) p) (opens-sound (opener e) p) tt
       (λ k a o.
-      up-to-sound a (λ x q. FieldAt bs field.Items p x q) (itemEnd bs inMessage p) (item-sound inMessage p h)
-      (λ q i. matching.list o (item-array o i)))
-  part-sound field.Pairs p h =
-      number-cases (Parts (λ x q. FieldAt bs field.Pairs p x q)) (λ k a. upTo a (pairsEnd bs k a)) (opensAt bs array p) (opens-sound array p) tt
-      (λ k a o.
-      up-to-sound a (λ x q. FieldAt bs field.Pairs p x q) (pairsEnd bs k a) (pairs-sound k a) (λ q r. matching.pairs o r))
-  part-sound field.Versions p h =
-      number-cases (Parts (λ x q. FieldAt bs field.Versions p x q)) (λ k a. upTo a (versionsEnd bs 0 k a)) (opensAt bs map p) (opens-sound map p) tt
-      (λ k a o.
-      up-to-sound a (λ x q. FieldAt bs field.Versions p x q) (versionsEnd bs 0 k a) (versions-sound 0 k a) (λ q r. matching.version-map o r))
-  part-sound field.Word p h = below-sound words p (λ x q. FieldAt bs field.Word p x q) (λ v q u l. matching.word u l)
-  part-sound field.Bool p h = bool-sound p (getD bs p 0) refl
-  part-sound field.Version p h = below-sound versions p (λ x q. FieldAt bs field.Version p x q) (λ v q u l. matching.a-version u l)
-  part-sound field.Failure p h = below-sound failures p (λ x q. FieldAt bs field.Failure p x q) (λ v q u l. matching.failure u l)
+      number-cases P (λ n q. part.Place a (q - a) q) (elementsOf bs inList e (Counted k) a) (elements-sound inList e (Counted k) a) tt
+      (λ n q (s, c). matching.list o (subst (λ (n : ℕ). ElementsAt bs inList e 0 n a q) c s)))
+  part-sound (field.Below limit) p = below-sound limit p (λ x q. FieldAt bs (field.Below limit) p x q) (λ v q u l. matching.below u l)
+  part-sound field.Bool p = bool-sound p (getD bs p 0) refl
 
   -- what a value at a place is in the answer
   abbrev pub got : Value → ℕ → Part
@@ -354,14 +470,11 @@ module _ (bs : List ℕ) where
   pub part-found : {f : Field} {p q : ℕ} {x : Value} → FieldAt bs f p x q → partOf bs f p ≡ got x q
   unfolding partOf
   part-found (matching.item i) = rw (item-found i)
-  part-found (matching.list {p = p} o s) = rw (opens-found array p o, item-found (array-item o s))
-  part-found (matching.pairs {p = p} o r) = rw (opens-found array p o, pairs-found r)
-  part-found (matching.version-map {p = p} o r) = rw (opens-found map p o, versions-found r)
-  part-found (matching.word {p = p} u l) = below-found words p u l
+  part-found (matching.list {e = e} {p = p} {k = k} o s) =
+      rw (opens-found (opener e) p o, elements-found inList e (Counted k) (definite-within bs p o .1) s refl)
+  part-found (matching.below {limit = limit} {p = p} u l) = below-found limit p u l
   part-found (matching.false e) = rw e
   part-found (matching.true e) = rw e
-  part-found (matching.a-version {p = p} u l) = below-found versions p u l
-  part-found (matching.failure {p = p} u l) = below-found failures p u l
 
   -- ---- a field is an item
 
@@ -383,11 +496,7 @@ module _ (bs : List ℕ) where
   pub field-item : {f : Field} {p q : ℕ} {x : Value} → FieldAt bs f p x q → ItemAt bs inMessage p q
   unfolding enter initial nest
   field-item (matching.item i) = i
-  field-item (matching.list o s) = array-item o s
-  field-item (matching.pairs {p = p} o r) = array-item o (pairs-items (definite-within bs p o .1) r)
-  field-item (matching.version-map {p = p} o r) = map-item o (versions-items (definite-within bs p o .1) r)
-  field-item (matching.word u l) = number-item u
-  field-item (matching.false {p = p} e) = bool-item inMessage p matching.False e (omega arith) refl
-  field-item (matching.true {p = p} e) = bool-item inMessage p matching.True e (omega arith) refl
-  field-item (matching.a-version u l) = number-item u
-  field-item (matching.failure u l) = number-item u
+  field-item (matching.list {e = e} {p = p} o s) = list-item e o (elements-items (omega arith) (definite-within bs p o .1) s)
+  field-item (matching.below u l) = number-item u
+  field-item (matching.false {p = p} e) = bool-item inMessage p False e (omega arith) refl
+  field-item (matching.true {p = p} e) = bool-item inMessage p True e (omega arith) refl

@@ -6,12 +6,12 @@ use Rattle.head.specs.Initial.{initial}
 use Rattle.head.specs.Read.{headAt, headBy, longAt, simpleAt}
 use Rattle.item.specs.Grammar.{nest, indefinite, enter, alike, enterChunk}
 use Rattle.item.specs.Verdict.{step, met, judge}
-use Rattle.elements.specs.Reading.{unsignedAt, opensAt, itemEnd, sizeEnd, sizedEnd, pairEnd, pairsEnd, keyAt, versionAt, versionsEnd, partOf}
-use Rattle.elements.specs.Examples.{Edges}
+use Rattle.elements.specs.Reading.{unsignedAt, opensAt, itemEnd, sizeEnd, sizedEnd, pairEnd, keyAt, versionAt, elementAt, walk, partOf}
+use Rattle.elements.specs.Besides.Examples.{Edges}
 
 pub edges : Edges
 unfolding spelled initial headAt headBy longAt simpleAt nest indefinite enter alike enterChunk step met judge
-    unsignedAt opensAt itemEnd sizeEnd sizedEnd pairEnd pairsEnd keyAt versionAt versionsEnd partOf
+    unsignedAt opensAt itemEnd sizeEnd sizedEnd pairEnd keyAt versionAt elementAt walk partOf
 edges =
     record {
       word = refl;

@@ -1,24 +1,27 @@
 -- Ways out of the code that reads elements: by what was found, the answer is what the definition says.
 -- Assumes nothing.
-use Prim.Native.Nat.{ℕ, zero, suc, _+_, _-_, _*_, _≤_, _<_}
+use Prim.Native.Nat.{ℕ, zero, suc, _+_, _-_, _≤_, _<_}
 use mathlib.Core.Path.{_≡_, refl, sym, ap, subst, _∙_}
-use mathlib.Core.Bool.{Bool, cond, _&&_}
+use mathlib.Core.Bool.{Bool, true, false, cond, _&&_}
 use mathlib.Core.List.{List}
 use lib.Dec.{ltb, leb, eqb}
 use native.Mathlib.Omega.{arith}
-use lib.ListN.{length, getD, drop, drop-of-length-le, List·getD-eq-default}
-use Rattle.item.specs.Verdict.{judge, met}
+use lib.ListN.{length, getD, List·getD-eq-default}
 use Rattle.elements.specs.declared.Number.{Number}
 use Rattle.elements.specs.declared.Number.the-variants.{Is, Not}
 use Rattle.elements.specs.declared.End.{End}
 use Rattle.elements.specs.declared.End.the-variants.{At, Nowhere}
 use Rattle.elements.specs.declared.Part.{Part}
 use Rattle.elements.specs.declared.Part.the-variants as part
+use Rattle.elements.specs.declared.Element.{Element}
+use Rattle.elements.specs.declared.Extent.{Extent}
+use Rattle.elements.specs.declared.Extent.the-variants.{Counted}
 use Rattle.elements.specs.declared.Field.{Field}
 use Rattle.elements.specs.declared.Field.the-variants as field
-use Rattle.elements.specs.Matching.{array, map, versions, sizes, inMessage, inList, inPair}
-use Rattle.elements.specs.Reading.{onNumber, onEnd, unsignedAt, opensAt, itemEnd, sizeEnd, sizedEnd, pairEnd, pairsEnd, keyAt, versionAt, versionsEnd, upTo, boolOf, partOf}
-use Rattle.elements.proofs.ElementLaws.{Numbers, VersionAt, version-sound}
+use Rattle.elements.specs.Matching.{array, versions, sizes, inList, opener}
+use Rattle.elements.specs.Besides.Matching.{ElementAt, UnsignedAt}
+use Rattle.elements.specs.Reading.{onNumber, onEnd, unsignedAt, opensAt, itemEnd, leaving, sizeEnd, sizedEnd, pairEnd, keyAt, versionAt, elementAt, closed, walk, elementsOf, below, upTo, listed, boolOf, partOf}
+use Rattle.elements.proofs.ElementLaws.{Numbers, key-sound, next-sound, advance}
 
 module _ {A : Type 0} (other : A) where
   -- a number, or none, was found
@@ -35,11 +38,6 @@ module _ {A : Type 0} (other : A) where
   pub end-not : (k : ℕ → A) {n m : End} → n ≡ m → n ≡ Nowhere → other ≡ onEnd other m k
   end-not k e f = ap (λ (n : End). onEnd other n k) (sym f ∙ e)
 
--- past the end there is no item
-pub item-past : (bs : List ℕ) (d p : ℕ) → length bs < p → Nowhere ≡ itemEnd bs d p
-unfolding itemEnd judge met
-item-past bs d p h = let e : drop p bs ≡ _ = drop-of-length-le bs {i = p} (omega arith) in rw e
-
 -- ---- by what was found
 
 module _ (bs : List ℕ) where
@@ -51,21 +49,22 @@ module _ (bs : List ℕ) where
   unfolding sizeEnd
   size-not p e f = number-not Nowhere (λ v q. cond (ltb v sizes) (At q) Nowhere) e f
 
-  pub sized-is : (p : ℕ) {q : ℕ} {n : End} {r : End} → n ≡ itemEnd bs inPair p → n ≡ At q → r ≡ sizeEnd bs q → r ≡ sizedEnd bs p
+  pub sized-is : (d p : ℕ) {q : ℕ} {n : End} {r : End} → n ≡ itemEnd bs d p → n ≡ At q → r ≡ sizeEnd bs q → r ≡ sizedEnd bs d p
   unfolding sizedEnd
-  sized-is p e f g = end-then Nowhere (λ q. sizeEnd bs q) e f g
+  sized-is d p e f g = end-then Nowhere (λ q. sizeEnd bs q) e f g
 
-  pub sized-not : (p : ℕ) {n : End} → n ≡ itemEnd bs inPair p → n ≡ Nowhere → Nowhere ≡ sizedEnd bs p
+  pub sized-not : (d p : ℕ) {n : End} → n ≡ itemEnd bs d p → n ≡ Nowhere → Nowhere ≡ sizedEnd bs d p
   unfolding sizedEnd
-  sized-not p e f = end-not Nowhere (λ q. sizeEnd bs q) e f
+  sized-not d p e f = end-not Nowhere (λ q. sizeEnd bs q) e f
 
-  pub pair-is : (p : ℕ) {v q : ℕ} {n : Number} {r : End} → n ≡ opensAt bs array p → n ≡ Is v q → r ≡ cond (eqb v 2) (sizedEnd bs q) Nowhere → r ≡ pairEnd bs p
+  pub pair-is : (d p : ℕ) {v q : ℕ} {n : Number} {r : End} → n ≡ opensAt bs array p → n ≡ Is v q → r ≡ cond (eqb v 2) (sizedEnd bs (d - 1) q) Nowhere
+      → r ≡ pairEnd bs d p
   unfolding pairEnd
-  pair-is p e f g = number-then Nowhere (λ v q. cond (eqb v 2) (sizedEnd bs q) Nowhere) e f g
+  pair-is d p e f g = number-then Nowhere (λ v q. cond (eqb v 2) (sizedEnd bs (d - 1) q) Nowhere) e f g
 
-  pub pair-not : (p : ℕ) {n : Number} → n ≡ opensAt bs array p → n ≡ Not → Nowhere ≡ pairEnd bs p
+  pub pair-not : (d p : ℕ) {n : Number} → n ≡ opensAt bs array p → n ≡ Not → Nowhere ≡ pairEnd bs d p
   unfolding pairEnd
-  pair-not p e f = number-not Nowhere (λ v q. cond (eqb v 2) (sizedEnd bs q) Nowhere) e f
+  pair-not d p e f = number-not Nowhere (λ v q. cond (eqb v 2) (sizedEnd bs (d - 1) q) Nowhere) e f
 
   pub key-is : (low p : ℕ) {v q : ℕ} {n : Number} {r : Number} {t : Bool} → n ≡ unsignedAt bs p → n ≡ Is v q
       → t ≡ (leb low v && ltb v versions) → r ≡ cond t (Is v q) Not → r ≡ keyAt bs low p
@@ -77,37 +76,35 @@ module _ (bs : List ℕ) where
   unfolding keyAt
   key-not low p e f = number-not Not (λ v q. cond (leb low v && ltb v versions) (Is v q) Not) e f
 
-  pub version-is : (low p : ℕ) {v q : ℕ} {n : Number} {r : Number} → n ≡ keyAt bs low p → n ≡ Is v q → r ≡ onEnd Not (itemEnd bs inList q) (λ b. Is v b) → r ≡ versionAt bs low p
+  -- a key is a version
+  pub key-small : (low p : ℕ) {v q : ℕ} {n : Number} → n ≡ keyAt bs low p → n ≡ Is v q → v < versions
+  key-small low p {v} {q} e f = subst (Numbers (λ w a. UnsignedAt bs p w a × (low ≤ w) × (w < versions))) (sym e ∙ f) (key-sound bs low p) .2
+
+  pub version-is : (d low p : ℕ) {v q : ℕ} {n : Number} {r : Number} {e : End} → n ≡ keyAt bs low p → n ≡ Is v q → e ≡ itemEnd bs d q
+      → r ≡ leaving (v + 1) e → r ≡ versionAt bs d low p
   unfolding versionAt
-  version-is low p e f g = number-then Not (λ v q. onEnd Not (itemEnd bs inList q) (λ b. Is v b)) e f g
+  version-is d low p {v} {q} e f g h = number-then Not (λ v q. leaving (v + 1) (itemEnd bs d q)) e f (h ∙ ap (leaving (v + 1)) g)
 
-  pub version-not : (low p : ℕ) {n : Number} → n ≡ keyAt bs low p → n ≡ Not → Not ≡ versionAt bs low p
+  pub version-not : (d low p : ℕ) {n : Number} → n ≡ keyAt bs low p → n ≡ Not → Not ≡ versionAt bs d low p
   unfolding versionAt
-  version-not low p e f = number-not Not (λ v q. onEnd Not (itemEnd bs inList q) (λ b. Is v b)) e f
+  version-not d low p e f = number-not Not (λ v q. leaving (v + 1) (itemEnd bs d q)) e f
 
-  pub items-is : (p : ℕ) {v q : ℕ} {n : Number} {r : Part} → n ≡ opensAt bs array p → n ≡ Is v q → r ≡ upTo q (itemEnd bs inMessage p) → r ≡ partOf bs field.Items p
-  unfolding partOf
-  items-is p e f g = number-then part.Wrong (λ v q. upTo q (itemEnd bs inMessage p)) e f g
+  -- an element by its kind
+  pub element-by : (d low p : ℕ) {e g : Element} {r : Number} → e ≡ g → r ≡ elementAt bs d g low p → r ≡ elementAt bs d e low p
+  element-by d low p e h = h ∙ ap (λ (e : Element). elementAt bs d e low p) (sym e)
 
-  pub items-not : (p : ℕ) {n : Number} → n ≡ opensAt bs array p → n ≡ Not → part.Wrong ≡ partOf bs field.Items p
-  unfolding partOf
-  items-not p e f = number-not part.Wrong (λ v q. upTo q (itemEnd bs inMessage p)) e f
+  -- the list at a place, by the major type of its elements
+  pub opened : (e : Element) (p : ℕ) {m : ℕ} {n : Number} → m ≡ opener e → n ≡ opensAt bs m p → n ≡ opensAt bs (opener e) p
+  opened e p f g = g ∙ ap (λ (m : ℕ). opensAt bs m p) f
 
-  pub pairs-is : (p : ℕ) {v q : ℕ} {n : Number} {r : Part} → n ≡ opensAt bs array p → n ≡ Is v q → r ≡ upTo q (pairsEnd bs v q) → r ≡ partOf bs field.Pairs p
+  pub list-is : (e : Element) (p : ℕ) {k a : ℕ} {n : Number} {r : Part} → n ≡ opensAt bs (opener e) p → n ≡ Is k a
+      → r ≡ listed a (elementsOf bs inList e (Counted k) a) → r ≡ partOf bs (field.List e) p
   unfolding partOf
-  pairs-is p e f g = number-then part.Wrong (λ v q. upTo q (pairsEnd bs v q)) e f g
+  list-is e p f g h = number-then part.Wrong (λ k a. listed a (elementsOf bs inList e (Counted k) a)) f g h
 
-  pub pairs-not : (p : ℕ) {n : Number} → n ≡ opensAt bs array p → n ≡ Not → part.Wrong ≡ partOf bs field.Pairs p
+  pub list-not : (e : Element) (p : ℕ) {n : Number} → n ≡ opensAt bs (opener e) p → n ≡ Not → part.Wrong ≡ partOf bs (field.List e) p
   unfolding partOf
-  pairs-not p e f = number-not part.Wrong (λ v q. upTo q (pairsEnd bs v q)) e f
-
-  pub map-is : (p : ℕ) {v q : ℕ} {n : Number} {r : Part} → n ≡ opensAt bs map p → n ≡ Is v q → r ≡ upTo q (versionsEnd bs 0 v q) → r ≡ partOf bs field.Versions p
-  unfolding partOf
-  map-is p e f g = number-then part.Wrong (λ v q. upTo q (versionsEnd bs 0 v q)) e f g
-
-  pub map-not : (p : ℕ) {n : Number} → n ≡ opensAt bs map p → n ≡ Not → part.Wrong ≡ partOf bs field.Versions p
-  unfolding partOf
-  map-not p e f = number-not part.Wrong (λ v q. upTo q (versionsEnd bs 0 v q)) e f
+  list-not e p f g = number-not part.Wrong (λ k a. listed a (elementsOf bs inList e (Counted k) a)) f g
 
 -- the place from a up to an end
 pub up-to-is : (a : ℕ) {q n : ℕ} {e : End} → n ≡ q - a → e ≡ At q → part.Place a n q ≡ upTo a e
@@ -125,42 +122,45 @@ bool-past bs p h = rw (List·getD-eq-default bs 0 h)
 pub bool-here : (p : ℕ) {b x : ℕ} {r : Part} → b ≡ x → r ≡ boolOf b p → r ≡ boolOf x p
 bool-here p e f = f ∙ ap (λ (b : ℕ). boolOf b p) e
 
--- ---- one pair, or one key and value, more
+-- the place of elements, and the number that is there
+pub listed-is : (a : ℕ) {k q n : ℕ} {m : Number} → n ≡ q - a → m ≡ Is k q → part.Place a n q ≡ listed a m
+listed-is a {k} {q} f g = ap (λ (n : ℕ). part.Place a n q) f ∙ ap (listed a) (sym g)
 
-module _ (bs : List ℕ) where
-  pub pairs-none : {k : ℕ} (p : ℕ) → k ≡ 0 → pairsEnd bs k p ≡ At p
-  unfolding pairsEnd
-  pairs-none p e = rw e
+-- ---- one element more, behind k of them
 
-  pub pairs-more : (k p : ℕ) {q : ℕ} {n : End} → 0 < k → n ≡ pairEnd bs p → n ≡ At q → pairsEnd bs (k - 1) q ≡ pairsEnd bs k p
-  unfolding pairsEnd
-  pairs-more zero p h e f = absurd (omega arith)
-  pairs-more (suc k) p {q} h e f =
-      let s : suc k - 1 ≡ k = omega arith in
-      ap (λ (n : ℕ). pairsEnd bs n q) s ∙ end-then Nowhere (λ q. pairsEnd bs k q) e f refl
+module _ (bs : List ℕ) (d : ℕ) (e : Element) (x : Extent) {n : ℕ} (long : length bs ≡ n) (k low p : ℕ) {t : Bool} (test : t ≡ closed n x k p) where
+  same : closed (length bs) x k p ≡ t
+  same = ap (λ (m : ℕ). closed m x k p) long ∙ sym test
 
-  pub pairs-stop : (k p : ℕ) {n : End} → 0 < k → n ≡ pairEnd bs p → n ≡ Nowhere → Nowhere ≡ pairsEnd bs k p
-  unfolding pairsEnd
-  pairs-stop zero p h e f = absurd (omega arith)
-  pairs-stop (suc k) p h e f = end-not Nowhere (λ q. pairsEnd bs k q) e f
+  pub walk-end : t ≡ true → Is k p ≡ walk bs d e x (length bs - k) k low p
+  unfolding walk
+  walk-end f = of (length bs - k)
+    where
+      c : closed (length bs) x k p ≡ true
+      c = same ∙ f
 
-  pub versions-none : {k : ℕ} (low p : ℕ) → k ≡ 0 → versionsEnd bs low k p ≡ At p
-  unfolding versionsEnd
-  versions-none low p e = rw e
+      of : (b : ℕ) → Is k p ≡ walk bs d e x b k low p
+      of zero = rw c
+      of (suc b) = rw c
 
-  pub versions-more : (low k p : ℕ) {v q : ℕ} {n : Number} → 0 < k → n ≡ versionAt bs low p → n ≡ Is v q
-      → versionsEnd bs (v + 1) (k - 1) q ≡ versionsEnd bs low k p
-  unfolding versionsEnd
-  versions-more low zero p h e f = absurd (omega arith)
-  versions-more low (suc k) p {v} {q} h e f =
-      let s : suc k - 1 ≡ k = omega arith in
-      ap (λ (n : ℕ). versionsEnd bs (v + 1) n q) s ∙ number-then Nowhere (λ v q. versionsEnd bs (v + 1) k q) e f refl
+  module _ (f : t ≡ false) {m : Number} (found : m ≡ elementAt bs d e low p) where
+    open-still : closed (length bs) x k p ≡ false
+    open-still = same ∙ f
 
-  pub versions-stop : (low k p : ℕ) {n : Number} → 0 < k → n ≡ versionAt bs low p → n ≡ Not → Nowhere ≡ versionsEnd bs low k p
-  unfolding versionsEnd
-  versions-stop low zero p h e f = absurd (omega arith)
-  versions-stop low (suc k) p h e f = number-not Nowhere (λ v q. versionsEnd bs (v + 1) k q) e f
+    pub walk-stop : m ≡ Not → Not ≡ walk bs d e x (length bs - k) k low p
+    unfolding walk
+    walk-stop is = of (length bs - k)
+      where
+        of : (b : ℕ) → Not ≡ walk bs d e x b k low p
+        of zero = rw open-still
+        of (suc b) = rw open-still (number-not Not (λ next q. walk bs d e x b (k + 1) next q) found is)
 
-  -- a key is a version
-  pub key-small : (low p : ℕ) {v q : ℕ} {n : Number} → n ≡ versionAt bs low p → n ≡ Is v q → v < versions
-  key-small low p {v} {q} e f = subst (Numbers (λ w b. VersionAt bs low p w b)) (sym e ∙ f) (version-sound bs low p) .1 .2
+    module _ {next q : ℕ} (is : m ≡ Is next q) where
+      pub walk-forward : (p < q) × (q ≤ length bs)
+      walk-forward = advance bs (subst (Numbers (λ next q. ElementAt bs d e low p next q)) (sym found ∙ is) (next-sound bs d e low p))
+
+      pub walk-on : k ≤ p → walk bs d e x (length bs - (k + 1)) (k + 1) next q ≡ walk bs d e x (length bs - k) k low p
+      unfolding walk
+      walk-on h =
+          let z : length bs - k ≡ suc (length bs - (k + 1)) = omega (arith, walk-forward) in
+          rw (z, open-still) (number-then Not (λ next q. walk bs d e x (length bs - (k + 1)) (k + 1) next q) found is refl)

@@ -1,3 +1,3 @@
 pub mod Matching
 pub mod Reading
-pub mod Examples
+pub mod Besides

@@ -1,15 +1,19 @@
--- What is found at a place, by element: a number, where an item, a pair or a version ends, and what a field says.
+-- What is found at a place: a number, where an item or an element ends, how many elements there are, and what a field says.
 use Prim.Native.Nat.{ℕ, zero, suc, _+_, _-_}
-use mathlib.Core.Bool.{cond, _&&_}
+use mathlib.Core.Bool.{Bool, cond, _&&_}
 use mathlib.Core.List.{List}
 use lib.Dec.{eqb, ltb, leb}
-use lib.ListN.{getD, drop}
+use lib.ListN.{length, getD, drop}
 use Rattle.head.specs.Read.{headAt}
 use Rattle.head.specs.declared.read.Head.{Head}
 use Rattle.head.specs.declared.read.Head.the-variants as head
 use Rattle.item.specs.declared.Verdict.{Verdict}
 use Rattle.item.specs.declared.Verdict.the-variants.{Whole, Bad, Incomplete}
 use Rattle.item.specs.Verdict.{judge, start}
+use Rattle.elements.specs.declared.Element.{Element}
+use Rattle.elements.specs.declared.Element.the-variants as element
+use Rattle.elements.specs.declared.Extent.{Extent}
+use Rattle.elements.specs.declared.Extent.the-variants.{Counted, Rest}
 use Rattle.elements.specs.declared.Field.{Field}
 use Rattle.elements.specs.declared.Field.the-variants as field
 use Rattle.elements.specs.declared.Number.{Number}
@@ -18,7 +22,7 @@ use Rattle.elements.specs.declared.End.{End}
 use Rattle.elements.specs.declared.End.the-variants.{At, Nowhere}
 use Rattle.elements.specs.declared.Part.{Part}
 use Rattle.elements.specs.declared.Part.the-variants as part
-use Rattle.elements.specs.Matching.{array, map, versions, sizes, words, failures, False, True, inMessage, inList, inPair}
+use Rattle.elements.specs.Matching.{array, versions, sizes, False, True, inMessage, inList, opener}
 
 -- ---- numbers and ends, and what is made of them
 
@@ -54,32 +58,48 @@ ended Incomplete = Nowhere
 unfoldable pub itemEnd : List ℕ → ℕ → ℕ → End
 itemEnd bs d p = ended (judge (drop p bs) p (start d))
 
--- ---- pairs and versions
+-- ---- elements
 
--- Where a size ends, an item with its size, a pair, and k pairs.
+-- The end of an element, and what the element leaves to the next.
+abbrev pub leaving : ℕ → End → Number
+leaving next e = onEnd Not e (λ q. Is next q)
+
+-- Where a size ends, an item with its size, and a pair.
 unfoldable pub sizeEnd : List ℕ → ℕ → End
 sizeEnd bs p = onNumber Nowhere (unsignedAt bs p) (λ v q. cond (ltb v sizes) (At q) Nowhere)
 
-unfoldable pub sizedEnd : List ℕ → ℕ → End
-sizedEnd bs p = onEnd Nowhere (itemEnd bs inPair p) (λ q. sizeEnd bs q)
+unfoldable pub sizedEnd : List ℕ → ℕ → ℕ → End
+sizedEnd bs d p = onEnd Nowhere (itemEnd bs d p) (λ q. sizeEnd bs q)
 
-unfoldable pub pairEnd : List ℕ → ℕ → End
-pairEnd bs p = onNumber Nowhere (opensAt bs array p) (λ k a. cond (eqb k 2) (sizedEnd bs a) Nowhere)
+unfoldable pub pairEnd : List ℕ → ℕ → ℕ → End
+pairEnd bs d p = onNumber Nowhere (opensAt bs array p) (λ k a. cond (eqb k 2) (sizedEnd bs (d - 1) a) Nowhere)
 
-unfoldable pub pairsEnd : List ℕ → ℕ → ℕ → End
-pairsEnd bs zero p = At p
-pairsEnd bs (suc k) p = onEnd Nowhere (pairEnd bs p) (λ q. pairsEnd bs k q)
-
--- The version, not below `low`, that is a key of the map, and the place behind its value; where k keys and values end.
+-- The version, not below `low`, that is a key of the map; with its value, it leaves that the next is greater.
 unfoldable pub keyAt : List ℕ → ℕ → ℕ → Number
 keyAt bs low p = onNumber Not (unsignedAt bs p) (λ v q. cond (leb low v && ltb v versions) (Is v q) Not)
 
-unfoldable pub versionAt : List ℕ → ℕ → ℕ → Number
-versionAt bs low p = onNumber Not (keyAt bs low p) (λ v a. onEnd Not (itemEnd bs inList a) (λ b. Is v b))
+unfoldable pub versionAt : List ℕ → ℕ → ℕ → ℕ → Number
+versionAt bs d low p = onNumber Not (keyAt bs low p) (λ v a. leaving (v + 1) (itemEnd bs d a))
 
-unfoldable pub versionsEnd : List ℕ → ℕ → ℕ → ℕ → End
-versionsEnd bs low zero p = At p
-versionsEnd bs low (suc k) p = onNumber Nowhere (versionAt bs low p) (λ v b. versionsEnd bs (v + 1) k b)
+-- The next element: what it leaves, and the place behind it.
+unfoldable pub elementAt : List ℕ → ℕ → Element → ℕ → ℕ → Number
+elementAt bs d element.Item low p = leaving 0 (itemEnd bs d p)
+elementAt bs d element.Pair low p = leaving 0 (pairEnd bs d p)
+elementAt bs d element.Version low p = versionAt bs d low p
+
+-- Elements of this extent are at their end, with k of them, the last of which ends at place p, among n bytes.
+abbrev pub closed : ℕ → Extent → ℕ → ℕ → Bool
+closed n (Counted count) k p = eqb k count
+closed n Rest k p = eqb p n
+
+-- Behind k elements: how many there are in all, and where the last of them ends. There are no more of them than bytes.
+unfoldable pub walk : List ℕ → ℕ → Element → Extent → ℕ → ℕ → ℕ → ℕ → Number
+walk bs d e x zero k low p = cond (closed (length bs) x k p) (Is k p) Not
+walk bs d e x (suc bytes) k low p =
+    cond (closed (length bs) x k p) (Is k p) (onNumber Not (elementAt bs d e low p) (λ next q. walk bs d e x bytes (k + 1) next q))
+
+abbrev pub elementsOf : List ℕ → ℕ → Element → Extent → ℕ → Number
+elementsOf bs d e x p = walk bs d e x (length bs) 0 0 p
 
 -- ---- fields
 
@@ -89,16 +109,15 @@ below limit n = onNumber part.Wrong n (λ v q. cond (ltb v limit) (part.Number v
 abbrev pub upTo : ℕ → End → Part
 upTo a e = onEnd part.Wrong e (λ q. part.Place a (q - a) q)
 
+abbrev pub listed : ℕ → Number → Part
+listed a n = onNumber part.Wrong n (λ k q. part.Place a (q - a) q)
+
 abbrev pub boolOf : ℕ → ℕ → Part
 boolOf b p = cond (eqb b False) (part.Number 0 (p + 1)) (cond (eqb b True) (part.Number 1 (p + 1)) part.Wrong)
 
 -- What a field at place p says, and the place behind it.
 unfoldable pub partOf : List ℕ → Field → ℕ → Part
 partOf bs field.Item p = upTo p (itemEnd bs inMessage p)
-partOf bs field.Items p = onNumber part.Wrong (opensAt bs array p) (λ k a. upTo a (itemEnd bs inMessage p))
-partOf bs field.Pairs p = onNumber part.Wrong (opensAt bs array p) (λ k a. upTo a (pairsEnd bs k a))
-partOf bs field.Versions p = onNumber part.Wrong (opensAt bs map p) (λ k a. upTo a (versionsEnd bs 0 k a))
-partOf bs field.Word p = below words (unsignedAt bs p)
+partOf bs (field.List e) p = onNumber part.Wrong (opensAt bs (opener e) p) (λ k a. listed a (elementsOf bs inList e (Counted k) a))
+partOf bs (field.Below limit) p = below limit (unsignedAt bs p)
 partOf bs field.Bool p = boolOf (getD bs p 0) p
-partOf bs field.Version p = below versions (unsignedAt bs p)
-partOf bs field.Failure p = below failures (unsignedAt bs p)

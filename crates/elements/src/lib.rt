@@ -1,8 +1,9 @@
 // The elements of a message, one at a place: numbers, items, lists, pairs and versions, and what a field says. They are read
 // among the n bytes of a ring, from the place `from` on of a slice.
 //
-// What is found at a place is exactly what stands there by `Matching`. Nothing is walked twice that need not be: the bytes
-// are known to be one item, so that its last element ends where they end. Places past the end are met by no head and no item.
+// What is found at a place is exactly what stands there by `Matching`. One walk passes the elements of a list, of a map and of a
+// run that build is given. Nothing is walked twice that need not be: the bytes are known to be one item, so that its last element
+// ends where they end. Places past the end are met by no head and no item.
 use head::ARRAY;
 use head::MAP;
 use head::UNSIGNED;
@@ -14,23 +15,31 @@ ghost use mathlib.Core.Bool.{true, cond};
 ghost use Prim.Native.Nat.{_+_, _-_, _≤_, _<_};
 ghost use lib.Dec.{ltb, eqb};
 ghost use lib.ListN.{length, getD};
-ghost use Rattle.ring.specs.Ring.{around};
+ghost use Rattle.ring.specs.Inside.{around};
 ghost use Rattle.head.specs.Read.{headAt};
 ghost use Rattle.item.specs.Grammar.{nesting};
-ghost use Rattle.elements.specs.Matching.{inMessage, inList};
-ghost use Rattle.elements.specs.Reading.{onEnd, leads, ended, unsignedAt, opensAt, itemEnd, sizeEnd, sizedEnd, pairEnd, pairsEnd, keyAt, versionAt, versionsEnd, below, upTo, boolOf, partOf};
+ghost use Rattle.elements.specs.Matching.{inMessage, inList, opener};
+ghost use Rattle.elements.specs.Reading.{leads, ended, unsignedAt, opensAt, itemEnd, leaving, sizeEnd, sizedEnd, pairEnd, keyAt, versionAt, elementAt, closed, elementsOf, below, upTo, listed, boolOf, partOf};
 
-// What stands in a message behind its number: an item; a list of items; a list of pairs [item, size]; a version map;
-// w, a number up to 65,535; a bool; a version; failure, 0 or 1.
+// An element of a list, or of a map: an item; a pair [item, size]; a version, which is a key, and its value.
+pub enum Element {
+    Item,
+    Pair,
+    Version,
+}
+
+// What stands in a message behind its number: an item; a list or map of elements; a number below a limit; a bool.
 pub enum Field {
     Item,
-    Items,
-    Pairs,
-    Versions,
-    Word,
+    List(Element),
+    Below(u64),
     Bool,
-    Version,
-    Failure,
+}
+
+// How far elements go: so many of them; or up to the end of the bytes, as in a run that build is given.
+pub enum Extent {
+    Counted(u64),
+    Rest,
 }
 
 // A number and the place behind it, or none.
@@ -56,8 +65,6 @@ pub enum Part {
 pub const IN_MESSAGE: usize = NESTING - 1;
 
 pub const IN_LIST: usize = NESTING - 2;
-
-const IN_PAIR: usize = NESTING - 3;
 
 // Versions and sizes are below 2^32, w is below 2^16, failure is 0 or 1.
 pub const VERSION_LIMIT: u64 = 4294967296;
@@ -149,11 +156,14 @@ pub fn item_end(s: &[u8], from: usize, n: usize, at: usize, d: usize) -> End
     end_of(cbor::item_at(s, from, n, at, d))
 }
 
-// There is another element of a list or a map of which so many are left.
-fn another(left: u64) -> bool
-    ensures { λ r. ⌜ r ≡ ltb 0 left ⌝ }
+// The end of an element, and what the element leaves to the next.
+fn leave(next: u64, e: End) -> Number
+    ensures { λ r. ⌜ r ≡ leaving next e ⌝ }
 {
-    0 < left
+    match e {
+        End::At(q) => Number::Is(next, q),
+        End::Nowhere => Number::Not,
+    }
 }
 
 // Where a size ends, and an item with its size.
@@ -168,11 +178,11 @@ fn size_end(s: &[u8], from: usize, n: usize, at: usize) -> End
     }
 }
 
-fn sized_end(s: &[u8], from: usize, n: usize, at: usize) -> End
-    requires { ⌜ (from ≤ length (now s)) × (n ≤ length (now s)) ⌝ }
-    ensures { λ r. ⌜ r ≡ sizedEnd (around (now (s .entry)) from n) at ⌝ }
+fn sized_end(s: &[u8], from: usize, n: usize, d: usize, at: usize) -> End
+    requires { ⌜ (from ≤ length (now s)) × (n ≤ length (now s)) × (d ≤ nesting) ⌝ }
+    ensures { λ r. ⌜ r ≡ sizedEnd (around (now (s .entry)) from n) d at ⌝ }
 {
-    let e = item_end(s, from, n, at, IN_PAIR);
+    let e = item_end(s, from, n, at, d);
     match e {
         End::At(q) => size_end(s, from, n, q),
         End::Nowhere => End::Nowhere,
@@ -180,44 +190,26 @@ fn sized_end(s: &[u8], from: usize, n: usize, at: usize) -> End
 }
 
 // Where an array of two ends that are an item and its size.
-fn two_end(s: &[u8], from: usize, n: usize, count: u64, first: usize) -> End
-    requires { ⌜ (from ≤ length (now s)) × (n ≤ length (now s)) ⌝ }
-    ensures { λ r. ⌜ r ≡ cond (eqb count 2) (sizedEnd (around (now (s .entry)) from n) first) End.Nowhere ⌝ }
+fn two_end(s: &[u8], from: usize, n: usize, d: usize, count: u64, first: usize) -> End
+    requires { ⌜ (from ≤ length (now s)) × (n ≤ length (now s)) × (d ≤ nesting) ⌝ }
+    ensures { λ r. ⌜ r ≡ cond (eqb count 2) (sizedEnd (around (now (s .entry)) from n) d first) End.Nowhere ⌝ }
 {
     if count == 2 {
-        return sized_end(s, from, n, first);
+        return sized_end(s, from, n, d, first);
     }
     End::Nowhere
 }
 
 // Where a pair [item, size] ends.
-pub fn pair_end(s: &[u8], from: usize, n: usize, at: usize) -> End
-    requires { ⌜ (from ≤ length (now s)) × (n ≤ length (now s)) ⌝ }
-    ensures { λ r. ⌜ r ≡ pairEnd (around (now (s .entry)) from n) at ⌝ }
+fn pair_end(s: &[u8], from: usize, n: usize, d: usize, at: usize) -> End
+    requires { ⌜ (from ≤ length (now s)) × (n ≤ length (now s)) × (0 < d) × (d ≤ nesting) ⌝ }
+    ensures { λ r. ⌜ r ≡ pairEnd (around (now (s .entry)) from n) d at ⌝ }
 {
     let pair = opens_at(s, from, n, ARRAY, at);
     match pair {
-        Number::Is(count, first) => two_end(s, from, n, count, first),
+        Number::Is(count, first) => two_end(s, from, n, d - 1, count, first),
         Number::Not => End::Nowhere,
     }
-}
-
-// Where so many pairs end.
-fn pairs_end(s: &[u8], from: usize, n: usize, count: u64, first: usize) -> End
-    requires { ⌜ (from ≤ length (now s)) × (n ≤ length (now s)) ⌝ }
-    ensures { λ r. ⌜ r ≡ pairsEnd (around (now (s .entry)) from n) count first ⌝ }
-{
-    let mut left = count;
-    let mut at = first;
-    while another(left) {
-        let e = pair_end(s, from, n, at);
-        let End::At(q) = e else {
-            return End::Nowhere;
-        };
-        at = q;
-        left -= 1;
-    }
-    End::At(at)
 }
 
 // The key of a version map: a version not below `low`.
@@ -232,48 +224,66 @@ fn key_at(s: &[u8], from: usize, n: usize, low: u64, at: usize) -> Number
     }
 }
 
-// A key and the place behind its value.
-fn value_behind(s: &[u8], from: usize, n: usize, v: u64, at: usize) -> Number
-    requires { ⌜ (from ≤ length (now s)) × (n ≤ length (now s)) ⌝ }
-    ensures { λ r. ⌜ r ≡ onEnd Number.Not (itemEnd (around (now (s .entry)) from n) inList at) (λ b. Number.Is v b) ⌝ }
-{
-    let e = item_end(s, from, n, at, IN_LIST);
-    match e {
-        End::At(q) => Number::Is(v, q),
-        End::Nowhere => Number::Not,
-    }
-}
-
-// A key of a version map, a version not below `low`, and the place behind its value.
-pub fn version_at(s: &[u8], from: usize, n: usize, low: u64, at: usize) -> Number
-    requires { ⌜ (from ≤ length (now s)) × (n ≤ length (now s)) ⌝ }
-    ensures { λ r. ⌜ r ≡ versionAt (around (now (s .entry)) from n) low at ⌝ }
+// A key of a version map and its value: the next key is greater.
+fn version_at(s: &[u8], from: usize, n: usize, d: usize, low: u64, at: usize) -> Number
+    requires { ⌜ (from ≤ length (now s)) × (n ≤ length (now s)) × (d ≤ nesting) ⌝ }
+    ensures { λ r. ⌜ r ≡ versionAt (around (now (s .entry)) from n) d low at ⌝ }
 {
     let key = key_at(s, from, n, low, at);
     match key {
-        Number::Is(v, q) => value_behind(s, from, n, v, q),
+        Number::Is(v, q) => leave(v + 1, item_end(s, from, n, q, d)),
         Number::Not => Number::Not,
     }
 }
 
-// Where so many keys and values end: each key is greater than the one before.
-fn versions_end(s: &[u8], from: usize, n: usize, count: u64, first: usize) -> End
-    requires { ⌜ (from ≤ length (now s)) × (n ≤ length (now s)) ⌝ }
-    ensures { λ r. ⌜ r ≡ versionsEnd (around (now (s .entry)) from n) 0 count first ⌝ }
+// The next element, where the one before left this.
+fn element_at(s: &[u8], from: usize, n: usize, d: usize, e: Element, low: u64, at: usize) -> Number
+    requires { ⌜ (from ≤ length (now s)) × (n ≤ length (now s)) × (0 < d) × (d ≤ nesting) ⌝ }
+    ensures { λ r. ⌜ r ≡ elementAt (around (now (s .entry)) from n) d e low at ⌝ }
 {
-    let mut left = count;
-    let mut at = first;
-    let mut low: u64 = 0;
-    while another(left) {
-        let pair = version_at(s, from, n, low, at);
-        let Number::Is(v, q) = pair else {
-            return End::Nowhere;
-        };
-        low = v + 1;
-        at = q;
-        left -= 1;
+    match e {
+        Element::Item => leave(0, item_end(s, from, n, at, d)),
+        Element::Pair => leave(0, pair_end(s, from, n, d, at)),
+        Element::Version => version_at(s, from, n, d, low, at),
     }
-    End::At(at)
+}
+
+// Elements are at their end, with k of them, the last of which ends at this place.
+fn is_closed(n: usize, x: Extent, k: u64, at: usize) -> bool
+    ensures { λ r. ⌜ r ≡ closed n x k at ⌝ }
+{
+    match x {
+        Extent::Counted(count) => k == count,
+        Extent::Rest => at == n,
+    }
+}
+
+// Passes elements from a place on, within the nesting d: how many there are, and where the last of them ends.
+pub fn walk(
+    s: &[u8],
+    from: usize,
+    n: usize,
+    d: usize,
+    e: Element,
+    x: Extent,
+    first: usize,
+) -> Number
+    requires { ⌜ (from ≤ length (now s)) × (n ≤ length (now s)) × (0 < d) × (d ≤ nesting) ⌝ }
+    ensures { λ r. ⌜ r ≡ elementsOf (around (now (s .entry)) from n) d e x first ⌝ }
+{
+    let mut k: u64 = 0;
+    let mut low: u64 = 0;
+    let mut at = first;
+    while !is_closed(n, x, k, at) {
+        let next = element_at(s, from, n, d, e, low, at);
+        let Number::Is(l, q) = next else {
+            return Number::Not;
+        };
+        low = l;
+        at = q;
+        k += 1;
+    }
+    Number::Is(k, at)
 }
 
 // The place from a up to an end.
@@ -297,9 +307,11 @@ fn part_if(test: bool, v: u64, q: usize) -> Part
 }
 
 // A number below a limit.
-fn limited(limit: u64, number: Number) -> Part
-    ensures { λ r. ⌜ r ≡ below limit number ⌝ }
+fn below_at(s: &[u8], from: usize, n: usize, limit: u64, at: usize) -> Part
+    requires { ⌜ (from ≤ length (now s)) × (n ≤ length (now s)) ⌝ }
+    ensures { λ r. ⌜ r ≡ below limit (unsignedAt (around (now (s .entry)) from n) at) ⌝ }
 {
+    let number = unsigned_at(s, from, n, at);
     match number {
         Number::Is(v, q) => part_if(v < limit, v, q),
         Number::Not => Part::Wrong,
@@ -335,38 +347,62 @@ fn element_end(s: &[u8], from: usize, n: usize, at: usize, last: bool) -> End
     item_end(s, from, n, at, IN_MESSAGE)
 }
 
-// A list of items.
-fn items_at(s: &[u8], from: usize, n: usize, at: usize, last: bool) -> Part
+// The major type of a list of such elements.
+pub fn opener_of(e: Element) -> u8
+    ensures { λ r. ⌜ (r ≡ opener e) × (r < 8) ⌝ }
+{
+    match e {
+        Element::Item => ARRAY,
+        Element::Pair => ARRAY,
+        Element::Version => MAP,
+    }
+}
+
+// The place of elements, from the first of them to where the last ends.
+fn list_of(first: usize, elements: Number) -> Part
+    ensures { λ r. ⌜ r ≡ listed first elements ⌝ }
+{
+    match elements {
+        Number::Is(_, q) => Part::Place(first, base::less(q, first), q),
+        Number::Not => Part::Wrong,
+    }
+}
+
+// The elements of the list at a place, the first of them behind its head: items end where the list does.
+fn elements_at(
+    s: &[u8],
+    from: usize,
+    n: usize,
+    e: Element,
+    at: usize,
+    count: u64,
+    first: usize,
+    last: bool,
+) -> Part
+    requires { ⌜ (from ≤ length (now s)) × (n ≤ length (now s)) × (last ≡ true → itemEnd (around (now s) from n) inMessage at ≡ End.At n) × (opensAt (around (now s) from n) (opener e) at ≡ Number.Is count first) ⌝ }
+    ensures { λ r. ⌜ r ≡ listed first (elementsOf (around (now (s .entry)) from n) inList e (Extent.Counted count) first) ⌝ }
+{
+    match e {
+        Element::Item => up_to(first, element_end(s, from, n, at, last)),
+        Element::Pair => list_of(
+            first,
+            walk(s, from, n, IN_LIST, e, Extent::Counted(count), first),
+        ),
+        Element::Version => list_of(
+            first,
+            walk(s, from, n, IN_LIST, e, Extent::Counted(count), first),
+        ),
+    }
+}
+
+// A list, or a map.
+fn list_at(s: &[u8], from: usize, n: usize, e: Element, at: usize, last: bool) -> Part
     requires { ⌜ (from ≤ length (now s)) × (n ≤ length (now s)) × (last ≡ true → itemEnd (around (now s) from n) inMessage at ≡ End.At n) ⌝ }
-    ensures { λ r. ⌜ r ≡ partOf (around (now (s .entry)) from n) Field.Items at ⌝ }
+    ensures { λ r. ⌜ r ≡ partOf (around (now (s .entry)) from n) (Field.List e) at ⌝ }
 {
-    let list = opens_at(s, from, n, ARRAY, at);
+    let list = opens_at(s, from, n, opener_of(e), at);
     match list {
-        Number::Is(_, first) => up_to(first, element_end(s, from, n, at, last)),
-        Number::Not => Part::Wrong,
-    }
-}
-
-// A list of pairs.
-fn pairs_at(s: &[u8], from: usize, n: usize, at: usize) -> Part
-    requires { ⌜ (from ≤ length (now s)) × (n ≤ length (now s)) ⌝ }
-    ensures { λ r. ⌜ r ≡ partOf (around (now (s .entry)) from n) Field.Pairs at ⌝ }
-{
-    let list = opens_at(s, from, n, ARRAY, at);
-    match list {
-        Number::Is(count, first) => up_to(first, pairs_end(s, from, n, count, first)),
-        Number::Not => Part::Wrong,
-    }
-}
-
-// A version map.
-fn versions_at(s: &[u8], from: usize, n: usize, at: usize) -> Part
-    requires { ⌜ (from ≤ length (now s)) × (n ≤ length (now s)) ⌝ }
-    ensures { λ r. ⌜ r ≡ partOf (around (now (s .entry)) from n) Field.Versions at ⌝ }
-{
-    let map = opens_at(s, from, n, MAP, at);
-    match map {
-        Number::Is(count, first) => up_to(first, versions_end(s, from, n, count, first)),
+        Number::Is(count, first) => elements_at(s, from, n, e, at, count, first, last),
         Number::Not => Part::Wrong,
     }
 }
@@ -378,12 +414,8 @@ pub fn part_at(s: &[u8], from: usize, n: usize, f: Field, at: usize, last: bool)
 {
     match f {
         Field::Item => up_to(at, element_end(s, from, n, at, last)),
-        Field::Items => items_at(s, from, n, at, last),
-        Field::Pairs => pairs_at(s, from, n, at),
-        Field::Versions => versions_at(s, from, n, at),
-        Field::Word => limited(WORD_LIMIT, unsigned_at(s, from, n, at)),
+        Field::List(e) => list_at(s, from, n, e, at, last),
+        Field::Below(limit) => below_at(s, from, n, limit, at),
         Field::Bool => bool_at(s, from, n, at),
-        Field::Version => limited(VERSION_LIMIT, unsigned_at(s, from, n, at)),
-        Field::Failure => limited(FAILURE_LIMIT, unsigned_at(s, from, n, at)),
     }
 }

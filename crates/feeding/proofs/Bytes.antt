@@ -22,7 +22,8 @@ use Rattle.wire.specs.declared.instances.Party.{Party}
 use Rattle.wire.specs.declared.instances.Route.{Route}
 use Rattle.wire.specs.declared.instances.Route.the-variants.{Unknown, Wrong, To}
 use Rattle.wire.specs.Segments.{headerLength, added, decoded}
-use Rattle.wire.specs.Instances.{instances, most, routeOf, Within}
+use Rattle.wire.specs.Instances.{instances, most, routeOf}
+use Rattle.wire.specs.Inside.{Within}
 use Rattle.wire.proofs.InstanceLaws.{at-most, route-within}
 use Rattle.connection.specs.declared.Closing.the-variants.{Of}
 use Rattle.connection.specs.declared.Gate.{Gate}

@@ -23,7 +23,7 @@ use Rattle.connection.specs.Closings.{numberOf, isOpen}
 use Rattle.feeding.specs.declared.Admission.{Admission}
 use Rattle.feeding.specs.declared.Admission.the-variants.{Fault, Payload}
 use Rattle.feeding.specs.Feeding.{Reception, admitted, admission, settled, headed, kept, step, fed, used}
-use Rattle.feeding.specs.Numbers.{Eighth}
+use Rattle.feeding.specs.Besides.Numbers.{Eighth}
 use Rattle.feeding.proofs.Bytes.{step-headed, fed-closed, used-closed, fed-append, used-append}
 
 -- an open gate is not closed

@@ -19,7 +19,8 @@ use Rattle.wire.specs.declared.instances.Party.{Party}
 use Rattle.wire.specs.declared.instances.Route.{Route}
 use Rattle.wire.specs.declared.instances.Route.the-variants.{Unknown, Wrong, To}
 use Rattle.wire.specs.Segments.{headerLength, empty, added, decoded}
-use Rattle.wire.specs.Instances.{instances, routeOf, Within}
+use Rattle.wire.specs.Instances.{instances, routeOf}
+use Rattle.wire.specs.Inside.{Within}
 use Rattle.wire.proofs.SegmentLaws.{round-trip}
 use Rattle.wire.proofs.InstanceLaws.{one-way, route-within}
 use Rattle.connection.specs.declared.Connection.{Connection}
@@ -29,7 +30,7 @@ use Rattle.range.specs.Ranges.{inRange}
 use Rattle.range.proofs.RangeLaws.{Ranged, ranged, in-range}
 use Rattle.feeding.specs.declared.Admission.{Admission}
 use Rattle.feeding.specs.Feeding.{Reception, admitted, admission, instanceFor, settled, headed, kept, step, fed, given}
-use Rattle.feeding.specs.Numbers.{Spelt}
+use Rattle.feeding.specs.Feeding.{Spelt}
 
 -- what feeding can change of the range
 pub record Kept (b : ℕ) (caps starts : List ℕ) (n : ℕ) (s : Reception) : Type 0 where

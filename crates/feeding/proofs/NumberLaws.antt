@@ -24,7 +24,7 @@ use Rattle.connection.specs.Parts.{withReceiving}
 use Rattle.range.specs.Ranges.{inRange, receiveStoreOk, receives}
 use Rattle.range.proofs.RangeLaws.{ranged}
 use Rattle.feeding.specs.Feeding.{Reception, admitted, fed, used, left, Told, told, refused, given, answered, feedOpen, feedOf}
-use Rattle.feeding.specs.Numbers.{Listens, Comes, When, out-of-range, closed, unknown-protocol, wrong-mode, overflows, done, Exactly, LeavesAll, Keeps, Joins, WholeOrCut}
+use Rattle.feeding.specs.Besides.Numbers.{Listens, Comes, When, out-of-range, closed, unknown-protocol, wrong-mode, overflows, done, Exactly, LeavesAll, Keeps, Joins, WholeOrCut}
 use Rattle.feeding.proofs.Bytes.{fed-closed, used-closed, fed-append, used-append, feed-range, feed-closed, feed-open}
 use Rattle.feeding.proofs.Keeping.{kept-given, kept-fed, range-with, proper-fed}
 use Rattle.feeding.proofs.Faults.{Cause, unknown, wrong, overflow, cause-number, Holds, eighth-with, eighth-so, Refuses}

@@ -1,9 +1,11 @@
 -- Feed (document 01, "Segments", and "Numbers and their order"; document 02, K1).
 use Prim.Native.Nat.{ℕ, suc, _+_, _-_}
+use mathlib.Core.Path.{_≡_}
 use mathlib.Core.Bool.{cond}
 use mathlib.Core.List.{List, [], _∷_}
 use lib.Dec.{eqb, leb}
 use lib.ListN.{length, getD, set}
+use Rattle.base.specs.Numbers.{Bytes}
 use Rattle.wire.specs.declared.segment.Header.{Header}
 use Rattle.wire.specs.Segments.{headerLength, empty, added, decoded}
 use Rattle.wire.specs.declared.instances.Party.{Party}
@@ -146,3 +148,7 @@ feedOpen c st xs =
 unfoldable pub feedOf : Connection → List ℕ → List ℕ → Told
 feedOf c st xs =
     cond (receives c (length st)) (cond (isOpen (c .gate)) (feedOpen c st xs) (told (refused c 20) st)) (told (refused c 23) st)
+
+-- the header record's array is eight bytes
+abbrev pub Spelt : Header → Type 0
+Spelt h = (length (h .bytes) ≡ headerLength) × Bytes (h .bytes)

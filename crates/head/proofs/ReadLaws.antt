@@ -12,7 +12,8 @@ use lib.Seq.{getD-drop}
 use borrow.Author.Tests.{lt-ltb, le-ltb, le-leb, lt-leb, ltb-true, leb-true, eqb-true}
 use Rattle.base.specs.Numbers.{number}
 use Rattle.base.proofs.Conds.{cond-cases}
-use Rattle.ring.specs.Ring.{run, around}
+use Rattle.ring.specs.Ring.{run}
+use Rattle.ring.specs.Inside.{around}
 use Rattle.ring.proofs.Runs.{run-front, run-drop}
 use Rattle.ring.proofs.Around.{around-length}
 use Rattle.head.specs.Initial.{majorOf, initial}

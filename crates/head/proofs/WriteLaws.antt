@@ -20,7 +20,9 @@ use Rattle.ring.specs.Ring.{run}
 use Rattle.ring.proofs.Runs.{run-length}
 use Rattle.head.specs.Initial.{majorOf, initialOf, initial}
 use Rattle.head.specs.Read.{longAt, simpleAt, headBy, headAt}
-use Rattle.head.specs.Write.{widthOf, lengthOf, shortest, ReadsBack, NoneShorter}
+use Rattle.head.specs.Write.{widthOf, shortest}
+use Rattle.head.specs.Inside.{lengthOf}
+use Rattle.head.specs.Besides.Write.{ReadsBack, NoneShorter}
 use Rattle.head.specs.declared.Initial.{Initial}
 use Rattle.head.specs.declared.Initial.the-variants as says
 use Rattle.head.specs.declared.read.Head.{Head}

@@ -1,3 +1,5 @@
 pub mod Initial
 pub mod Read
 pub mod Write
+pub mod Besides
+pub mod Inside

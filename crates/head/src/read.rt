@@ -8,7 +8,8 @@ ghost use mathlib.Core.Path.{_≡_};
 ghost use Prim.Native.Nat.{_+_, _≤_, _<_, _^_};
 ghost use lib.ListN.{length};
 ghost use Rattle.base.specs.Numbers.{number};
-ghost use Rattle.ring.specs.Ring.{run, around};
+ghost use Rattle.ring.specs.Ring.{run};
+ghost use Rattle.ring.specs.Inside.{around};
 ghost use Rattle.head.specs.Read.{headAt, longAt, simpleAt};
 
 // What stands at a place: a head with its major type, 0 to 7, its argument and the place behind it; one of indefinite

@@ -8,7 +8,8 @@ ghost use mathlib.Core.Path.{_≡_};
 ghost use Prim.Native.Nat.{_+_, _≤_, _<_};
 ghost use lib.ListN.{length};
 ghost use lib.Seq.{sets};
-ghost use Rattle.head.specs.Write.{widthOf, lengthOf, shortest};
+ghost use Rattle.head.specs.Write.{widthOf, shortest};
+ghost use Rattle.head.specs.Inside.{lengthOf};
 
 // How the argument of the shortest head is given: its additional information, and how many bytes follow.
 pub struct Width {

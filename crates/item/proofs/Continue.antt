@@ -9,8 +9,9 @@ use native.Mathlib.Omega.{arith}
 use lib.ListN.{length}
 use Rattle.item.specs.declared.Verdict.{Verdict}
 use Rattle.item.specs.declared.Verdict.the-variants.{Whole, Bad, Incomplete}
-use Rattle.item.specs.Verdict.{Stack, step, met, tally, onward, counting, judge, heads}
-use Rattle.item.specs.Continue.{moved, stands, GoesOn, Settled}
+use Rattle.item.specs.Verdict.{Stack, step, met, onward, judge}
+use Rattle.item.specs.Besides.Verdict.{tally, counting, heads}
+use Rattle.item.specs.Besides.Continue.{moved, stands, GoesOn, Settled}
 
 whole-not : {n : ℕ} → Whole n ≡ Incomplete → ⊥
 whole-not p = let z : _≡_ {A = ℕ} 0 1 = cc in omega arith

@@ -15,8 +15,9 @@ use Rattle.head.specs.declared.Initial.the-variants.{Short, Long, Indefinite, S
 use Rattle.item.specs.Grammar.{Frame, One, Items, Elements, Pairs, Value, Chunks, Content, Second, Argument, content, within, nest, indefinite}
 use Rattle.item.specs.Grammar.{enter, alike, enterChunk, one, no-more, item, end-array, element, end-map, key, value, end-string, chunk}
 use Rattle.item.specs.Grammar.{no-byte, byte, simple, last, digit}
-use Rattle.item.specs.Verdict.{Stack, nil, push, into, step, met, alone, tally, counting, heads}
-use Rattle.item.specs.Theorem.{headsIn, HeadsRead}
+use Rattle.item.specs.Verdict.{Stack, nil, push, into, step, met}
+use Rattle.item.specs.Besides.Verdict.{alone, tally, counting, heads}
+use Rattle.item.specs.Besides.Theorem.{headsIn, HeadsRead}
 use Rattle.item.proofs.Derivative.{Rest, done, then, nothing, no-break, no-break-chunk}
 use Rattle.item.proofs.Exact.{met-rest, met-none, some-byte}
 

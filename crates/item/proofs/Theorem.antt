@@ -10,8 +10,9 @@ use Rattle.head.specs.Initial.{initial}
 use Rattle.item.specs.declared.Verdict.{Verdict}
 use Rattle.item.specs.declared.Verdict.the-variants.{Whole, Bad, Incomplete}
 use Rattle.item.specs.Grammar.{Frame, Reads, Item, nest, indefinite, enter, alike, enterChunk}
-use Rattle.item.specs.Verdict.{nil, push, step, met, judge, tally, heads, start, headsOf}
-use Rattle.item.specs.Theorem.{Begun, Begins, Says, Exactly, BadIsNeither, NestingMonotone, OneEnd}
+use Rattle.item.specs.Verdict.{nil, push, step, met, judge, start}
+use Rattle.item.specs.Besides.Verdict.{tally, heads, headsOf}
+use Rattle.item.specs.Besides.Theorem.{Begun, Begins, Says, Exactly, BadIsNeither, NestingMonotone, OneEnd}
 use Rattle.item.proofs.Derivative.{Rest, done, then}
 use Rattle.item.proofs.Exact.{Exact, exact, only}
 use Rattle.item.proofs.Local.{Cuts, cuts, deeper}

@@ -1,4 +1,3 @@
 pub mod Grammar
 pub mod Verdict
-pub mod Theorem
-pub mod Continue
+pub mod Besides

@@ -62,31 +62,6 @@ met (push d (Content (suc n)) fs) = false
 met (push d Second fs) = false
 met (push d (Argument m v k) fs) = false
 
--- A head that is its initial byte alone.
-abbrev pub alone : Initial → ℕ
-alone (Short m v) = 1
-alone (Long m k) = 0
-alone (Indefinite m) = 1
-alone Simple = 0
-alone Break = 1
-alone Reserved = 0
-
--- How many heads a byte completes, one or none: a head is its initial byte with its argument; a break is a head.
-unfoldable pub tally : Stack → ℕ → ℕ
-tally nil b = 0
-tally (push d One fs) b = alone (initial b)
-tally (push d (Items zero) fs) b = tally fs b
-tally (push d (Items (suc n)) fs) b = alone (initial b)
-tally (push d Elements fs) b = alone (initial b)
-tally (push d Pairs fs) b = alone (initial b)
-tally (push d Value fs) b = alone (initial b)
-tally (push d (Chunks text) fs) b = alone (initial b)
-tally (push d (Content zero) fs) b = tally fs b
-tally (push d (Content (suc n)) fs) b = 0
-tally (push d Second fs) b = 1
-tally (push d (Argument m v zero) fs) b = 1
-tally (push d (Argument m v (suc k)) fs) b = 0
-
 -- At the place `at`: the item is whole; or its next byte ends all hope; or it goes on.
 abbrev pub onward : Bool → ℕ → Option Stack → (Stack → Verdict) → Verdict
 onward true at n k = Whole at
@@ -98,17 +73,6 @@ unfoldable pub judge : List ℕ → ℕ → Stack → Verdict
 judge [] at fs = cond (met fs) (Whole at) Incomplete
 judge (b ∷ bs) at fs = onward (met fs) at (step fs b) (λ gs. judge bs (suc at) gs)
 
--- Heads go on being counted until the item is whole, or a byte is bad.
-abbrev pub counting : Bool → ℕ → Option Stack → (Stack → ℕ) → ℕ
-counting true t n k = 0
-counting false t none k = 0
-counting false t (some fs) k = t + k fs
-
--- The complete heads in the bytes, where the stack is wanted.
-unfoldable pub heads : List ℕ → Stack → ℕ
-heads [] fs = 0
-heads (b ∷ bs) fs = counting (met fs) (tally fs b) (step fs b) (λ gs. heads bs gs)
-
 -- One item within the nesting d.
 abbrev pub start : ℕ → Stack
 start d = push d One nil
@@ -116,6 +80,3 @@ start d = push d One nil
 -- The verdict on one item, and its heads.
 abbrev pub verdict : List ℕ → Verdict
 verdict bs = judge bs 0 (start nesting)
-
-abbrev pub headsOf : List ℕ → ℕ
-headsOf bs = heads bs (start nesting)

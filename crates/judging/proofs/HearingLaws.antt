@@ -16,8 +16,8 @@ use Rattle.item.specs.Verdict.{verdict}
 use Rattle.rows.specs.Rows.{doneOf}
 use Rattle.judging.specs.declared.Judged.{Judged}
 use Rattle.judging.specs.Judging.{View, spoken, oursNow, barred, atDone, unjudged, led, judgedOf, byVerdict, heard}
-use Rattle.judging.specs.Hearing.{Awaited, Spells, Unheard, Hears, refusal, message, HeardExactly}
-use Rattle.judging.specs.Hearing.{no-accept, finished, after-done, our-turn, waiting, closed, bytes-bad, no-message, no-row}
+use Rattle.judging.specs.Besides.Hearing.{Awaited, Spells, Unheard, Hears, refusal, message, HeardExactly}
+use Rattle.judging.specs.Besides.Hearing.{no-accept, finished, after-done, our-turn, waiting, closed, bytes-bad, no-message, no-row}
 use Rattle.judging.proofs.JudgingLaws as judging
 use Rattle.judging.proofs.JudgingLaws.{Judges, judges, judged-so, whole-within}
 

@@ -10,7 +10,7 @@ use lib.Dec.{eqb}
 use lib.ListN.{length, take}
 use lib.Seq.{take-take, length-take-le}
 use borrow.Author.Tests.{eq-eqb, ne-eqb}
-use Rattle.ring.specs.Ring.{around}
+use Rattle.ring.specs.Inside.{around}
 use Rattle.ring.proofs.Around.{around-length, around-take}
 use Rattle.wire.specs.declared.instances.Party.{Party}
 use Rattle.wire.specs.Instances.{modeFrom, initiates, roleOf}
@@ -28,7 +28,7 @@ use Rattle.messages.specs.declared.Answer.{Answer}
 use Rattle.messages.specs.declared.Reading.{Reading}
 use Rattle.messages.specs.declared.Reading.the-variants.{Read, NotArray, UnknownKind, WrongCount, WrongField}
 use Rattle.messages.specs.Reading.{messageOf, numberOf, read, flagOf, wholly}
-use Rattle.messages.specs.Theorem.{Says}
+use Rattle.messages.specs.Besides.Theorem.{Says}
 use Rattle.messages.proofs.Theorem.{reads-forms}
 use Rattle.judging.specs.declared.Judged.{Judged}
 use Rattle.judging.specs.Judging.{holds, ours, unjudged, led, byRow, byReading, judgedOf}

@@ -18,7 +18,8 @@ use Rattle.rows.specs.declared.Protocol.{Protocol}
 use Rattle.rows.specs.declared.Protocol.the-variants.{Handshake}
 use Rattle.rows.specs.declared.Agency.the-variants.{Nobody}
 use Rattle.rows.specs.declared.Next.the-variants.{To}
-use Rattle.rows.specs.Rows.{Row, fits, rowsOf, rowIn, nextOf, doneOf, placeIn}
+use Rattle.rows.specs.Rows.{Row, fits, rowsOf, nextOf, doneOf, placeIn}
+use Rattle.rows.specs.Besides.Rows.{rowIn}
 use Rattle.rows.specs.Spoken.{spoken, speaks}
 use Rattle.rows.proofs.RowLaws.{rows-say}
 use Rattle.connection.specs.declared.Talk.{Talk}

@@ -7,8 +7,8 @@ use native.Mathlib.Omega.{arith}
 use Rattle.base.proofs.Conds.{cond-cases}
 use Rattle.judging.specs.declared.Judged.{Judged}
 use Rattle.judging.specs.Judging.{View, spoken, oursNow, barred, unjudged, judgedOf, said}
-use Rattle.judging.specs.Saying.{OurTurn, Unsaid, Utters, refusal, message, SaidExactly}
-use Rattle.judging.specs.Saying.{closed, no-accept, not-our-turn, no-message, no-row}
+use Rattle.judging.specs.Besides.Saying.{OurTurn, Unsaid, Utters, refusal, message, SaidExactly}
+use Rattle.judging.specs.Besides.Saying.{closed, no-accept, not-our-turn, no-message, no-row}
 use Rattle.judging.proofs.JudgingLaws as judging
 use Rattle.judging.proofs.JudgingLaws.{Judges, judges, judged-so}
 

@@ -77,10 +77,6 @@ barred v = not (eqb (v .instance) handshake) && not (v .accepted)
 abbrev pub atDone : View → Bool
 atDone v = eqb (v .state) (doneOf (spoken v))
 
--- where a message leads in the present state
-abbrev pub leadsTo : View → Message → Next
-leadsTo v m = nextOf (spoken v) (v .state) (m .kind) (flagOf (spoken v) m)
-
 -- ---- judging bytes
 
 -- a refusal or a notice; and a message of n bytes that leads to a state

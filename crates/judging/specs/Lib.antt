@@ -1,3 +1,2 @@
 pub mod Judging
-pub mod Hearing
-pub mod Saying
+pub mod Besides

@@ -18,7 +18,7 @@ ghost use mathlib.Core.Bool.{not, _&&_};
 ghost use Prim.Native.Nat.{_≤_, _<_};
 ghost use lib.Dec.{eqb};
 ghost use lib.ListN.{length};
-ghost use Rattle.ring.specs.Ring.{around};
+ghost use Rattle.ring.specs.Inside.{around};
 ghost use Rattle.wire.specs.Instances.{instances, handshake, initiates, roleOf};
 ghost use Rattle.item.specs.declared.Verdict.the-variants.{Whole};
 ghost use Rattle.item.specs.Verdict.{verdict};

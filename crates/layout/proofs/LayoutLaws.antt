@@ -12,7 +12,8 @@ use borrow.Author.Tests.{leb-true, leb-false, le-leb, lt-leb, eq-eqb, ne-eqb}
 use Rattle.base.proofs.Conds.{by-test}
 use Rattle.base.proofs.ListLaws.{sets-append}
 use Rattle.ring.specs.Ring.{run}
-use Rattle.head.specs.Write.{lengthOf, shortest}
+use Rattle.head.specs.Inside.{lengthOf}
+use Rattle.head.specs.Write.{shortest}
 use Rattle.head.proofs.WriteLaws.{shortest-length}
 use Rattle.elements.specs.declared.Field.{Field}
 use Rattle.elements.specs.declared.Field.the-variants as field

@@ -5,10 +5,11 @@ use mathlib.Core.Bool.{Bool, true, false, cond}
 use mathlib.Core.List.{List, [], _∷_, _++_}
 use lib.ListN.{length, getD}
 use lib.Seq.{sets}
-use Rattle.head.specs.Write.{lengthOf, shortest}
+use Rattle.head.specs.Inside.{lengthOf}
+use Rattle.head.specs.Write.{shortest}
 use Rattle.elements.specs.declared.Field.{Field}
 use Rattle.elements.specs.declared.Field.the-variants as field
-use Rattle.elements.specs.Matching.{array, map}
+use Rattle.elements.specs.Matching.{array, opener}
 use Rattle.parts.specs.Given.{numeric}
 use Rattle.parts.specs.Inside.{runAt, runAfter}
 
@@ -21,24 +22,16 @@ simple = 7
 -- an item has no head of ours
 abbrev pub headless : Field → Bool
 headless field.Item = true
-headless field.Items = false
-headless field.Pairs = false
-headless field.Versions = false
-headless field.Word = false
+headless (field.List e) = false
+headless (field.Below limit) = false
 headless field.Bool = false
-headless field.Version = false
-headless field.Failure = false
 
 -- the major type of its head
 abbrev pub majorOf : Field → ℕ
 majorOf field.Item = 0
-majorOf field.Items = array
-majorOf field.Pairs = array
-majorOf field.Versions = map
-majorOf field.Word = 0
+majorOf (field.List e) = opener e
+majorOf (field.Below limit) = 0
 majorOf field.Bool = simple
-majorOf field.Version = 0
-majorOf field.Failure = 0
 
 -- ---- the bytes
 

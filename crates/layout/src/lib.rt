@@ -3,7 +3,6 @@
 // Each contract says how long they are, or every byte that the buffer then holds: nothing else is written.
 use elements::Field;
 use head::ARRAY;
-use head::MAP;
 use head::SIMPLE;
 use head::UNSIGNED;
 use messages::forms::MOST_FIELDS;
@@ -24,13 +23,9 @@ fn is_headless(f: Field) -> bool
 {
     match f {
         Field::Item => true,
-        Field::Items => false,
-        Field::Pairs => false,
-        Field::Versions => false,
-        Field::Word => false,
+        Field::List(_) => false,
+        Field::Below(_) => false,
         Field::Bool => false,
-        Field::Version => false,
-        Field::Failure => false,
     }
 }
 
@@ -40,13 +35,9 @@ fn major(f: Field) -> u8
 {
     match f {
         Field::Item => UNSIGNED,
-        Field::Items => ARRAY,
-        Field::Pairs => ARRAY,
-        Field::Versions => MAP,
-        Field::Word => UNSIGNED,
+        Field::List(e) => elements::opener_of(e),
+        Field::Below(_) => UNSIGNED,
         Field::Bool => SIMPLE,
-        Field::Version => UNSIGNED,
-        Field::Failure => UNSIGNED,
     }
 }
 

@@ -1,12 +1,12 @@
 // Lists the segments of one direction of a connection, read from standard input to its end: a line for each
 // whole segment, of time, protocol, mode and length, and a last line.
 use libc::STDIN_FILENO;
-use listing::Listing;
+use lister_core::Listing;
 
 fn main() {
     let mut space = io::large_buffer();
     let known = read_all(Listing::begin(), &mut space);
-    lines::print_last(known);
+    lister_lines::print_last(known);
 }
 
 // A proved loop has to end, and nothing says that the input does. So the loop counts its reads down, from a
@@ -19,7 +19,7 @@ fn read_all(l: Listing, space: &mut [u8]) -> Listing {
         if n == 0 {
             return known;
         }
-        known = lines::print_run(known, &space[..n]);
+        known = lister_lines::print_run(known, &space[..n]);
         reads -= 1;
     }
     known

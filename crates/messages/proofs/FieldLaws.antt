@@ -31,7 +31,8 @@ use Rattle.elements.specs.declared.Part.the-variants as part
 use Rattle.messages.specs.declared.Reading.the-variants.{NotArray, UnknownKind, WrongCount, WrongField}
 use Rattle.messages.specs.declared.Message.{Message}
 use Rattle.messages.specs.declared.Answer.{Answer}
-use Rattle.elements.specs.Matching.{ItemAt, ItemsAt, UnsignedAt, Opens, array, inMessage, FieldAt}
+use Rattle.elements.specs.Besides.Matching.{ItemAt, ItemsAt, UnsignedAt, Opens, FieldAt}
+use Rattle.elements.specs.Matching.{array, inMessage}
 use Rattle.messages.specs.Matching.{begun, withNumber, withPlace}
 use Rattle.elements.specs.Reading.{onEnd, unsignedAt, opensAt, itemEnd, partOf}
 use Rattle.messages.specs.Reading.{failed, read, behind, withPart, fieldsOf, counted, numberedOf, messageOf}
@@ -106,8 +107,8 @@ module _ (bs : List ℕ) where
           (record { forward = forward bs (i .inside) (s .inside) r′; inside = s .inside; reads = r′ })
 
   -- a field that is found is an item of the array
-  pub part-item : (f : Field) (p : ℕ) {q : ℕ} {w : Part} {e : End} → p ≤ length bs → w ≡ partOf bs f p → e ≡ behind w → e ≡ At q → ItemAt bs inMessage p q
-  part-item f p {q} {w} h found ends at = of w (subst (Parts bs (λ x r. FieldAt bs f p x r)) (sym found) (part-sound bs f p h)) (sym ends ∙ at)
+  pub part-item : (f : Field) (p : ℕ) {q : ℕ} {w : Part} {e : End} → w ≡ partOf bs f p → e ≡ behind w → e ≡ At q → ItemAt bs inMessage p q
+  part-item f p {q} {w} found ends at = of w (subst (Parts bs (λ x r. FieldAt bs f p x r)) (sym found) (part-sound bs f p)) (sym ends ∙ at)
     where
       of : (w : Part) → Parts bs (λ x r. FieldAt bs f p x r) w → behind w ≡ At q → ItemAt bs inMessage p q
       of (part.Number v r) s e = let g : r ≡ q = cc in subst (λ (n : ℕ). ItemAt bs inMessage p n) g (field-item bs s)

@@ -14,7 +14,6 @@ use borrow.Author.Tests.{eqb-true, eq-eqb}
 use Rattle.base.proofs.Conds.{cond-cases}
 use Rattle.head.specs.Read.{headAt}
 use Rattle.head.specs.declared.read.Head.the-variants as head
-use Rattle.head.proofs.ReadLaws.{definite-within}
 use Rattle.item.specs.declared.Verdict.{Verdict}
 use Rattle.item.specs.declared.Verdict.the-variants.{Whole, Bad, Incomplete}
 use Rattle.item.specs.Grammar.{One, Items, Reads, item, nesting}
@@ -30,12 +29,14 @@ use Rattle.messages.specs.declared.Reading.the-variants.{Read, NotArray,
 use Rattle.messages.specs.declared.Message.{Message}
 use Rattle.messages.specs.declared.Answer.{Answer}
 use Rattle.messages.specs.Forms.{formOf}
-use Rattle.elements.specs.Matching.{Value, number, place, ItemAt, ItemsAt, UnsignedAt, Opens, array, inMessage, FieldAt}
-use Rattle.messages.specs.Matching.{FieldsAt, no-field, a-field, Matches, begun, withNumber, withPlace, saying, told, messageFrom}
+use Rattle.elements.specs.Besides.Matching.{Value, number, place, ItemAt, ItemsAt, UnsignedAt, Opens, FieldAt}
+use Rattle.elements.specs.Matching.{array, inMessage}
+use Rattle.messages.specs.Besides.Matching.{FieldsAt, no-field, a-field, Matches, saying, told, messageFrom}
+use Rattle.messages.specs.Matching.{begun, withNumber, withPlace}
 use Rattle.elements.specs.Matching as matching
 use Rattle.elements.specs.Reading.{onEnd, unsignedAt, opensAt, partOf}
 use Rattle.messages.specs.Reading.{failed, read, behind, withPart, fieldsOf, counted, wholly, numberedOf, messageOf}
-use Rattle.messages.specs.Theorem.{Says, ReadsForms, OneMatch, MessageIsItem}
+use Rattle.messages.specs.Besides.Theorem.{Says, ReadsForms, OneMatch, MessageIsItem}
 use Rattle.elements.proofs.ElementLaws.{number-cases, unsigned-sound, opens-sound, unsigned-found, opens-found, number-item, array-item, item-array, none-at, item-then, Parts, part-sound, got, part-found, field-item}
 
 module _ (bs : List ℕ) where
@@ -63,20 +64,20 @@ module _ (bs : List ℕ) where
   Found fs p m n = (xs : List Value) × (q : ℕ) × FieldsAt bs fs p xs q × (n ≡ told m xs)
 
   field-sound : (f : Field) (fs : List Field) (i p : ℕ) (m n : Message) (w : Part) → Parts bs (λ x q. FieldAt bs f p x q) w
-      → ((q : ℕ) (o : Message) → q ≤ length bs → fieldsOf bs fs (i + 1) q o ≡ read n → Found fs q o n)
+      → ((q : ℕ) (o : Message) → fieldsOf bs fs (i + 1) q o ≡ read n → Found fs q o n)
       → further w fs i m ≡ read n → Found (f ∷ fs) p m n
   unfolding told
   field-sound f fs i p m n (part.Number v q) s go e =
-      let r = go q (withNumber m v) (field-item bs s .inside) e in (number v ∷ r .0, r .1, a-field s (r .2), r .3)
+      let r = go q (withNumber m v) e in (number v ∷ r .0, r .1, a-field s (r .2), r .3)
   field-sound f fs i p m n (part.Place a l q) s go e =
-      let r = go q (withPlace m a l) (field-item bs s .inside) e in (place a l ∷ r .0, r .1, a-field s (r .2), r .3)
+      let r = go q (withPlace m a l) e in (place a l ∷ r .0, r .1, a-field s (r .2), r .3)
   field-sound f fs i p m n part.Wrong s go e = absurd (let z : WrongField i ≡ Read = ap (λ (a : Answer). a .reading) e in let y : _≡_ {A = ℕ} 0 1 = cc in omega arith)
 
-  fields-sound : (fs : List Field) (i p : ℕ) (m n : Message) → p ≤ length bs → fieldsOf bs fs i p m ≡ read n → Found fs p m n
+  fields-sound : (fs : List Field) (i p : ℕ) (m n : Message) → fieldsOf bs fs i p m ≡ read n → Found fs p m n
   unfolding fieldsOf told
-  fields-sound [] i p m n h e = ([], p, no-field, ap (λ (a : Answer). a .message) (sym e))
-  fields-sound (f ∷ fs) i p m n h e =
-      field-sound f fs i p m n (partOf bs f p) (part-sound bs f p h) (λ q o l g. fields-sound fs (i + 1) q o n l g) e
+  fields-sound [] i p m n e = ([], p, no-field, ap (λ (a : Answer). a .message) (sym e))
+  fields-sound (f ∷ fs) i p m n e =
+      field-sound f fs i p m n (partOf bs f p) (part-sound bs f p) (λ q o g. fields-sound fs (i + 1) q o n g) e
 
   -- ---- the message
 
@@ -118,7 +119,7 @@ module _ (bs : List ℕ) where
     counted-sound k kind a b n none f i o u = λ e. absurd (let z : UnknownKind ≡ Read = failing e in let y : _≡_ {A = ℕ} 0 1 = cc in omega arith)
     counted-sound k kind a b n (some fs) f i o u =
         cond-cases (λ (x : Answer). x ≡ read n → Says p bs n) (eqb k (length fs + 1))
-        (λ t e. of (eqb-true k (length fs + 1) t) (fields-sound fs 1 b (begun kind) n (definite-within bs a u .1) e))
+        (λ t e. of (eqb-true k (length fs + 1) t) (fields-sound fs 1 b (begun kind) n e))
         (λ _ e. absurd (let z : WrongCount ≡ Read = failing e in let y : _≡_ {A = ℕ} 0 1 = cc in omega arith))
       where
         of : k ≡ length fs + 1 → Found fs b (begun kind) n → Says p bs n

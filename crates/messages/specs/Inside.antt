@@ -9,10 +9,12 @@ use lib.ListN.{length, getD}
 use Rattle.rows.specs.declared.Protocol.{Protocol}
 use Rattle.rows.specs.Inside.{table}
 use Rattle.elements.specs.declared.Field.{Field}
-use Rattle.elements.specs.declared.Field.the-variants.{Item, Items, Pairs, Versions, Word, Bool, Version, Failure}
+use Rattle.elements.specs.declared.Element.the-variants as element
+use Rattle.elements.specs.declared.Field.the-variants as field
+use Rattle.elements.specs.Matching.{versions, words}
 use Rattle.messages.specs.declared.forms.Listed.{Listed}
 use Rattle.messages.specs.declared.forms.Listed.the-variants.{Row, Unknown}
-use Rattle.messages.specs.Forms.{Form, form, forms, formOf}
+use Rattle.messages.specs.Forms.{Form, form, item, list, pairs, map, w, version, failure, bool, forms, formOf}
 
 -- all forms
 abbrev pub allForms : List Form
@@ -27,19 +29,17 @@ formAt i = getD allForms i (form 0 [])
 
 -- the number of a field in the table, and the field that a number stands for
 abbrev pub markOf : Field → ℕ
-markOf Item = 1
-markOf Items = 2
-markOf Pairs = 3
-markOf Versions = 4
-markOf Word = 5
-markOf Bool = 6
-markOf Version = 7
-markOf Failure = 8
+markOf field.Item = 1
+markOf (field.List element.Item) = 2
+markOf (field.List element.Pair) = 3
+markOf (field.List element.Version) = 4
+markOf (field.Below limit) = cond (eqb limit words) 5 (cond (eqb limit versions) 7 8)
+markOf field.Bool = 6
 
 abbrev pub fieldOf : ℕ → Field
 fieldOf m =
-    cond (eqb m 1) Item
-    (cond (eqb m 2) Items (cond (eqb m 3) Pairs (cond (eqb m 4) Versions (cond (eqb m 5) Word (cond (eqb m 6) Bool (cond (eqb m 7) Version Failure))))))
+    cond (eqb m 1) item
+    (cond (eqb m 2) list (cond (eqb m 3) pairs (cond (eqb m 4) map (cond (eqb m 5) w (cond (eqb m 6) bool (cond (eqb m 7) version failure))))))
 
 -- no form has more fields
 abbrev pub mostFields : ℕ

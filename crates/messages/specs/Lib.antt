@@ -1,5 +1,5 @@
 pub mod Forms
 pub mod Matching
 pub mod Reading
-pub mod Theorem
+pub mod Besides
 pub mod Inside

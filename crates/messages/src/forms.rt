@@ -1,7 +1,11 @@
 // The forms as one table, searched by protocol and kind.
 //
 // The table is that of document 01 and of K1: what is found is the form of this kind, and none is found exactly if the protocol has none.
+use elements::Element;
+use elements::FAILURE_LIMIT;
 use elements::Field;
+use elements::VERSION_LIMIT;
+use elements::WORD_LIMIT;
 use rows::PROTOCOLS;
 use rows::Protocol;
 use rows::number_of;
@@ -184,24 +188,24 @@ fn field_of(mark: u16) -> Field
         return Field::Item;
     }
     if mark == ITEMS {
-        return Field::Items;
+        return Field::List(Element::Item);
     }
     if mark == PAIRS {
-        return Field::Pairs;
+        return Field::List(Element::Pair);
     }
     if mark == VERSIONS {
-        return Field::Versions;
+        return Field::List(Element::Version);
     }
     if mark == WORD {
-        return Field::Word;
+        return Field::Below(WORD_LIMIT);
     }
     if mark == BOOL {
         return Field::Bool;
     }
     if mark == VERSION {
-        return Field::Version;
+        return Field::Below(VERSION_LIMIT);
     }
-    Field::Failure
+    Field::Below(FAILURE_LIMIT)
 }
 
 // Field j of row i.

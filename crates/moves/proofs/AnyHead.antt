@@ -19,9 +19,10 @@ use Rattle.head.specs.declared.Initial.{Initial}
 use Rattle.head.specs.declared.Initial.the-variants.{Short, Long, Indefinite, Simple, Break, Reserved}
 use Rattle.item.specs.declared.Verdict.the-variants.{Bad, Incomplete}
 use Rattle.item.specs.Grammar.{Frame, One, Items, Elements, Pairs, Chunks, Content, Second, Argument, content, indefinite, nesting}
-use Rattle.item.specs.Verdict.{Stack, push, alone}
+use Rattle.item.specs.Verdict.{Stack, push}
+use Rattle.item.specs.Besides.Verdict.{alone}
 use Rattle.moves.specs.declared.Level.{Level}
-use Rattle.moves.specs.Levels.{frameOf, tell, Good}
+use Rattle.moves.specs.Inside.Levels.{frameOf, tell, Good}
 use Rattle.moves.specs.Inside.Frames.{kept, spent, Holds, begins, breakable, roomFor, mayBegin}
 use Rattle.moves.specs.Inside.Moves.{Stays, Downs, Skips, Stops, Leaves, Asked, Doubles}
 use Rattle.moves.proofs.Tell.{tell-none, tell-one, tell-content, tell-string, tell-argument, tell-cut, tell-high, tell-low}

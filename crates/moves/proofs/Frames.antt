@@ -17,10 +17,11 @@ use Rattle.head.specs.declared.Initial.the-variants.{Short, Long, Indefinite, S
 use Rattle.item.specs.declared.Verdict.the-variants.{Bad, Incomplete}
 use Rattle.item.specs.Grammar.{Frame, One, Items, Elements, Pairs, Value, Chunks, Content, Second, Argument, content, within, nest, indefinite, alike}
 use Rattle.item.specs.Grammar.{enter, enterChunk, nesting}
-use Rattle.item.specs.Verdict.{Stack, push, into, orBreak, alone, step, met, tally}
+use Rattle.item.specs.Verdict.{Stack, push, into, orBreak, step, met}
+use Rattle.item.specs.Besides.Verdict.{alone, tally}
 use Rattle.item.proofs.Derivative.{no-break, no-break-chunk}
 use Rattle.item.proofs.Heads.{into-some}
-use Rattle.moves.specs.Levels.{frameOf, tell}
+use Rattle.moves.specs.Inside.Levels.{frameOf, tell}
 use Rattle.moves.specs.Inside.Frames.{kept, spent, Holds, begins, breakable, Wants, roomFor, chunkOf, mayBegin}
 use Rattle.moves.specs.Inside.Moves.{Leaves, Doubles}
 use Rattle.moves.proofs.Tell.{tell-step, tell-bad, tell-end}

@@ -16,8 +16,9 @@ use Rattle.head.specs.declared.Major.{Major}
 use Rattle.item.specs.declared.Verdict.{Verdict}
 use Rattle.item.specs.declared.Verdict.the-variants.{Whole, Bad, Incomplete}
 use Rattle.item.specs.Grammar.{Items, Content, Second, Argument, One, content}
-use Rattle.item.specs.Verdict.{Stack, nil, push, step, met, tally, onward, counting, judge, heads}
-use Rattle.moves.specs.Levels.{tell}
+use Rattle.item.specs.Verdict.{Stack, nil, push, step, met, onward, judge}
+use Rattle.item.specs.Besides.Verdict.{tally, counting, heads}
+use Rattle.moves.specs.Inside.Levels.{tell}
 
 -- the same of the bytes themselves
 abbrev pub say : List ℕ → ℕ → ℕ → Stack → Verdict × ℕ

@@ -13,8 +13,8 @@ ghost use Prim.Native.Nat.{_+_, _-_, _^_, _≤_, _<_};
 ghost use lib.ListN.{length, getD};
 ghost use Rattle.head.specs.Initial.{initial};
 ghost use Rattle.head.specs.declared.Initial.the-variants.{Short, Long, Simple};
-ghost use Rattle.ring.specs.Ring.{around};
-ghost use Rattle.moves.specs.Levels.{frameOf, Good};
+ghost use Rattle.ring.specs.Inside.{around};
+ghost use Rattle.moves.specs.Inside.Levels.{frameOf, Good};
 ghost use Rattle.moves.specs.Inside.Frames.{breakable, roomFor, chunkOf, mayBegin};
 ghost use Rattle.moves.specs.Inside.Moves.{Moves, Leaves, Strings, Follows, Doubles, Answers, Broken, Endless, Opened};
 

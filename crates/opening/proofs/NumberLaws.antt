@@ -17,7 +17,7 @@ use Rattle.range.specs.declared.Range.{Range}
 use Rattle.range.specs.Inside.{Spans}
 use Rattle.range.proofs.RangeLaws.{settings-set, set-settings, ranged, in-range, and-so}
 use Rattle.opening.specs.Openings.{fresh, openOf}
-use Rattle.opening.specs.Numbers.{Opens, OpenNumbers, OpenExactly, Opening}
+use Rattle.opening.specs.Besides.Numbers.{Opens, OpenNumbers, OpenExactly, Opening}
 
 -- ---- the record that settings become
 

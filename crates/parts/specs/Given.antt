@@ -18,10 +18,6 @@ allGiven runs first second = leb runs 2 && ((leb 1 runs || empty first) && (leb 
 -- A field is given by a number, or by a run.
 abbrev pub numeric : Field → Bool
 numeric field.Item = false
-numeric field.Items = false
-numeric field.Pairs = false
-numeric field.Versions = false
-numeric field.Word = true
+numeric (field.List e) = false
+numeric (field.Below limit) = true
 numeric field.Bool = true
-numeric field.Version = true
-numeric field.Failure = true

@@ -7,12 +7,11 @@ use lib.Dec.{eqb, ltb}
 use lib.ListN.{length, getD, set}
 use Rattle.elements.specs.declared.Field.{Field}
 use Rattle.elements.specs.declared.Field.the-variants as field
-use Rattle.elements.specs.Matching.{versions, words, failures, inMessage}
+use Rattle.elements.specs.Matching.{inMessage}
 use Rattle.elements.specs.Reading.{onEnd, itemEnd}
 use Rattle.parts.specs.declared.Argument.{Argument}
 use Rattle.parts.specs.declared.Argument.the-variants.{Is, Wrong}
 use Rattle.parts.specs.declared.Plan.{Plan}
-use Rattle.parts.specs.declared.runs.Element.the-variants as element
 use Rattle.parts.specs.Given.{numeric}
 use Rattle.parts.specs.Counting.{onSome, countOf}
 
@@ -27,20 +26,12 @@ argued Wrong = none
 abbrev pub simpleFalse : ℕ
 simpleFalse = 20
 
--- a number below a limit
-abbrev pub limitedBy : ℕ → ℕ → Option ℕ
-limitedBy limit v = cond (ltb v limit) (some v) none
-
 -- the argument of a field that is given by a number
 abbrev pub numberArgument : Field → ℕ → Option ℕ
 numberArgument field.Item v = none
-numberArgument field.Items v = none
-numberArgument field.Pairs v = none
-numberArgument field.Versions v = none
-numberArgument field.Word v = limitedBy words v
+numberArgument (field.List e) v = none
+numberArgument (field.Below limit) v = cond (ltb v limit) (some v) none
 numberArgument field.Bool v = cond (ltb v 2) (some (simpleFalse + v)) none
-numberArgument field.Version v = limitedBy versions v
-numberArgument field.Failure v = limitedBy failures v
 
 -- an item's run is exactly one item: it has no head, and no argument
 abbrev pub oneOf : List ℕ → Option ℕ
@@ -49,13 +40,9 @@ oneOf run = onEnd none (itemEnd run inMessage 0) (λ q. cond (eqb q (length run)
 -- the argument of a field that is given by a run
 abbrev pub runArgument : Field → List ℕ → Option ℕ
 runArgument field.Item run = oneOf run
-runArgument field.Items run = countOf element.Item run
-runArgument field.Pairs run = countOf element.Pair run
-runArgument field.Versions run = countOf element.Version run
-runArgument field.Word run = none
+runArgument (field.List e) run = countOf e run
+runArgument (field.Below limit) run = none
 runArgument field.Bool run = none
-runArgument field.Version run = none
-runArgument field.Failure run = none
 
 -- ---- all fields
 

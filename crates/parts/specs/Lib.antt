@@ -1,4 +1,4 @@
 pub mod Given
 pub mod Counting
-pub mod Theorem
+pub mod Besides
 pub mod Inside

@@ -4,10 +4,7 @@
 // bool's head says it, a list's or a map's counts its elements. The specs also say that a run is counted exactly as what stands in it.
 mod runs;
 
-use elements::FAILURE_LIMIT;
 use elements::Field;
-use elements::VERSION_LIMIT;
-use elements::WORD_LIMIT;
 use messages::forms::MOST_FIELDS;
 ghost use mathlib.Core.Path.{_≡_};
 ghost use mathlib.Core.Bool.{cond};
@@ -48,13 +45,9 @@ pub fn is_number(f: Field) -> bool
 {
     match f {
         Field::Item => false,
-        Field::Items => false,
-        Field::Pairs => false,
-        Field::Versions => false,
-        Field::Word => true,
+        Field::List(_) => false,
+        Field::Below(_) => true,
         Field::Bool => true,
-        Field::Version => true,
-        Field::Failure => true,
     }
 }
 
@@ -84,13 +77,9 @@ fn of_number(f: Field, v: u64) -> Argument
 {
     match f {
         Field::Item => Argument::Wrong,
-        Field::Items => Argument::Wrong,
-        Field::Pairs => Argument::Wrong,
-        Field::Versions => Argument::Wrong,
-        Field::Word => argument_if(v < WORD_LIMIT, v),
+        Field::List(_) => Argument::Wrong,
+        Field::Below(limit) => argument_if(v < limit, v),
         Field::Bool => bool_argument(v),
-        Field::Version => argument_if(v < VERSION_LIMIT, v),
-        Field::Failure => argument_if(v < FAILURE_LIMIT, v),
     }
 }
 

@@ -3,9 +3,9 @@
 -- Assumes nothing.
 use mathlib.Core.Path.{_≡_, refl, sym, ap, _∙_}
 use mathlib.Core.Bool.{Bool, true, false, cond, not}
-use mathlib.Core.List.{List, [], _∷_, _++_}
+use mathlib.Core.List.{List, _++_}
 use Prim.Native.Nat.{ℕ, _≤_, _<_}
-use borrow.Author.Tests.{lt-ltb, ltb-true}
+use borrow.Author.Tests.{ltb-true}
 use lib.Dec.{eqb, ltb}
 use lib.ListN as lists
 use lib.ListN.{length, getD}
@@ -38,9 +38,9 @@ use Rattle.promises.specs.Trace.{run, trace}
 use Rattle.promises.specs.Calls as calls
 use Rattle.promises.specs.Calls.{Answer, taken, World, step, first}
 use Rattle.promises.specs.Reached.{Reached}
-use Rattle.promises.specs.History.{Past, bytesIn, Act, messageIn, acts, handedFor, receivedIn, Moves, Walks, rests, moves}
-use Rattle.promises.specs.History.{Tells}
-use Rattle.promises.specs.Alone.{stateAfter, anyClosing, seenBy, but, twentyForOne, Alone, Alike}
+use Rattle.promises.specs.History.{Past, bytesIn, Act, messageIn, handedFor, receivedIn, Moves, Walks, rests, moves, Tells}
+use Rattle.promises.specs.Alone.{stateAfter, anyClosing, seenBy, but, twentyForOne, Alone}
+use Rattle.promises.specs.Besides.Alike.{Alike}
 use Rattle.promises.proofs.Reached.{reached-receives, in-range-for-ever}
 use Rattle.promises.proofs.HistoryCalls.{Good, good}
 use Rattle.promises.proofs.History.{history}
@@ -147,7 +147,7 @@ take-seen s past w k t segments left d i buf =
     let l : i < instances (s .party .bundle) = ltb-true i (instances (s .party .bundle)) y in
     let q = divided-once (bytesIn past) left (t .receives .left) segments (t .receives .carried) d (t .receives .divided) in
     let hs : List ℕ = heldOf (w .connection) (w .receive) i in
-    let came : receivedIn (s .party) i segments left ≡ handedFor i past ++ hs = rw (q .0, q .1) (t .receives .received i l) in
+    let came : receivedIn (s .party) i segments left ≡ handedFor i past ++ hs = rw (q .0, q .1) (t .receives .messages i l .split) in
     ap (λ (v : View). answer v buf)
     (same-view i (ap (λ (u : Settings). u .party) (k .settings)) (state-is (t .talks .states i l)) (t .talks .accepted)
     (closed-is (w .connection .gate) ∙ ap anyClosing (t .closes))

@@ -12,17 +12,18 @@ use lib.Seq.{take-at, drop-at, take-append-le}
 use Rattle.base.proofs.Table.{every}
 use Rattle.wire.specs.declared.instances.Party.{Party}
 use Rattle.wire.specs.declared.instances.Side.the-variants.{Dialler}
-use Rattle.wire.specs.Instances.{initiator, Instance, bundles, bundleOf, instances, protocolOf, modeOf, find, otherOf, pairOf}
+use Rattle.wire.specs.Instances.{initiator, Instance, bundles, bundleOf, instances, protocolOf, modeOf, find}
+use Rattle.wire.specs.Besides.Instances.{otherOf, pairOf}
 use Rattle.wire.proofs.InstanceLaws.{of-instances, one-way}
 use Rattle.rows.specs.declared.Protocol.{Protocol}
 use Rattle.rows.specs.Spoken.{spoken, speaks}
 use Rattle.messages.specs.Reading.{messageOf}
-use Rattle.judging.specs.Judging.{leadsTo}
+use Rattle.judging.specs.Besides.Judging.{leadsTo}
 use Rattle.taking.specs.Taking.{seen}
 use Rattle.promises.specs.Fairness.{queue, segments}
 use Rattle.promises.specs.History.{gave, putBy, putFor, handedFor, receivedIn}
 use Rattle.connection.specs.declared.Settings.{Settings}
-use Rattle.promises.specs.Arrival.{End, facing, pastOf, worldOf, holding, Glued, AllThere, Journey}
+use Rattle.promises.specs.Besides.Arrival.{End, facing, pastOf, worldOf, holding, Glued, AllThere, Journey}
 use Rattle.promises.proofs.Reached.{in-range-for-ever}
 use Rattle.promises.proofs.HistoryLaws.{flat-append}
 use Rattle.promises.proofs.History.{history}
@@ -59,7 +60,7 @@ glued a b way j i l =
     let k = came us i l (r .divided) (segments (pastOf a)) way (all-made (a .opened) (a .calls) (a .real)) (j .bytes) in
     let there : receivedIn (otherOf us) (facing a i) (r .carried) (r .left) ≡ handedFor (facing a i) (pastOf b) ++ holding (worldOf b) (facing a i) =
     ap (λ (them : Party). receivedIn them (facing a i) (r .carried) (r .left)) (sym (j .parties))
-    ∙ r .received (facing a i) (rw (j .parties) (pair-within (us .bundle) i l)) in
+    ∙ r .messages (facing a i) (rw (j .parties) (pair-within (us .bundle) i l)) .split in
     record {
       flight = k .flight;
       put = put-so ∙ ap (λ (xs : List ℕ). xs ++ queue (worldOf a) i) (k .sent ∙ ap (λ (xs : List ℕ). xs ++ k .flight) there);
@@ -104,7 +105,7 @@ journey a b way i p bs d lent room =
       asked = d .asked;
       awaited = d .awaited;
       held =
-          sym (take-append-le (length bs) held rest (d .come)) ∙ ap (take (length bs)) (sym same) ∙ take-at bs more (length bs) refl;
+          sym (take-append-le (length bs) held rest (omega (arith, d .come))) ∙ ap (take (length bs)) (sym same) ∙ take-at bs more (length bs) refl;
       next = d .next;
       row =
           ap (λ (q : Protocol). leadsTo (seen (worldOf b .connection) (worldOf b .receive) (pairOf bundle i)) (messageOf q bs .message)) speaks-so ∙ d .row;

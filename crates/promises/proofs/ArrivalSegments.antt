@@ -17,18 +17,19 @@ use Rattle.wire.specs.declared.instances.Party.{Party}
 use Rattle.wire.specs.declared.instances.Route.{Route}
 use Rattle.wire.specs.declared.instances.Route.the-variants.{To}
 use Rattle.wire.specs.Segments.{headerLength, decoded, Carried, Divided, in-header, in-payload, whole}
-use Rattle.wire.specs.Instances.{instances, protocolOf, modeOf, routeOf, otherOf, pairOf}
+use Rattle.wire.specs.Instances.{instances, protocolOf, modeOf, routeOf}
+use Rattle.wire.specs.Besides.Instances.{otherOf, pairOf}
 use Rattle.wire.proofs.InstanceLaws.{one-way}
 use Rattle.connection.specs.declared.Settings.{Settings}
 use Rattle.sending.specs.NextSegment.{nextOf}
-use Rattle.promises.specs.Trace.{event, trace}
+use Rattle.promises.specs.Trace.{All, event, trace}
 use Rattle.promises.specs.Calls as calls
 use Rattle.promises.specs.Calls.{Call, World, step, Real, AllReal, Opened, first}
 use Rattle.promises.specs.Reached.{Reached, waits}
 use Rattle.promises.specs.Fairness.{queue, segmentOf, segments, header, payload, isOf, sentBy}
 use Rattle.promises.specs.History.{isFor, payloadFor, receivedIn, Segmented}
 use Rattle.promises.proofs.FairSent.{of-same, of-other}
-use Rattle.promises.proofs.HistoryLaws.{segments-next}
+use Rattle.promises.proofs.HistoryLaws.{all-append, segments-next}
 use Rattle.promises.proofs.HistoryLayout.{for-append, received-head, received-in}
 use Rattle.promises.proofs.HistoryRuns.{along}
 use Rattle.promises.proofs.HistorySends.{segmented}
@@ -44,14 +45,6 @@ pub record Made (us : Party) (bs : List ℕ) : Type 0 where
   pub long : headerLength ≤ length bs
   pub told : length (payload bs) ≡ header bs .len
 
-abbrev pub AllMade : Party → List (List ℕ) → Type 0
-AllMade us [] = Unit {0}
-AllMade us (bs ∷ ss) = Made us bs × AllMade us ss
-
-made-append : (us : Party) (ss ts : List (List ℕ)) → AllMade us ss → AllMade us ts → AllMade us (ss ++ ts)
-made-append us [] ts m n = n
-made-append us (bs ∷ ss) ts (b, m) n = (b, made-append us ss ts m n)
-
 made-of : (s : Settings) (w : World) (time : ℕ) (bs : List ℕ) → Segmented s w time bs → Made (s .party) bs
 made-of s w time bs k =
     let n : ℕ = min (s .limit) (waits w (k .instance)) in
@@ -66,7 +59,7 @@ made-of s w time bs k =
       told = told ∙ sym (ap (λ (h : Segment). h .len) (k .reads));
     }
 
-made-call : (s : Settings) (w : World) (c : Call) → Real c → Reached s w → AllMade (s .party) (segmentOf (step w c .answer))
+made-call : (s : Settings) (w : World) (c : Call) → Real c → Reached s w → All (Made (s .party)) (segmentOf (step w c .answer))
 unfolding step
 made-call s w (calls.feed xs) real k = tt
 made-call s w (calls.take i buf) real k = tt
@@ -74,15 +67,15 @@ made-call s w (calls.put i xs) real k = tt
 made-call s w (calls.next time buf) real k =
     let r = nextOf (w .connection) (w .send) time buf in
     let bs : List ℕ = take (r .answer .len) (r .buffer) in
-    cond-cases (AllMade (s .party)) (eqb (r .answer .number) 0) (λ t. (made-of s w time bs (segmented s w time buf k real bs (rw t)), tt)) (λ t. tt)
+    cond-cases (All (Made (s .party))) (eqb (r .answer .number) 0) (λ t. (made-of s w time bs (segmented s w time buf k real bs (rw t)), tt)) (λ t. tt)
 made-call s w calls.status real k = tt
 
 pub all-made : {s : Settings} {receive send : List ℕ} → Opened s receive send → (cs : List Call) → AllReal cs
-    → AllMade (s .party) (segments (trace step (first s receive send) cs))
+    → All (Made (s .party)) (segments (trace step (first s receive send) cs))
 unfolding segments flatMap
 all-made {s} opened cs real =
-    along opened (λ past w. AllMade (s .party) (segments past))
-    (λ past w c r k k′ t. rw (segments-next past (event step w c)) (made-append (s .party) (segments past) _ t (made-call s w c r k))) cs real tt
+    along opened (λ past w. All (Made (s .party)) (segments past))
+    (λ past w c r k k′ t. rw (segments-next past (event step w c)) (all-append (Made (s .party)) (segments past) _ t (made-call s w c r k))) cs real tt
 
 -- ---- where they lead
 
@@ -126,7 +119,7 @@ sent-few us i (bs ∷ ss) =
     )
 
 -- with less than a header come, all that was sent is on the way
-none-come : (us : Party) (i : ℕ) (ss : List (List ℕ)) (xs zs : List ℕ) → AllMade us ss → length xs < headerLength → flatten ss ≡ xs ++ zs
+none-come : (us : Party) (i : ℕ) (ss : List (List ℕ)) (xs zs : List ℕ) → All (Made us) ss → length xs < headerLength → flatten ss ≡ xs ++ zs
     → length (sentBy us i ss) ≤ length zs
 unfolding sentBy flatMap flatten
 none-come us i [] xs zs m h e = omega arith
@@ -232,7 +225,7 @@ module _ (us : Party) (i : ℕ) (l : i < instances (us .bundle)) where
         few = k .few;
       }
 
-  pub came : {xs left : List ℕ} {cs : List Carried} → Divided xs cs left → (ss : List (List ℕ)) (way : List ℕ) → AllMade us ss
+  pub came : {xs left : List ℕ} {cs : List Carried} → Divided xs cs left → (ss : List (List ℕ)) (way : List ℕ) → All (Made us) ss
       → flatten ss ≡ xs ++ way → Came us i ss cs left way
   unfolding flatMap flatten
   came (in-header {bs} h) ss way m q =

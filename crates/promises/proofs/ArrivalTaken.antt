@@ -21,31 +21,32 @@ use Rattle.rows.specs.Spoken.{speaks}
 use Rattle.messages.specs.declared.Message.{Message}
 use Rattle.messages.specs.declared.Answer.{Answer}
 use Rattle.elements.specs.declared.Field.{Field}
-use Rattle.elements.specs.Matching.{Value, number, place}
-use Rattle.messages.specs.Matching.{FieldsAt, no-field, a-field, Matches, begun, withNumber, withPlace, told, messageFrom}
+use Rattle.elements.specs.Besides.Matching.{Value, number, place}
+use Rattle.messages.specs.Besides.Matching.{FieldsAt, no-field, a-field, Matches, told, messageFrom}
+use Rattle.messages.specs.Matching.{begun, withNumber, withPlace}
 use Rattle.messages.specs.Reading.{messageOf, read}
-use Rattle.messages.specs.Theorem.{Says}
+use Rattle.messages.specs.Besides.Theorem.{Says}
 use Rattle.messages.proofs.Theorem.{reads-forms, message-is-item}
-use Rattle.build.specs.Theorem.{numbersOf, runsOf}
+use Rattle.build.specs.Besides.Theorem.{numbersOf, runsOf}
 use Rattle.build.specs.Building.{given}
 use Rattle.build.proofs.NumberLaws as build
 use Rattle.build.proofs.Few.{Few, form-few, runs-counted}
 use Rattle.connection.specs.declared.Connection.{Connection}
 use Rattle.connection.specs.Parts.{firstHeld}
-use Rattle.range.specs.Ranges.{InReceive}
+use Rattle.range.specs.Besides.Ranges.{InReceive}
 use Rattle.judging.specs.declared.Judged.{Judged}
-use Rattle.judging.specs.Judging.{leadsTo}
-use Rattle.judging.specs.Hearing as hearing
-use Rattle.judging.specs.Hearing.{Awaited, Spells}
+use Rattle.judging.specs.Besides.Judging.{leadsTo}
+use Rattle.judging.specs.Besides.Hearing as hearing
+use Rattle.judging.specs.Besides.Hearing.{Awaited, Spells}
 use Rattle.judging.proofs.HearingLaws.{heard-exactly}
 use Rattle.taking.specs.Taking as taking
-use Rattle.taking.specs.Numbers.{done}
+use Rattle.taking.specs.Besides.Numbers.{done}
 use Rattle.taking.proofs.TakingLaws.{held-take}
 use Rattle.taking.specs.declared.Taken.{Taken}
 use Rattle.taking.proofs.NumberLaws as taking-laws
 use Rattle.promises.specs.Calls as calls
 use Rattle.promises.specs.Calls.{World, step}
-use Rattle.promises.specs.Arrival.{holding, buildWith, numbersIn, runsAt, runsIn, BuiltIsTaken}
+use Rattle.promises.specs.Besides.Arrival.{holding, buildWith, numbersIn, runsAt, runsIn, BuiltIsTaken}
 
 -- ---- what a message says
 

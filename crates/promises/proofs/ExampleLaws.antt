@@ -12,7 +12,7 @@ use Rattle.wire.specs.Segments.{added, decoded, encoded}
 use Rattle.wire.specs.Instances.{find, bundleOf, instances, routeOf}
 use Rattle.rows.specs.Rows.{placeIn}
 use Rattle.messages.specs.Forms.{formIn}
-use Rattle.elements.specs.Reading.{unsignedAt, opensAt, itemEnd, partOf}
+use Rattle.elements.specs.Reading.{unsignedAt, opensAt, itemEnd, elementAt, walk, partOf}
 use Rattle.messages.specs.Reading.{fieldsOf, numberedOf, messageOf}
 use Rattle.ready.specs.Ready.{wordOf, countOf, lowestFrom, seek}
 use Rattle.rows.specs.Spoken.{speaks}
@@ -20,11 +20,11 @@ use Rattle.range.specs.Ranges.{settingsOk, inRange}
 use Rattle.telling.specs.Statuses.{upTo, statusOf}
 use Rattle.feeding.specs.Feeding as feeding
 use Rattle.sending.specs.NextSegment.{serve, nextOf}
-use Rattle.promises.specs.Examples.{made, Examples}
+use Rattle.promises.specs.Besides.Examples.{made, Examples}
 
 pub examples : Examples
 unfolding allBelow spelled octets baseOf laid stream headAt headBy longAt simpleAt initial nest indefinite enter alike enterChunk step met judge
-    added decoded encoded find bundleOf instances routeOf placeIn formIn unsignedAt opensAt itemEnd partOf fieldsOf numberedOf messageOf
+    added decoded encoded find bundleOf instances routeOf placeIn formIn unsignedAt opensAt itemEnd elementAt walk partOf fieldsOf numberedOf messageOf
     wordOf countOf lowestFrom seek settingsOk speaks inRange upTo statusOf serve nextOf made
     feeding.feedOf feeding.feedOpen feeding.used feeding.fed feeding.step feeding.kept feeding.headed feeding.admission
 examples =

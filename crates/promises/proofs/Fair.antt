@@ -26,7 +26,7 @@ use Rattle.connection.specs.declared.Talk.{Talk}
 use Rattle.connection.specs.Closings.{isOpen}
 use Rattle.range.proofs.RangeLaws.{ranged}
 use Rattle.sending.specs.NextSegment.{chosenOf}
-use Rattle.sending.specs.Numbers.{When, all-empty, done}
+use Rattle.sending.specs.Besides.Numbers.{When, all-empty, done}
 use Rattle.sending.proofs.NumberLaws as sending
 use Rattle.promises.specs.Trace.{run, trace}
 use Rattle.promises.specs.Calls.{Call, World, step, AllReal, first}

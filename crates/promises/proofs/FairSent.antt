@@ -4,9 +4,8 @@ use mathlib.Core.Path.{_≡_, refl, sym, ap, _∙_}
 use mathlib.Core.Bool.{true, false}
 use mathlib.Core.List.{List, [], _∷_, flatMap}
 use mathlib.Core.Logic.{_≢_}
-use Prim.Native.Nat.{ℕ, _+_, _-_, _≤_, _<_}
+use Prim.Native.Nat.{ℕ, _-_, _≤_, _<_}
 use native.Mathlib.Omega.{arith}
-use native.Mathlib.Nat.{sub-zero}
 use lib.Dec.{eqb}
 use lib.ListN.{length, getD, length-append}
 use borrow.Author.Tests.{eq-eqb, eqb-true}
@@ -49,9 +48,10 @@ module _ (us : Party) (i b : ℕ) (bs : List ℕ) (ss : List (List ℕ)) where
         split = refl;
         of = of;
         whole = whole;
+        place = p;
         behind = omega arith;
-        within = omega arith;
-        byte = ap (λ (n : ℕ). getD (payload bs) n 0) (sub-zero p) ∙ e;
+        within = h;
+        byte = e;
       }
 
   pub sent-other : (p : ℕ) → isOf us i bs ≡ false → Sent us i p b ss → Sent us i p b (bs ∷ ss)
@@ -64,16 +64,15 @@ module _ (us : Party) (i b : ℕ) (bs : List ℕ) (ss : List (List ℕ)) where
         split = ap {B = List (List ℕ)} (λ rest. bs ∷ rest) (k .split);
         of = k .of;
         whole = k .whole;
+        place = k .place;
         behind = rw of (k .behind);
-        within = rw of (k .within);
-        byte = rw of (k .byte);
+        within = k .within;
+        byte = k .byte;
       }
 
   pub sent-later : (p : ℕ) → isOf us i bs ≡ true → length (payload bs) ≤ p → Sent us i (p - length (payload bs)) b ss → Sent us i p b (bs ∷ ss)
   unfolding sentBy flatMap
   sent-later p of h k =
-      let n = length (payload bs) in
-      let q = length (sentBy us i (k .front)) in
       record {
         front = bs ∷ k .front;
         segment = k .segment;
@@ -81,10 +80,8 @@ module _ (us : Party) (i b : ℕ) (bs : List ℕ) (ss : List (List ℕ)) where
         split = ap {B = List (List ℕ)} (λ rest. bs ∷ rest) (k .split);
         of = k .of;
         whole = k .whole;
+        place = k .place;
         behind = rw (of, length-append) (omega (arith, k .behind));
-        within = rw (of, length-append) (omega (arith, k .within));
-        byte = rw (of, length-append) (ap (λ (m : ℕ). getD (payload (k .segment)) m 0) (far p n q h) ∙ k .byte);
+        within = k .within;
+        byte = k .byte;
       }
-    where
-      far : (p n q : ℕ) → n ≤ p → p - (n + q) ≡ p - n - q
-      far p n q h = omega arith

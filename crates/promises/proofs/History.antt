@@ -2,7 +2,7 @@
 -- Assumes nothing.
 use mathlib.Core.Path.{_≡_, refl, sym, ap, _∙_, subst}
 use mathlib.Core.List.{List, [], _∷_, _++_}
-use Prim.Native.Nat.{ℕ, zero, suc, _<_}
+use Prim.Native.Nat.{ℕ, zero, suc, _+_, _<_}
 use native.Mathlib.Omega.{arith}
 use lib.ListN.{length, getD}
 use Rattle.wire.specs.Instances.{instances}
@@ -16,7 +16,7 @@ use Rattle.sending.proofs.NumberLaws.{counts, counts-long, counts-at}
 use Rattle.promises.specs.Trace.{Out, event, run, trace}
 use Rattle.promises.specs.Calls.{Call, Answer, told, World, step, Real, AllReal, Opened, first}
 use Rattle.promises.specs.Reached.{Reached}
-use Rattle.promises.specs.History.{Past, bytesIn, Talks, Closes, Tells, Gives, History, Reports, StatusTells}
+use Rattle.promises.specs.History.{Past, bytesIn, handedFor, sentFor, Talks, Closes, Tells, Makes, History, Reports, StatusTells}
 use Rattle.promises.proofs.Reached.{in-range-for-ever}
 use Rattle.promises.proofs.HistoryCalls.{Good, good, tells}
 use Rattle.promises.proofs.HistoryRuns.{along}
@@ -24,7 +24,7 @@ use Rattle.promises.proofs.HistoryTalks.{talks-first, talks-next}
 use Rattle.promises.proofs.HistoryReceives.{Held, held-first, held-after, receives}
 use Rattle.promises.proofs.HistoryCloses.{closes-first, closes-after}
 use Rattle.promises.proofs.HistorySends.{Waits, waits-first, waits-after, sends, segmented}
-use Rattle.promises.proofs.HistoryItems.{hands-out}
+use Rattle.promises.proofs.HistoryItems.{Spelled, spelled-next, spelled-first}
 
 -- all that each call keeps
 record Ties (s : Settings) (past : Past) (w : World) : Type 0 where
@@ -32,6 +32,7 @@ record Ties (s : Settings) (past : Past) (w : World) : Type 0 where
   waits : Waits s past w
   talks : Talks s past w
   closes : Closes s past w
+  spelled : Spelled s past
 
 ties-next : (s : Settings) (past : Past) (w : World) (c : Call) → Real c → Reached s w → Reached s (step w c .world) → Ties s past w
     → Ties s (past ++ (event step w c ∷ [])) (step w c .world)
@@ -41,6 +42,7 @@ ties-next s past w c real k k′ t =
       waits = waits-after s past w c real k (t .waits);
       talks = talks-next s past w c k (t .talks);
       closes = closes-after s past w c k (t .held) (t .closes);
+      spelled = spelled-next s past w c k (t .spelled);
     }
 
 -- ---- status
@@ -67,8 +69,10 @@ reports-of past w k t =
       number = refl;
       held = λ cs left d i l.
           let q = divided-once (bytesIn past) left (t .receives .left) cs (t .receives .carried) d (t .receives .divided) in
-          shown-at n (c .receiving .held) i l ∙ rw (q .0, q .1) (t .receives .held i l);
-      waiting = λ i l. shown-at n (c .sending .waiting) i l ∙ t .sends .waiting i l;
+          rw (q .0, q .1) (t .receives .held i l ∙ ap (λ (m : ℕ). length (handedFor i past) + m) (sym (shown-at n (c .receiving .held) i l)));
+      waiting = λ i l.
+          t .sends .waiting i l
+          ∙ ap (λ (m : ℕ). length (sentFor (c .settings .party) i past) + m) (sym (shown-at n (c .sending .waiting) i l));
       many = (shown-long n (c .receiving .held) ∙ k .shaped .held, shown-long n (c .sending .waiting) ∙ k .shaped .waiting);
       above = λ i l. (shown-above n (c .receiving .held) i l, shown-above n (c .sending .waiting) i l);
       bits = λ i l. bit-by-bit ws i (rw many l) ∙ ap bitOf (shown i l);
@@ -95,27 +99,23 @@ module _ (s : Settings) (receive send : List ℕ) (opened : Opened s receive sen
   ties : Ties s past w
   ties =
       along opened (Ties s) (ties-next s) cs real
-      (record { held = held-first opened; waits = waits-first opened; talks = talks-first opened; closes = closes-first opened })
+      (record { held = held-first opened; waits = waits-first opened; talks = talks-first opened; closes = closes-first opened; spelled = spelled-first s })
 
   told-so : Tells s past w
   told-so =
       record {
-        receives = receives s past w reached (ties .held);
+        receives = receives s past w reached (ties .held) (ties .spelled);
         sends = sends s past w reached (ties .waits);
         talks = ties .talks;
         closes = ties .closes;
       }
 
-  given : Gives s w
-  given =
-      record {
-        hands = hands-out w (good reached);
-        makes = λ time buf bs r. segmented s w time buf reached r bs;
-      }
+  made : Makes s w
+  made time buf bs r = segmented s w time buf reached r bs
 
 -- T11
 pub history : History
-history s receive send opened cs real = (told-so s receive send opened cs real, given s receive send opened cs real)
+history s receive send opened cs real = (told-so s receive send opened cs real, made s receive send opened cs real)
 
 -- T13
 pub status-tells : StatusTells

@@ -11,7 +11,7 @@ use Rattle.putting.specs.Putting as putting
 use Rattle.sending.specs.NextSegment as sending
 use Rattle.promises.specs.Trace.{Out}
 use Rattle.promises.specs.Reached.{Reached}
-use Rattle.promises.specs.Calls.{status, Answer, fed, taken, queued, made, told, World, step}
+use Rattle.promises.specs.Calls.{status, Answer, fed, taken, queued, made, told, World, world, step}
 use Rattle.promises.proofs.Ways.{Takes, Puts, Nexts, take-way, put-way, next-way}
 use Rattle.promises.proofs.ReachedFeed.{Feeds, feed-way}
 use Rattle.promises.proofs.Reached.{reached-receives, reached-sends}
@@ -26,32 +26,21 @@ good {w = w} r = subst (λ (u : Settings). Reached u w) (sym (r .settings)) r
 -- ---- what each call leaves
 
 abbrev pub afterFeed : World → feeding.Told → Out World Answer
-afterFeed w r =
-    record {
-      world = record { connection = r .answer .connection; receive = r .store; send = w .send };
-      answer = fed (r .answer .number) (r .answer .used);
-    }
+afterFeed w r = record { world = world (r .answer .connection) (r .store) (w .send); answer = fed (r .answer .number) (r .answer .used) }
 
 abbrev pub afterTake : World → taking.Told → Out World Answer
 afterTake w r =
     record {
-      world = record { connection = r .answer .connection; receive = w .receive; send = w .send };
+      world = world (r .answer .connection) (w .receive) (w .send);
       answer = taken (r .answer .number) (r .answer .len) (r .answer .message) (r .buffer);
     }
 
 abbrev pub afterPut : World → putting.Told → Out World Answer
-afterPut w r =
-    record {
-      world = record { connection = r .answer .connection; receive = w .receive; send = r .store };
-      answer = queued (r .answer .number);
-    }
+afterPut w r = record { world = world (r .answer .connection) (w .receive) (r .store); answer = queued (r .answer .number) }
 
 abbrev pub afterNext : World → sending.Told → Out World Answer
 afterNext w r =
-    record {
-      world = record { connection = r .answer .connection; receive = w .receive; send = w .send };
-      answer = made (r .answer .number) (r .answer .len) (r .buffer);
-    }
+    record { world = world (r .answer .connection) (w .receive) (w .send); answer = made (r .answer .number) (r .answer .len) (r .buffer) }
 
 module _ (w : World) (g : Good w) where
   pub feeds : (xs : List ℕ) → Feeds (w .connection) (w .receive) xs (feeding.feedOf (w .connection) (w .receive) xs)

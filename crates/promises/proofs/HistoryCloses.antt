@@ -29,7 +29,7 @@ use Rattle.range.proofs.RangeLaws.{ranged}
 use Rattle.connection.proofs.ClosingLaws.{closed-or, open-or}
 use Rattle.feeding.specs.Feeding as feeding
 use Rattle.feeding.specs.Feeding.{Reception, used, left, given}
-use Rattle.feeding.specs.Numbers.{Eighth}
+use Rattle.feeding.specs.Besides.Numbers.{Eighth}
 use Rattle.feeding.proofs.Keeping.{Kept, kept-given}
 use Rattle.feeding.proofs.Faults.{Cause, unknown, wrong, overflow, cause, Refuses, fault-found, fault-leaves, used-all}
 use Rattle.taking.specs.Taking as taking

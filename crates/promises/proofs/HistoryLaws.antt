@@ -1,20 +1,20 @@
 -- What one event more adds to what a history tells: all is gathered event by event, so what the event tells stands behind the rest.
 -- Assumes nothing.
-use mathlib.Core.Path.{_≡_, refl, ap}
-use mathlib.Core.List.{List, [], _∷_, _++_, append-nil, append-assoc, flatMap}
+use mathlib.Core.Path.{_≡_, refl, ap, _∙_}
+use mathlib.Core.List.{List, [], _∷_, _++_, append-nil, append-assoc, flatMap, flatten}
 use mathlib.Core.Bool.{Bool, true, false, cond, _&&_}
 use mathlib.Core.Logic.{_≢_}
 use Prim.Native.Nat.{ℕ, _+_, _≤_}
 use native.Mathlib.Omega.{arith}
 use borrow.Author.Tests.{ne-eqb}
 use lib.Dec.{eqb}
-use lib.ListN.{length, take, drop}
+use lib.ListN.{length, take, drop, length-append}
 use lib.Seq.{sets, sets-eq, take-at}
 use Rattle.wire.specs.declared.instances.Party.{Party}
-use Rattle.promises.specs.Trace.{Event}
+use Rattle.promises.specs.Trace.{All, Event}
 use Rattle.promises.specs.Calls.{Call, Answer}
 use Rattle.promises.specs.Fairness.{segmentOf, segments, payload, isOf, sentBy}
-use Rattle.promises.specs.History.{Past, usedBy, bytesIn, Act, actsBy, acts, putBy, putFor, handedBy, handedFor, sentFor}
+use Rattle.promises.specs.History.{Past, usedBy, bytesIn, Act, actsBy, acts, putBy, putFor, handedBy, handed, handedFor, sentFor}
 
 pub flat-append : {A B : Type 0} (f : A → List B) (xs ys : List A) → flatMap f (xs ++ ys) ≡ flatMap f xs ++ flatMap f ys
 unfolding flatMap
@@ -28,6 +28,20 @@ flat-one f x = append-nil (f x)
 pub flat-next : {A B : Type 0} (f : A → List B) (xs : List A) (x : A) → flatMap f (xs ++ (x ∷ [])) ≡ flatMap f xs ++ f x
 flat-next f xs x = rw (flat-append f xs (x ∷ []), flat-one f x)
 
+flatten-append : {A : Type 0} (xs ys : List (List A)) → flatten (xs ++ ys) ≡ flatten xs ++ flatten ys
+unfolding flatten
+flatten-append [] ys = refl
+flatten-append (x ∷ xs) ys = rw (flatten-append xs ys, append-assoc)
+
+-- what holds of each of two lists holds of each of both
+pub all-append : {A : Type 0} (P : A → Type 0) (xs ys : List A) → All P xs → All P ys → All P (xs ++ ys)
+all-append P [] ys m n = n
+all-append P (x ∷ xs) ys (h, m) n = (h, all-append P xs ys m n)
+
+-- how many there are, of which the first are gone
+pub counted : {all : List ℕ} (gone rest : List ℕ) {n : ℕ} → all ≡ gone ++ rest → length rest ≡ n → length all ≡ length gone + n
+counted gone rest e q = ap length e ∙ length-append gone rest ∙ ap (λ (m : ℕ). length gone + m) q
+
 -- ---- one event
 
 -- a call that did not answer 0 is no act; one that did is one of its instance
@@ -40,7 +54,7 @@ an-act true a = refl
 an-act false a = refl
 
 -- what such an act adds to what is gathered by f: nothing; what it has; nothing, if f sees nothing in it
-module _ (f : Act → List ℕ) where
+module _ {B : Type 0} (f : Act → List B) where
   pub no-act-adds : (mine : Bool) (n : ℕ) (a : Act) → n ≢ 0 → flatMap f (cond (mine && eqb n 0) (a ∷ []) []) ≡ []
   unfolding flatMap
   no-act-adds mine n a z = ap (flatMap f) (no-act mine n a z)
@@ -87,6 +101,20 @@ module _ (past : Past) (e : Event Call Answer) where
     unfolding putFor
     put-next = rw (acts-next, flat-append putBy (acts i past) (actsBy i (e .call) (e .answer)))
 
-    pub handed-next : handedFor i (past ++ (e ∷ [])) ≡ handedFor i past ++ flatMap handedBy (actsBy i (e .call) (e .answer))
-    unfolding handedFor
-    handed-next = rw (acts-next, flat-append handedBy (acts i past) (actsBy i (e .call) (e .answer)))
+    handed-next : handedFor i (past ++ (e ∷ [])) ≡ handedFor i past ++ flatten (flatMap handedBy (actsBy i (e .call) (e .answer)))
+    unfolding handedFor handed
+    handed-next =
+        rw (acts-next, flat-append handedBy (acts i past) (actsBy i (e .call) (e .answer)))
+        (flatten-append (flatMap handedBy (acts i past)) (flatMap handedBy (actsBy i (e .call) (e .answer))))
+
+    -- with one message more, or none
+    pub handed-more : (mine : Bool) (xs : List ℕ) → flatMap handedBy (actsBy i (e .call) (e .answer)) ≡ cond mine (xs ∷ []) []
+        → handedFor i (past ++ (e ∷ [])) ≡ handedFor i past ++ cond mine xs []
+    handed-more mine xs q = handed-next ∙ ap (λ (r : List ℕ). handedFor i past ++ r) (ap flatten q ∙ one mine)
+      where
+        one : (mine : Bool) → flatten (cond mine (xs ∷ []) []) ≡ cond mine xs []
+        one true = unfold flatten in append-nil xs
+        one false = unfold flatten in refl
+
+    pub handed-still : flatMap handedBy (actsBy i (e .call) (e .answer)) ≡ [] → handedFor i (past ++ (e ∷ [])) ≡ handedFor i past
+    handed-still q = handed-more false [] q ∙ append-nil (handedFor i past)

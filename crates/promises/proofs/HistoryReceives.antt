@@ -2,7 +2,7 @@
 -- Assumes nothing.
 use mathlib.Core.Path.{_≡_, refl, sym, ap, _∙_, subst}
 use mathlib.Core.Bool.{true, true≢false, cond, _&&_}
-use mathlib.Core.List.{List, [], _∷_, _++_, append-nil, append-assoc, flatMap}
+use mathlib.Core.List.{List, [], _∷_, _++_, append-nil, append-assoc, flatMap, flatten}
 use Prim.Native.Nat.{ℕ, _%_, _<_}
 use native.Mathlib.Omega.{arith}
 use native.Mathlib.Nat.{zero-mod}
@@ -12,11 +12,12 @@ use lib.ListN.{length, getD, length-set, getD-replicate}
 use lib.Seq.{sets}
 use Rattle.ring.specs.Ring.{baseOf, stream}
 use Rattle.ring.proofs.Stores.{stream-length}
-use Rattle.ring.proofs.Streams.{stream-count, stream-place, queue-freed, starts-freed}
+use Rattle.ring.proofs.Streams.{stream-place, queue-freed, starts-freed}
 use Rattle.wire.specs.declared.instances.Party.{Party}
 use Rattle.wire.specs.Segments.{decoded, in-header}
 use Rattle.wire.specs.Instances.{instances, most}
 use Rattle.wire.proofs.InstanceLaws.{at-most}
+use Rattle.rows.specs.Spoken.{speaks}
 use Rattle.connection.specs.declared.Settings.{Settings}
 use Rattle.connection.specs.declared.Receiving.{Receiving}
 use Rattle.connection.specs.declared.Closing.{Closing}
@@ -30,19 +31,20 @@ use Rattle.range.proofs.RangeLaws.{ranged}
 use Rattle.feeding.specs.Feeding as feeding
 use Rattle.feeding.specs.Feeding.{Reception, given, fed, used}
 use Rattle.feeding.proofs.Keeping.{kept-given, kept-fed}
-use Rattle.connection.specs.Parts.{firstHeld}
+use Rattle.connection.specs.Parts.{firstHeld, heldOf}
 use Rattle.taking.specs.Taking as taking
 use Rattle.putting.specs.Putting as putting
 use Rattle.sending.specs.NextSegment as sending
 use Rattle.promises.specs.Trace.{Out, Event, event}
 use Rattle.promises.specs.Calls.{Call, feed, take, put, next, status, Answer, told, World, step, Opened, first}
 use Rattle.promises.specs.Reached.{Reached}
-use Rattle.promises.specs.History.{Past, usedBy, bytesIn, gave, got, actsBy, acts, handedBy, handedFor, receivedIn, Receives}
+use Rattle.promises.specs.History.{Past, usedBy, bytesIn, gave, got, actsBy, acts, handedBy, handed, handedFor, receivedIn, Receives}
 use Rattle.promises.proofs.Ways.{Takes, refuses, faults, hands, Puts, queues, Nexts, serves}
 use Rattle.promises.proofs.ReachedFeed.{Feeds, shut, bytes}
 use Rattle.promises.proofs.Reached.{opens-fresh}
 use Rattle.promises.proofs.HistoryCalls.{Good, good, feeds, takes, puts, makes, afterFeed, afterTake, afterPut, afterNext}
-use Rattle.promises.proofs.HistoryLaws.{no-act-adds, act-adds, act-unseen, front, bytes-next, handed-next}
+use Rattle.promises.proofs.HistoryLaws.{no-act-adds, act-adds, act-unseen, front, counted, bytes-next, handed-more, handed-still}
+use Rattle.promises.proofs.HistoryItems.{Spelled, messages}
 use Rattle.promises.proofs.HistoryLayout.{none-for}
 use Rattle.promises.proofs.HistoryBytes.{heldIn, Reading, in-head, in-pay, Tied, tied-fed}
 
@@ -99,7 +101,7 @@ module _ (w : World) (g : Good w) (past : Past) (t : Held (w .connection .settin
   held-same a o none nothing e f open′ =
       let ev : Event Call Answer = record { call = a; answer = o .answer } in
       let same : (i : ℕ) → handedFor i (with a (o .answer)) ≡ handedFor i past =
-      λ i. handed-next past ev i ∙ rw (nothing i, append-nil) in
+      λ i. handed-still past ev i (nothing i) in
       record {
         tied =
             tied-to (given (o .world .connection) (o .world .receive)) (t .tied) (bytes-next past ev ∙ rw (none, append-nil))
@@ -116,7 +118,7 @@ module _ (w : World) (g : Good w) (past : Past) (t : Held (w .connection .settin
   held-feed xs {x} (bytes y) =
       let ev : Event Call Answer = record { call = feed xs; answer = (afterFeed w x) .answer } in
       let same : (i : ℕ) → handedFor i past ≡ handedFor i (with (feed xs) ((afterFeed w x) .answer)) =
-      λ i. sym (handed-next past ev i ∙ append-nil (handedFor i past)) in
+      λ i. sym (handed-still past ev i refl) in
       let st : Reception = given c (w .receive) in
       let n : ℕ = used (s .party) (s .receive) st xs in
       let q : Tied (s .party) (s .receive) (λ i. handedFor i past) (bytesIn past ++ lists.take n xs) (fed (s .party) (s .receive) st xs) =
@@ -139,7 +141,7 @@ module _ (w : World) (g : Good w) (past : Past) (t : Held (w .connection .settin
       let long : length xs ≡ n = stream-length _ _ _ _ n in
       let at-front : lists.take n (sets buf 0 xs) ≡ xs = front buf xs n long b in
       let now : (i : ℕ) → handedFor i (with (take j buf) ((afterTake w x) .answer)) ≡ handedFor i past ++ cond (eqb j i) xs [] =
-      λ i. handed-next past ev i ∙ ap (λ (r : List ℕ). handedFor i past ++ r) (rw at-front (act-adds handedBy (eqb j i) (got xs))) in
+      λ i. handed-more past ev i (eqb j i) xs (act-adds handedBy (eqb j i) (got n m (sets buf 0 xs)) ∙ ap (λ (r : List ℕ). cond (eqb j i) (r ∷ []) []) at-front) in
       let held = c .receiving .held in
       let start = c .receiving .starts in
       let in-starts : j < length start = omega (arith, g .shaped .receive-starts, at-most (s .party .bundle)) in
@@ -180,7 +182,7 @@ held-after s past w a k =
     (λ t. held-call w (good k) past t a)
 
 pub held-first : {s : Settings} {receive send : List ℕ} → Opened s receive send → Held s [] (first s receive send)
-unfolding bytesIn handedFor acts flatMap receivedIn stream
+unfolding bytesIn handedFor handed acts flatMap flatten receivedIn stream
 held-first {s} {receive} {send} o =
     rw (opens-fresh o)
     (record {
@@ -198,7 +200,8 @@ held-first {s} {receive} {send} o =
 
 -- ---- T11 (a) and (d)
 
-module _ (past : Past) (w : World) (t : Held (w .connection .settings) past w) where
+module _ (past : Past) (w : World) (t : Held (w .connection .settings) past w)
+    (spelled : Spelled (w .connection .settings) past) where
   abbrev caps : List ℕ
   caps = w .connection .settings .receive
 
@@ -210,15 +213,15 @@ module _ (past : Past) (w : World) (t : Held (w .connection .settings) past w) w
         carried = t .tied .carried;
         left = t .tied .left;
         divided = t .tied .divided;
-        received = t .tied .received;
-        held = λ i l.
-            stream-count (w .receive) (baseOf caps i) (getD caps i 0) (getD (r .starts) i 0) (getD (r .held) i 0) (came i) (handedFor i past)
+        messages = λ i l.
+            messages (speaks (w .connection .settings .party .bundle) i) past i (came i) (heldOf (w .connection) (w .receive) i) (spelled i)
             (t .tied .received i l);
+        held = λ i l. counted (handedFor i past) (heldOf (w .connection) (w .receive) i) (t .tied .received i l) (stream-length (w .receive) _ _ _ (getD (r .held) i 0));
         starts = t .starts;
         places = λ i n l.
             stream-place (w .receive) (baseOf caps i) (getD caps i 0) (getD (r .starts) i 0) (getD (r .held) i 0) (came i) (handedFor i past)
             (t .tied .received i l) (t .starts i l) n;
       }
 
-pub receives : (s : Settings) (past : Past) (w : World) → Reached s w → Held s past w → Receives s past w
-receives s past w k = subst (λ (u : Settings). Held u past w → Receives u past w) (k .settings) (receives-of past w)
+pub receives : (s : Settings) (past : Past) (w : World) → Reached s w → Held s past w → Spelled s past → Receives s past w
+receives s past w k = subst (λ (u : Settings). Held u past w → Spelled u past → Receives u past w) (k .settings) (receives-of past w)

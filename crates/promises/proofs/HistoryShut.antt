@@ -85,11 +85,15 @@ no-segment : (w : World) (j : ℕ) (buf : List ℕ) → segmentOf (step w (take 
 unfolding step
 no-segment w j buf = refl
 
+no-put : (w : World) (j : ℕ) (buf : List ℕ) (i : ℕ) → flatMap putBy (actsBy i (take j buf) (step w (take j buf) .answer)) ≡ []
+unfolding step
+no-put w j buf i = act-unseen putBy (eqb j i && _) (got _ _ _) refl
+
 idle : (w : World) (c : Call) → Good w → isOpen (w .connection .gate) ≡ false → Idle c (step w c .answer)
 unfolding flatMap
 idle w (feed xs) g o =
     rw (shut-feeds w g o xs) (record { comes = refl; put = λ i. refl; sent = refl })
-idle w (take j buf) g o = record { comes = refl; put = λ i. act-unseen putBy (eqb j i && _) (got _) refl; sent = no-segment w j buf }
+idle w (take j buf) g o = record { comes = refl; put = no-put w j buf; sent = no-segment w j buf }
 idle w (put j xs) g o =
     rw (shut-puts w g o j xs)
     (record {

@@ -79,15 +79,15 @@ module _ (w : World) (k : Reached (w .connection .settings) w) where
       let xs : List ℕ = firstHeld (w .connection) (w .receive) j n in
       let long : length xs ≡ n = stream-length _ _ _ _ n in
       let at-front : lists.take n (sets buf 0 xs) ≡ xs = front buf xs n long b in
-      acted j (got xs) to h
+      acted j (got n m (sets buf 0 xs)) to h
       (record {
         message = m;
-        reads = r;
+        reads = rw at-front r;
         agency =
             their-turn (s .party) j (getD (w .connection .talk .states) j 0) (m .kind) (flagOf (speaks (s .party .bundle) j) m) to e q;
         row = q;
       })
-      refl (λ i. rw at-front (an-act (eqb j i) (got xs)))
+      refl (λ i. an-act (eqb j i) (got n m (sets buf 0 xs)))
 
   talked-put : (j : ℕ) (xs : List ℕ) {x : putting.Told} → Puts (w .connection) (w .send) j xs x → Talked s w (put j xs) (afterPut w x)
   talked-put j xs (refuses n z y) = quiet refl (λ i. no-act (eqb j i) n (gave xs) z)

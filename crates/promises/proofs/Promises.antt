@@ -1,4 +1,4 @@
--- Every promise is kept: each is proved in a file of its own.
+-- Every promise is kept, and what holds besides: each is proved in a file of its own.
 -- Assumes nothing.
 use Rattle.opening.proofs.Once as opening
 use Rattle.telling.proofs.Once as telling
@@ -8,15 +8,16 @@ use Rattle.build.proofs.Once as build
 use Rattle.putting.proofs.Once as putting
 use Rattle.sending.proofs.Once as sending
 use Rattle.promises.specs.Promises.{Promises}
+use Rattle.promises.specs.Besides.Further.{Further}
 use Rattle.promises.proofs.ExampleLaws as examples
+use Rattle.promises.proofs.Tied.{tied}
 use Rattle.promises.proofs.Reached.{in-range-for-ever, never-23}
 use Rattle.promises.proofs.Fair.{fair}
 use Rattle.promises.proofs.History.{history, status-tells}
-use Rattle.promises.proofs.HistoryItems.{split-once}
 use Rattle.promises.proofs.HistoryShut.{after-fault}
 use Rattle.promises.proofs.Alone.{alone, alike}
 use Rattle.promises.proofs.ArrivalTaken.{built-is-taken}
-use Rattle.promises.proofs.ArrivalMet.{opened, some-due}
+use Rattle.promises.proofs.AllMet.{all-met}
 use Rattle.promises.proofs.Arrival.{glued, all-there, journey}
 
 pub promises : Promises
@@ -32,20 +33,24 @@ promises =
             next-segment = sending.once;
             status = telling.once;
           };
-      opened = opened;
+      tied = tied;
+      in-range = in-range-for-ever;
+      never-23 = never-23;
+      history = history;
+      fair = fair;
+      status-tells = status-tells;
+      alone = alone;
+      after-fault = after-fault;
+    }
+
+pub further : Further
+further =
+    record {
+      all-met = all-met;
       glued = glued;
       all-there = all-there;
       built-is-taken = built-is-taken;
       journey = journey;
-      some-due = some-due;
-      in-range = in-range-for-ever;
-      never-23 = never-23;
-      history = history;
-      split-once = split-once;
-      fair = fair;
-      status-tells = status-tells;
-      alone = alone;
       alike = alike;
-      after-fault = after-fault;
       examples = examples.examples;
     }

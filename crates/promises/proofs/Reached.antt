@@ -28,7 +28,8 @@ use Rattle.telling.proofs.NumberLaws.{status-exactly}
 use Rattle.judging.specs.Judging.{ours}
 use Rattle.judging.proofs.Moving.{first-speaks}
 use Rattle.feeding.specs.Feeding as feeding
-use Rattle.feeding.specs.Numbers.{Spelt, When, out-of-range}
+use Rattle.feeding.specs.Feeding.{Spelt}
+use Rattle.feeding.specs.Besides.Numbers.{When, out-of-range}
 use Rattle.feeding.proofs.Keeping.{spelt-empty}
 use Rattle.feeding.proofs.NumberLaws as feeding-laws
 use Rattle.taking.specs.Taking as taking

@@ -13,9 +13,10 @@ use Rattle.wire.specs.declared.instances.Side.{Side}
 use Rattle.wire.specs.declared.instances.Party.{Party}
 use Rattle.wire.specs.declared.instances.Side.the-variants.{Dialler, Accepter}
 use Rattle.rows.specs.declared.Protocol.the-variants.{Handshake}
-use Rattle.wire.specs.Instances.{Role, initiator, responder, ofSide, sided, Instance, bundles, known, instances, roleOf, initiates}
+use Rattle.wire.specs.Instances.{Role, initiator, responder, ofSide, sided, Instance, bundles, known, roleOf, initiates}
 use Rattle.wire.proofs.InstanceLaws.{of-instances, at-least}
-use Rattle.rows.specs.Rows.{placeIn, agencyIn, agencyOf, fits, rowIn, rowsOf}
+use Rattle.rows.specs.Rows.{placeIn, agencyIn, agencyOf, fits, rowsOf}
+use Rattle.rows.specs.Besides.Rows.{rowIn}
 use Rattle.rows.proofs.RowLaws.{rows-say}
 use Rattle.judging.specs.Judging.{holds, ours}
 use Rattle.judging.proofs.Moving.{first-speaks}

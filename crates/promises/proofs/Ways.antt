@@ -19,7 +19,6 @@ use Rattle.rows.specs.Spoken.{speaks}
 use Rattle.messages.specs.declared.Message.{Message}
 use Rattle.messages.specs.Reading.{messageOf, read, flagOf}
 use Rattle.messages.proofs.Theorem.{reads-forms}
-use Rattle.ready.specs.Ready.{chosen}
 use Rattle.ready.specs.declared.Choice.the-variants.{Instance}
 use Rattle.connection.specs.declared.Connection.{Connection}
 use Rattle.connection.specs.declared.Closing.the-variants.{Of}

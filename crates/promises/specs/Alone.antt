@@ -60,20 +60,3 @@ pub record Alone : Type 0 where
       (segments : List Carried) (left : List ℕ) → Divided (bytesIn (trace step w cs)) segments left
       → (i : ℕ) (buf : List ℕ) → step (run step w cs) (take i buf) .answer ≡ answer (seenBy (s .party) (trace step w cs) segments left i) buf
   pub closes : (v : View) (buf : List ℕ) → answer (but v true) buf ≡ twentyForOne (answer (but v false) buf)
-
--- So two connections, whatever their settings and whatever else was called: where a take may see the same, it answers and writes the same; and where
--- only the second is closed, the same but 20 for 1.
-abbrev pub Alike : Type 0
-Alike =
-    (s s′ : Settings) (receive send receive′ send′ : List ℕ) → Opened s receive send → Opened s′ receive′ send′
-    → (cs cs′ : List Call) → AllReal cs → AllReal cs′
-    → let w = first s receive send in
-    let w′ = first s′ receive′ send′ in
-    (segments segments′ : List Carried) (left left′ : List ℕ)
-    → Divided (bytesIn (trace step w cs)) segments left → Divided (bytesIn (trace step w′ cs′)) segments′ left′
-    → (i : ℕ) (buf : List ℕ)
-    → let v = seenBy (s .party) (trace step w cs) segments left i in
-    let v′ = seenBy (s′ .party) (trace step w′ cs′) segments′ left′ i in
-    let a = step (run step w cs) (take i buf) .answer in
-    let a′ = step (run step w′ cs′) (take i buf) .answer in
-    (v ≡ v′ → a ≡ a′) × (v .closed ≡ false → v′ ≡ but v true → a′ ≡ twentyForOne a)

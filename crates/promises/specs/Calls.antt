@@ -1,11 +1,10 @@
 -- Calls on one connection, from open on: the caller hands record and stores back untouched.
 use Prim.Native.Nat.{ℕ, _<_, _^_}
 use mathlib.Core.Path.{_≡_}
-use mathlib.Core.Bool.{true}
-use mathlib.Core.List.{List, [], _∷_}
+use mathlib.Core.List.{List}
 use lib.ListN.{length}
 use Rattle.base.specs.Numbers.{Bytes}
-use Rattle.wire.specs.Instances.{known, most}
+use Rattle.wire.specs.Instances.{most}
 use Rattle.messages.specs.declared.Message.{Message}
 use Rattle.connection.specs.declared.Settings.{Settings}
 use Rattle.connection.specs.declared.Connection.{Connection}
@@ -16,7 +15,7 @@ use Rattle.feeding.specs.Feeding.{feedOf}
 use Rattle.taking.specs.Taking.{takeOf}
 use Rattle.putting.specs.Putting.{putOf}
 use Rattle.sending.specs.NextSegment.{nextOf}
-use Rattle.promises.specs.Trace.{Out}
+use Rattle.promises.specs.Trace.{All, Out}
 
 -- A call, with what the caller lends or gives: bytes; an instance and a buffer; an instance and a message; a time and a buffer. Build has neither
 -- record nor store, and so no part in what follows.
@@ -41,32 +40,26 @@ pub record World : Type 0 where
   pub receive : List ℕ
   pub send : List ℕ
 
--- One call: by the same definitions that the operations' contracts equal.
+abbrev pub world : Connection → List ℕ → List ℕ → World
+world c receive send = record { connection = c; receive = receive; send = send }
+
+-- One call, by the definitions that the operations' contracts equal (`Contracts.Tied`).
 unfoldable pub step : World → Call → Out World Answer
 step w (feed xs) =
     let r = feedOf (w .connection) (w .receive) xs in
-    record {
-      world = record { connection = r .answer .connection; receive = r .store; send = w .send };
-      answer = fed (r .answer .number) (r .answer .used);
-    }
+    record { world = world (r .answer .connection) (r .store) (w .send); answer = fed (r .answer .number) (r .answer .used) }
 step w (take i buf) =
     let r = takeOf (w .connection) (w .receive) i buf in
     record {
-      world = record { connection = r .answer .connection; receive = w .receive; send = w .send };
+      world = world (r .answer .connection) (w .receive) (w .send);
       answer = taken (r .answer .number) (r .answer .len) (r .answer .message) (r .buffer);
     }
 step w (put i xs) =
     let r = putOf (w .connection) (w .send) i xs in
-    record {
-      world = record { connection = r .answer .connection; receive = w .receive; send = r .store };
-      answer = queued (r .answer .number);
-    }
+    record { world = world (r .answer .connection) (w .receive) (r .store); answer = queued (r .answer .number) }
 step w (next time buf) =
     let r = nextOf (w .connection) (w .send) time buf in
-    record {
-      world = record { connection = r .answer .connection; receive = w .receive; send = w .send };
-      answer = made (r .answer .number) (r .answer .len) (r .buffer);
-    }
+    record { world = world (r .answer .connection) (w .receive) (w .send); answer = made (r .answer .number) (r .answer .len) (r .buffer) }
 step w status = record { world = w; answer = told (statusOf (w .connection)) }
 
 -- What every call is that can be made: its bytes are bytes, and the time has 32 bits.
@@ -78,8 +71,7 @@ Real (next time buf) = (time < 2 ^ 32) × Bytes buf
 Real status = Unit {0}
 
 unfoldable pub AllReal : List Call → Type 0
-AllReal [] = Unit {0}
-AllReal (c ∷ cs) = Real c × AllReal cs
+AllReal cs = All Real cs
 
 -- An open answered 0, with what every call of open has: arrays with room for the largest bundle.
 pub record Opened (s : Settings) (receive send : List ℕ) : Type 0 where
@@ -89,8 +81,4 @@ pub record Opened (s : Settings) (receive send : List ℕ) : Type 0 where
 
 -- the world that open leaves
 abbrev pub first : Settings → List ℕ → List ℕ → World
-first s receive send = record { connection = openOf s (length receive) (length send) .connection; receive = receive; send = send }
-
--- there is such an open of every bundle
-abbrev pub SomeOpened : Type 0
-SomeOpened = (b : ℕ) → known b ≡ true → (s : Settings) × (s .party .bundle ≡ b) × ((receive : List ℕ) × (send : List ℕ) × Opened s receive send)
+first s receive send = world (openOf s (length receive) (length send) .connection) receive send

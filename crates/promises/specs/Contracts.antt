@@ -1,5 +1,15 @@
--- T1 for the seven operations: each contract, as the source has it, determines how a call ends.
-use Rattle.base.specs.Once.{Once}
+-- T1 for the seven operations: each contract, as the source has it, determines how a call ends, and that is what the promises speak of.
+use mathlib.Core.Path.{_≡_}
+use mathlib.Core.List.{List}
+use Prim.Native.Nat.{ℕ}
+use lib.ListN.{length}
+use contract.Lifetimes.{Lfts}
+use denote.Ref.{now}
+use denote.Triple.Entry.{Args, Res}
+use denote.Triple.Clauses.{Ended, Lasts, atExit}
+use Rattle.base.specs.Once.{Says, Once}
+use Rattle.opening.specs.Openings.{openOf}
+use Rattle.build.specs.Building.{buildOf, told}
 use Rattle.opening.proofs.open as opening
 use Rattle.opening.proofs.open.Reads as opening-says
 use Rattle.feeding.proofs.feed as feed
@@ -14,6 +24,8 @@ use Rattle.sending.proofs.next_segment as next-segment
 use Rattle.sending.proofs.next_segment.Reads as next-segment-says
 use Rattle.telling.proofs.status as status
 use Rattle.telling.proofs.status.Reads as status-says
+use Rattle.promises.specs.Calls as calls
+use Rattle.promises.specs.Calls.{step, world}
 
 pub record Contracts : Type 0 where
   pub opening : Once opening.ended opening-says.Pre opening-says.Post
@@ -23,3 +35,33 @@ pub record Contracts : Type 0 where
   pub put : Once put.ended put-says.Pre put-says.Post
   pub next-segment : Once next-segment.ended next-segment-says.Pre next-segment-says.Post
   pub status : Once status.ended status-says.Pre status-says.Post
+
+-- P holds of arguments, result and the memory lent for writing, however a call ends that the contract allows
+abbrev pub Ends : (t : Ended) → Says t
+    → ((lives : Lfts (t .signature .lifetimes)) (a : Args (t .signature) lives) → Res (t .signature) lives → Lasts t lives a → Type 0) → Type 0
+Ends t Post P =
+    (lives : Lfts (t .signature .lifetimes)) (a : Args (t .signature) lives) (r : Res (t .signature) lives) (after : Lasts t lives a)
+    → Post lives a r (atExit t lives a after) → P lives a r after
+
+-- Whatever a contract allows a call to end with is what `step` has, with any store that the call is not lent; for open what `Opened` and `first` have,
+-- and for build what `Builds` has. Arguments go by their names in the source.
+pub record Tied : Type 0 where
+  pub opening : Ends opening.ended opening-says.Post (λ _ (settings, (receive, (send, _))) r _.
+      openOf settings (length (now receive)) (length (now send)) ≡ r)
+  pub feed : Ends feed.ended feed-says.Post (λ _ (c, (store, (input, _))) r (_, (after, _)). (send : List ℕ)
+      → step (world c (now store) send) (calls.feed (now input))
+      ≡ record { world = world (r .connection) after send; answer = calls.fed (r .number) (r .used) })
+  pub take : Ends take.ended take-says.Post (λ _ (c, (store, (instance, (buf, _)))) r (_, (_, (_, (after, _)))). (send : List ℕ)
+      → step (world c (now store) send) (calls.take instance (now buf))
+      ≡ record { world = world (r .connection) (now store) send; answer = calls.taken (r .number) (r .len) (r .message) after })
+  pub build : Ends build.ended build-says.Post
+      (λ _ (bundle, (instance, (kind, (numbers, (runs, (first, (second, (buf, _)))))))) r (_, (_, (_, (_, (_, (_, (_, (after, _)))))))).
+      buildOf bundle instance kind (now numbers) runs (now first) (now second) (now buf) ≡ told r after)
+  pub put : Ends put.ended put-says.Post (λ _ (c, (store, (instance, (message, _)))) r (_, (after, _)). (receive : List ℕ)
+      → step (world c receive (now store)) (calls.put instance (now message))
+      ≡ record { world = world (r .connection) receive after; answer = calls.queued (r .number) })
+  pub next-segment : Ends next-segment.ended next-segment-says.Post (λ _ (c, (store, (time, (buf, _)))) r (_, (_, (_, (after, _)))). (receive : List ℕ)
+      → step (world c receive (now store)) (calls.next time (now buf))
+      ≡ record { world = world (r .connection) receive (now store); answer = calls.made (r .number) (r .len) after })
+  pub status : Ends status.ended status-says.Post (λ _ (c, _) r _. (receive send : List ℕ)
+      → step (world c receive send) calls.status ≡ record { world = world c receive send; answer = calls.told r })

@@ -1,5 +1,5 @@
--- T12, demand 3: every byte that waits is sent, and how soon. Segments are read back from the lent buffers by their layout.
-use Prim.Native.Nat.{ℕ, _+_, _-_, _*_, _/_, _≤_, _<_}
+-- T12, demand 3: a byte that waits is sent, and within how many segments. Segments are read back from the lent buffers by their layout.
+use Prim.Native.Nat.{ℕ, _+_, _*_, _/_, _≤_, _<_}
 use mathlib.Core.Path.{_≡_}
 use mathlib.Core.Bool.{Bool, true, cond, _&&_}
 use mathlib.Core.List.{List, [], _∷_, _++_, flatMap}
@@ -60,9 +60,10 @@ pub record Sent (us : Party) (i p x : ℕ) (ss : List (List ℕ)) : Type 0 where
   pub split : ss ≡ front ++ (segment ∷ back)
   pub of : isOf us i segment ≡ true
   pub whole : header segment .len ≡ length (payload segment)
-  pub behind : length (sentBy us i front) ≤ p
-  pub within : p < length (sentBy us i front) + length (payload segment)
-  pub byte : getD (payload segment) (p - length (sentBy us i front)) 0 ≡ x
+  pub place : ℕ
+  pub behind : p ≡ length (sentBy us i front) + place
+  pub within : place < length (payload segment)
+  pub byte : getD (payload segment) place 0 ≡ x
 
 -- ---- the promises
 
@@ -70,7 +71,7 @@ pub record Sent (us : Party) (i p x : ℕ) (ss : List (List ℕ)) : Type 0 where
 abbrev pub enough : Settings → ℕ → ℕ
 enough s p = instances (s .party .bundle) * (p / s .limit + 1)
 
--- A byte of instance i that waits with p bytes of i in front of it is in one of so many next segments, whatever is called.
+-- A byte of instance i that waits with p bytes of i in front of it is in one of so many next segments, once they are made, whatever is called.
 -- Nothing need be said of the gate: where it is closed no segment is made.
 abbrev pub FairFrom : Settings → World → Type 0
 FairFrom s w =

@@ -1,5 +1,5 @@
 -- What a history says, and that record and stores say the same (document 01, "What the front holds" and "Segments"): after any calls from open on.
-use Prim.Native.Nat.{ℕ, _-_, _/_, _%_, _^_, _≤_, _<_, min}
+use Prim.Native.Nat.{ℕ, _+_, _-_, _/_, _%_, _^_, _≤_, _<_, min}
 use mathlib.Core.Path.{_≡_}
 use mathlib.Core.Bool.{Bool, true, false, cond, not, _&&_}
 use mathlib.Core.List.{List, [], _∷_, _++_, flatMap, flatten}
@@ -15,6 +15,7 @@ use Rattle.wire.specs.declared.instances.Route.the-variants as route
 use Rattle.wire.specs.Segments.{headerLength, decoded, Carried, Divided}
 use Rattle.wire.specs.Instances.{instances, most, roleOf, initiates, protocolOf, modeOf, routeOf}
 use Rattle.item.specs.Grammar.{Item, nesting}
+use Rattle.rows.specs.declared.Protocol.{Protocol}
 use Rattle.rows.specs.declared.Protocol.the-variants.{Handshake}
 use Rattle.rows.specs.declared.Next.the-variants.{To}
 use Rattle.rows.specs.Rows.{nextOf, agencyOf}
@@ -26,7 +27,7 @@ use Rattle.telling.specs.declared.Report.{Report}
 use Rattle.connection.specs.Closings.{closingOf, takeFault}
 use Rattle.judging.specs.Judging.{holds, ours}
 use Rattle.connection.specs.Parts.{heldOf}
-use Rattle.promises.specs.Trace.{Event, run, trace}
+use Rattle.promises.specs.Trace.{All, Event, run, trace}
 use Rattle.promises.specs.Calls as calls
 use Rattle.promises.specs.Calls.{Call, Answer, World, step, Real, AllReal, Opened, first}
 use Rattle.promises.specs.Reached.{waits, numberOf}
@@ -38,20 +39,13 @@ Past = List (Event Call Answer)
 
 -- ---- what the calls did
 
--- how many bytes a feed used, and the message that a take put to the front of the lent buffer
+-- how many bytes a feed used
 abbrev pub usedIn : Answer → ℕ
 usedIn (calls.fed n used) = used
 usedIn (calls.taken n len m buf) = 0
 usedIn (calls.queued n) = 0
 usedIn (calls.made n len buf) = 0
 usedIn (calls.told r) = 0
-
-abbrev pub handedIn : Answer → List ℕ
-handedIn (calls.fed n used) = []
-handedIn (calls.taken n len m buf) = take len buf
-handedIn (calls.queued n) = []
-handedIn (calls.made n len buf) = []
-handedIn (calls.told r) = []
 
 -- the bytes that feeds used, end to end
 abbrev pub usedBy : Call → Answer → List ℕ
@@ -64,19 +58,27 @@ usedBy calls.status a = []
 unfoldable pub bytesIn : Past → List ℕ
 bytesIn past = flatMap (λ e. usedBy (e .call) (e .answer)) past
 
--- an accepted put, with its message, and a take answered 0, with the message handed out
+-- an accepted put, with its message; and a take answered 0, with the length and the message that it answered, and the lent buffer after it
 pub data Act : Type 0 where
   gave : List ℕ → Act
-  got : List ℕ → Act
+  got : (len : ℕ) (message : Message) (buffer : List ℕ) → Act
 
+-- the bytes of its message: those handed out are at the front of the lent buffer
 abbrev pub messageIn : Act → List ℕ
 messageIn (gave xs) = xs
-messageIn (got xs) = xs
+messageIn (got len m buf) = take len buf
+
+abbrev pub gotIn : Answer → List Act
+gotIn (calls.fed n used) = []
+gotIn (calls.taken n len m buf) = got len m buf ∷ []
+gotIn (calls.queued n) = []
+gotIn (calls.made n len buf) = []
+gotIn (calls.told r) = []
 
 -- the accepted puts and takes of instance i, in order
 abbrev pub actsBy : ℕ → Call → Answer → List Act
 actsBy i (calls.feed xs) a = []
-actsBy i (calls.take j buf) a = cond (eqb j i && eqb (numberOf a) 0) (got (handedIn a) ∷ []) []
+actsBy i (calls.take j buf) a = cond (eqb j i && eqb (numberOf a) 0) (gotIn a) []
 actsBy i (calls.put j xs) a = cond (eqb j i && eqb (numberOf a) 0) (gave xs ∷ []) []
 actsBy i (calls.next time buf) a = []
 actsBy i calls.status a = []
@@ -84,20 +86,24 @@ actsBy i calls.status a = []
 unfoldable pub acts : ℕ → Past → List Act
 acts i past = flatMap (λ e. actsBy i (e .call) (e .answer)) past
 
--- the messages of instance i end to end: those that were put, and those that were handed out
+-- the messages of instance i that were put, end to end
 abbrev pub putBy : Act → List ℕ
 putBy (gave xs) = xs
-putBy (got xs) = []
+putBy (got len m buf) = []
 
 unfoldable pub putFor : ℕ → Past → List ℕ
 putFor i past = flatMap putBy (acts i past)
 
-abbrev pub handedBy : Act → List ℕ
+-- those that were handed out, one by one, and end to end
+abbrev pub handedBy : Act → List (List ℕ)
 handedBy (gave xs) = []
-handedBy (got xs) = xs
+handedBy (got len m buf) = take len buf ∷ []
+
+unfoldable pub handed : ℕ → Past → List (List ℕ)
+handed i past = flatMap handedBy (acts i past)
 
 unfoldable pub handedFor : ℕ → Past → List ℕ
-handedFor i past = flatMap handedBy (acts i past)
+handedFor i past = flatten (handed i past)
 
 -- ---- T11 (a) and (d): what was received
 
@@ -116,36 +122,32 @@ receivedIn us i cs left =
     flatMap (λ c. payloadFor us i (c .header) (c .payload)) cs
     ++ payloadFor us i (decoded (take headerLength left)) (drop headerLength left)
 
--- The bytes that feeds used, divided by the layout: a refused segment has no payload among them, since its header's last byte is the last that
--- is used. What came for an instance is what was handed out and then what is held; and byte n of it, counted from 0 at open, is kept at place n
--- mod capacity.
+-- What a take handed out is one item, as long as it answered, and reads as it answered: kind, numbers and places.
+abbrev pub Spells : Protocol → Act → Type 0
+Spells p (gave xs) = Unit {0}
+Spells p (got len m buf) = (len ≤ length buf) × Item nesting (take len buf) × (messageOf p (take len buf) ≡ read m)
+
+-- Demand 2, of instance i: what was received of it is the messages handed out, end to end, each as its take answered, and then what is held; and into
+-- as many items and a rest it is split in no other way.
+pub record Messages (p : Protocol) (past : Past) (i : ℕ) (received held : List ℕ) : Type 0 where
+  pub spelled : All (Spells p) (acts i past)
+  pub split : received ≡ handedFor i past ++ held
+  pub only : (ms : List (List ℕ)) (rest : List ℕ) → All (Item nesting) ms → length ms ≡ length (handed i past) → received ≡ flatten ms ++ rest
+      → (ms ≡ handed i past) × (rest ≡ held)
+
+-- The bytes that feeds used, divided by the layout (of a refused segment only the header is used), and of each instance its messages among them. A byte
+-- that is held, the n-th from 0 at open on, is at place n mod capacity.
 pub record Receives (s : Settings) (past : Past) (w : World) : Type 0 where
   pub carried : List Carried
   pub left : List ℕ
   pub divided : Divided (bytesIn past) carried left
-  pub received : (i : ℕ) → i < instances (s .party .bundle) → receivedIn (s .party) i carried left ≡ handedFor i past ++ heldOf (w .connection) (w .receive) i
+  pub messages : (i : ℕ) → i < instances (s .party .bundle)
+      → Messages (speaks (s .party .bundle) i) past i (receivedIn (s .party) i carried left) (heldOf (w .connection) (w .receive) i)
   pub held : (i : ℕ) → i < instances (s .party .bundle)
-      → getD (w .connection .receiving .held) i 0 ≡ length (receivedIn (s .party) i carried left) - length (handedFor i past)
+      → length (receivedIn (s .party) i carried left) ≡ length (handedFor i past) + getD (w .connection .receiving .held) i 0
   pub starts : (i : ℕ) → i < instances (s .party .bundle) → getD (w .connection .receiving .starts) i 0 ≡ length (handedFor i past) % getD (s .receive) i 0
   pub places : (i n : ℕ) → i < instances (s .party .bundle) → length (handedFor i past) ≤ n → n < length (receivedIn (s .party) i carried left)
       → getD (w .receive) (place (baseOf (s .receive) i) (getD (s .receive) i 0) n) 0 ≡ getD (receivedIn (s .party) i carried left) n 0
-
--- What a take answered 0 hands out: the first bytes that were held, which are one item, and what the answer says of them is read from them.
-pub record HandsOut (w : World) (i len : ℕ) (m : Message) (buf : List ℕ) : Type 0 where
-  pub long : len ≤ length buf
-  pub held : take len buf ≡ take len (heldOf (w .connection) (w .receive) i)
-  pub item : Item nesting (take len buf)
-  pub reads : messageOf (speaks (w .connection .settings .party .bundle) i) (take len buf) ≡ read m
-
--- bytes begin with so many items in one way
-abbrev pub AllItems : List (List ℕ) → Type 0
-AllItems [] = Unit {0}
-AllItems (x ∷ xs) = Item nesting x × AllItems xs
-
-abbrev pub SplitOnce : Type 0
-SplitOnce =
-    (ms ns : List (List ℕ)) (xs ys : List ℕ) → AllItems ms → AllItems ns → length ms ≡ length ns → flatten ms ++ xs ≡ flatten ns ++ ys
-    → (ms ≡ ns) × (xs ≡ ys)
 
 -- ---- T11 (b) and (d): what was put and sent
 
@@ -153,10 +155,10 @@ SplitOnce =
 abbrev pub sentFor : Party → ℕ → Past → List ℕ
 sentFor us i past = sentBy us i (segments past)
 
--- What was put of an instance is what was sent and then what waits; and byte n of it, counted from 0 at open, is kept at place n mod capacity.
+-- What was put of an instance is what was sent and then what waits. A byte that waits, the n-th from 0 at open on, is at place n mod capacity.
 pub record Sends (s : Settings) (past : Past) (w : World) : Type 0 where
   pub put : (i : ℕ) → i < instances (s .party .bundle) → putFor i past ≡ sentFor (s .party) i past ++ queue w i
-  pub waiting : (i : ℕ) → i < instances (s .party .bundle) → waits w i ≡ length (putFor i past) - length (sentFor (s .party) i past)
+  pub waiting : (i : ℕ) → i < instances (s .party .bundle) → length (putFor i past) ≡ length (sentFor (s .party) i past) + waits w i
   pub starts : (i : ℕ) → i < instances (s .party .bundle) → getD (w .connection .sending .starts) i 0 ≡ length (sentFor (s .party) i past) % getD (s .send) i 0
   pub places : (i n : ℕ) → i < instances (s .party .bundle) → length (sentFor (s .party) i past) ≤ n → n < length (putFor i past)
       → getD (w .send) (place (baseOf (s .send) i) (getD (s .send) i 0) n) 0 ≡ getD (putFor i past) n 0
@@ -181,7 +183,7 @@ theirs us i state = holds (not (initiates (us .side) (roleOf (us .bundle) i))) (
 -- a put wants our agency, a take the peer's
 abbrev pub allowed : Party → ℕ → ℕ → Act → Bool
 allowed us i state (gave xs) = ours us i state
-allowed us i state (got xs) = theirs us i state
+allowed us i state (got len m buf) = theirs us i state
 
 -- An act is one of the rows: a message of the protocol, at the agency that it wants, leads from the one state to the other.
 pub record Moves (us : Party) (i state : ℕ) (a : Act) (to : ℕ) : Type 0 where
@@ -201,7 +203,7 @@ endsInAccept [] = false
 endsInAccept (a ∷ []) = eqb (messageOf Handshake (messageIn a) .message .kind) 1
 endsInAccept (a ∷ b ∷ more) = endsInAccept (b ∷ more)
 
--- The state of each instance is where its own accepted puts and takes lead from the first state, and Accept is marked if Handshake ended in it.
+-- The state of each instance is where its own accepted puts and takes lead from the first state, and Accept is marked exactly if Handshake ended in it.
 pub record Talks (s : Settings) (past : Past) (w : World) : Type 0 where
   pub states : (i : ℕ) → i < instances (s .party .bundle) → Walks (s .party) i 0 (acts i past) (getD (w .connection .talk .states) i 0)
   pub accepted : w .connection .talk .accepted ≡ endsInAccept (acts 0 past)
@@ -249,18 +251,16 @@ pub record Tells (s : Settings) (past : Past) (w : World) : Type 0 where
   pub talks : Talks s past w
   pub closes : Closes s past w
 
--- and what is handed out and made there, is what was held and what waited
-pub record Gives (s : Settings) (w : World) : Type 0 where
-  pub hands : (i len : ℕ) (m : Message) (buf after : List ℕ) → step w (calls.take i buf) .answer ≡ calls.taken 0 len m after
-      → HandsOut w i len m after
-  pub makes : (time : ℕ) (buf bs : List ℕ) → Real (calls.next time buf) → segmentOf (step w (calls.next time buf) .answer) ≡ bs ∷ []
-      → Segmented s w time bs
+-- and a segment that is made there is of what waited
+abbrev pub Makes : Settings → World → Type 0
+Makes s w =
+    (time : ℕ) (buf bs : List ℕ) → Real (calls.next time buf) → segmentOf (step w (calls.next time buf) .answer) ≡ bs ∷ [] → Segmented s w time bs
 
 -- after every list of calls from open on
 abbrev pub History : Type 0
 History =
     (s : Settings) (receive send : List ℕ) → Opened s receive send → (cs : List Call) → AllReal cs
-    → let w = run step (first s receive send) cs in Tells s (trace step (first s receive send) cs) w × Gives s w
+    → let w = run step (first s receive send) cs in Tells s (trace step (first s receive send) cs) w × Makes s w
 
 -- ---- T13: status
 
@@ -269,8 +269,8 @@ History =
 pub record Reports (s : Settings) (past : Past) (r : Report) : Type 0 where
   pub number : r .number ≡ 0
   pub held : (cs : List Carried) (left : List ℕ) → Divided (bytesIn past) cs left → (i : ℕ) → i < instances (s .party .bundle)
-      → getD (r .held) i 0 ≡ length (receivedIn (s .party) i cs left) - length (handedFor i past)
-  pub waiting : (i : ℕ) → i < instances (s .party .bundle) → getD (r .waiting) i 0 ≡ length (putFor i past) - length (sentFor (s .party) i past)
+      → length (receivedIn (s .party) i cs left) ≡ length (handedFor i past) + getD (r .held) i 0
+  pub waiting : (i : ℕ) → i < instances (s .party .bundle) → length (putFor i past) ≡ length (sentFor (s .party) i past) + getD (r .waiting) i 0
   pub many : (length (r .held) ≡ most) × (length (r .waiting) ≡ most)
   pub above : (i : ℕ) → instances (s .party .bundle) ≤ i → (getD (r .held) i 0 ≡ 0) × (getD (r .waiting) i 0 ≡ 0)
   pub bits : (i : ℕ) → i < instances (s .party .bundle) → r .ready .word / 2 ^ i % 2 ≡ cond (eqb (getD (r .waiting) i 0) 0) 0 1

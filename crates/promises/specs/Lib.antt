@@ -1,10 +1,9 @@
 pub mod Contracts
 pub mod Promises
-pub mod Examples
 pub mod Trace
 pub mod Calls
 pub mod Reached
 pub mod Fairness
 pub mod History
 pub mod Alone
-pub mod Arrival
+pub mod Besides

@@ -7,7 +7,7 @@ use lib.ListN.{length, getD}
 use Rattle.connection.specs.declared.Settings.{Settings}
 use Rattle.connection.specs.Shapes.{Shaped}
 use Rattle.range.specs.Ranges.{receiveLength, sendLength, inRange}
-use Rattle.feeding.specs.Numbers.{Spelt}
+use Rattle.feeding.specs.Feeding.{Spelt}
 use Rattle.promises.specs.Trace.{run}
 use Rattle.promises.specs.Calls.{Call, Answer, fed, taken, queued, made, told, World, step, AllReal, Opened, first}
 
@@ -23,7 +23,7 @@ pub record Reached (s : Settings) (w : World) : Type 0 where
   pub receive : length (w .receive) ≡ receiveLength s
   pub send : length (w .send) ≡ sendLength s
   pub spelt : Spelt (w .connection .receiving .header)
-  -- header bytes that have not come are 0, and so is the instance of no payload under way: equal states are equal records
+  -- header bytes that have not come are 0, and so is the instance of no payload under way
   pub blank : (k : ℕ) → w .connection .receiving .header .count ≤ k → getD (w .connection .receiving .header .bytes) k 0 ≡ 0
   pub idle : w .connection .receiving .rest ≡ 0 → w .connection .receiving .instance ≡ 0
   -- a Handshake message is always in one segment: what waits of instance 0 is at most S bytes

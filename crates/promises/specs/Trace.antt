@@ -1,6 +1,11 @@
 -- Sequences of calls over any step: what they leave, and what was asked and answered.
 use mathlib.Core.List.{List, [], _∷_}
 
+-- each of a list
+abbrev pub All : {A : Type 0} → (A → Type 0) → List A → Type 0
+All P [] = Unit {0}
+All P (x ∷ xs) = P x × All P xs
+
 -- what one call gives
 pub record Out (W A : Type 0) : Type 0 where
   pub world : W

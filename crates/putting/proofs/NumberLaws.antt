@@ -22,18 +22,19 @@ use Rattle.connection.specs.declared.Sending.{Sending}
 use Rattle.connection.specs.declared.Connection.{Connection}
 use Rattle.connection.specs.Shapes.{Shaped}
 use Rattle.connection.specs.Parts.{withSending}
-use Rattle.range.specs.Ranges.{sends, InSend}
+use Rattle.range.specs.Ranges.{sends}
+use Rattle.range.specs.Besides.Ranges.{InSend}
 use Rattle.range.proofs.RangeLaws as RangeLaws
 use Rattle.range.proofs.RangeLaws.{ranged, in-range, sends-both}
 use Rattle.judging.specs.declared.Judged.{Judged}
 use Rattle.judging.specs.Judging.{View, viewOf, spoken, led, said}
-use Rattle.judging.specs.Saying.{Moves, Utters, refusal, message}
+use Rattle.judging.specs.Besides.Saying.{Moves, Utters, refusal, message}
 use Rattle.judging.proofs.SayingLaws.{utters, said-exactly, unsaid-number}
 use Rattle.judging.proofs.Moving.{moved-ranged, moved-shaped}
 use Rattle.putting.specs.declared.Queued.{Queued}
 use Rattle.putting.specs.Putting.{Told, told, refused, longerOf, queued, stored, putOf}
-use Rattle.putting.specs.Numbers.{InOneSegment, When, Exactly, Untouched, Kept, Keeps}
-use Rattle.putting.specs.Numbers.{out-of-range, no-instance, unsaid, above-limit, above-capacity, done}
+use Rattle.putting.specs.Besides.Numbers.{InOneSegment, When, Exactly, Untouched, Kept, Keeps}
+use Rattle.putting.specs.Besides.Numbers.{out-of-range, no-instance, unsaid, above-limit, above-capacity, done}
 use Rattle.putting.proofs.PuttingLaws.{put-range, put-instance, put-refused, put-judged, too-long, no-room, has-room}
 
 module _ (c : Connection) (store : List ℕ) (i : ℕ) (xs : List ℕ) where

@@ -13,7 +13,8 @@ use Rattle.wire.specs.Instances.{instances, handshake}
 use Rattle.wire.proofs.InstanceLaws.{at-most}
 use Rattle.connection.specs.declared.Connection.{Connection}
 use Rattle.connection.specs.Closings.{isOpen}
-use Rattle.range.specs.Ranges.{sends, InSend}
+use Rattle.range.specs.Ranges.{sends}
+use Rattle.range.specs.Besides.Ranges.{InSend}
 use Rattle.range.proofs.StoreLaws.{send-area}
 use Rattle.range.proofs.RangeLaws.{ranged, sends-both}
 use Rattle.judging.specs.declared.Judged.{Judged}

@@ -1,3 +1,3 @@
 pub mod Putting
-pub mod Numbers
+pub mod Besides
 pub mod Inside

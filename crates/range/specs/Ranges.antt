@@ -1,11 +1,10 @@
 -- In range (document 01, "What the front holds"; document 02, K1): the settings, the record, and how long a store is. What stands in an array above
 -- the bundle's last instance is not looked at.
-use Prim.Native.Nat.{ℕ, _+_, _<_}
-use mathlib.Core.Path.{_≡_}
-use mathlib.Core.Bool.{Bool, true, not, _&&_, _||_}
+use Prim.Native.Nat.{ℕ, _+_}
+use mathlib.Core.Bool.{Bool, not, _&&_, _||_}
 use mathlib.Core.List.{List}
 use lib.Dec.{eqb, leb, ltb}
-use lib.ListN.{length, getD}
+use lib.ListN.{getD}
 use Rattle.base.specs.Below.{allBelow}
 use Rattle.ring.specs.Ring.{baseOf}
 use Rattle.wire.specs.Segments.{headerLength}
@@ -95,10 +94,3 @@ receives c n = inRange c && receiveStoreOk (c .settings) n
 
 abbrev pub sends : Connection → ℕ → Bool
 sends c n = inRange c && sendStoreOk (c .settings) n
-
--- an instance of a record in range with its receive store, and with its send store
-abbrev pub InReceive : Connection → List ℕ → ℕ → Type 0
-InReceive c store i = (receives c (length store) ≡ true) × (i < instances (c .settings .party .bundle))
-
-abbrev pub InSend : Connection → List ℕ → ℕ → Type 0
-InSend c store i = (sends c (length store) ≡ true) × (i < instances (c .settings .party .bundle))

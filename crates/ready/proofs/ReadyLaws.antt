@@ -13,7 +13,8 @@ use lib.Count.{ones, ones-step, trailingZeros, under}
 use lib.Seq.{drop-cons}
 use borrow.Author.Tests.{eq-eqb, ne-eqb, lt-ltb, le-ltb, eqb-true, eqb-false, ltb-true, ltb-false}
 use Rattle.base.proofs.Conds.{by-test, cond-cases}
-use Rattle.ready.specs.Ready.{bitOf, wordOf, countOf, lowestFrom, afterOf, seek, chosen, BitByBit, NoMore, NobodyWaits, ChosenWaits}
+use Rattle.ready.specs.Ready.{bitOf, wordOf, countOf, lowestFrom, afterOf, seek, chosen}
+use Rattle.ready.specs.Besides.Ready.{BitByBit, NoMore, NobodyWaits, ChosenWaits}
 use Rattle.ready.specs.Inside.{bitSet, seekIn, chosenIn}
 use Rattle.ready.specs.declared.Choice.{Choice}
 use Rattle.ready.specs.declared.Choice.the-variants.{Instance, Nobody}

@@ -1,2 +1,3 @@
 pub mod Ready
+pub mod Besides
 pub mod Inside

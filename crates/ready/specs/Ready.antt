@@ -1,7 +1,5 @@
 -- Who has bytes to send (document 01, "Segments": status, and next segment's choice), over the waiting counts by instance.
-use Prim.Native.Nat.{ℕ, zero, suc, _+_, _-_, _*_, _/_, _%_, _^_, _<_, _≤_}
-use mathlib.Core.Logic.{_↔_}
-use mathlib.Core.Path.{_≡_}
+use Prim.Native.Nat.{ℕ, zero, suc, _+_, _-_, _*_}
 use mathlib.Core.Bool.{cond}
 use mathlib.Core.List.{List, [], _∷_}
 use lib.Dec.{eqb, ltb}
@@ -48,20 +46,3 @@ chosen ws turn = cond (ltb 0 (getD ws 0 0)) (Instance 0) (seek ws turn (length w
 -- The turn after serving i is the one after i; serving 0 doesn't move it.
 abbrev pub turnAfter : ℕ → ℕ → ℕ → ℕ
 turnAfter n i turn = cond (eqb i 0) turn (afterOf n i)
-
--- what the word says of each instance
-abbrev pub BitByBit : Type 0
-BitByBit = (ws : List ℕ) (i : ℕ) → i < length ws → wordOf ws / 2 ^ i % 2 ≡ bitOf (getD ws i 0)
-
-abbrev pub NoMore : Type 0
-NoMore = (ws : List ℕ) → wordOf ws < 2 ^ length ws
-
--- nobody is chosen if and only if nobody has bytes waiting
-abbrev pub NobodyWaits : Type 0
-NobodyWaits =
-    (ws : List ℕ) (turn : ℕ) → 1 ≤ turn → turn < length ws
-    → (chosen ws turn ≡ Nobody) ↔ ((i : ℕ) → i < length ws → getD ws i 0 ≡ 0)
-
--- whoever is chosen is an instance with bytes waiting
-abbrev pub ChosenWaits : Type 0
-ChosenWaits = (ws : List ℕ) (turn i : ℕ) → chosen ws turn ≡ Instance i → (i < length ws) × (0 < getD ws i 0)

@@ -14,12 +14,12 @@ fn numbers(name: &[u8], numbers: &[u64]) {
     let mut space = [0u8; OUT];
     let out: &mut [u8] = &mut space;
     let end = begun(out, name, numbers);
-    answers::end(out, end);
+    output::end(out, end);
 }
 
 fn begun(out: &mut [u8], name: &[u8], numbers: &[u64]) -> usize {
-    let at = answers::words(out, 0, name);
-    answers::numbers(out, at, numbers)
+    let at = output::words(out, 0, name);
+    output::numbers(out, at, numbers)
 }
 
 // The name of a call alone, with its number, and with its number and a count.
@@ -45,8 +45,8 @@ pub fn filled(name: &[u8], n: u64, count: usize, buf: &[u8]) {
     let mut space = [0u8; OUT];
     let out: &mut [u8] = &mut space;
     let at = begun(out, name, &[n, count as u64]);
-    let end = answers::run(out, at, buf);
-    answers::end(out, end);
+    let end = output::run(out, at, buf);
+    output::end(out, end);
 }
 
 // What a message says, its length, and the lent buffer.
@@ -54,8 +54,8 @@ pub fn taken(number: u64, len: usize, m: Message, buf: &[u8]) {
     let mut space = [0u8; OUT];
     let out: &mut [u8] = &mut space;
     let at = message(out, number, len, m);
-    let end = answers::run(out, at, buf);
-    answers::end(out, end);
+    let end = output::run(out, at, buf);
+    output::end(out, end);
 }
 
 // The numbers and the places of a message.
@@ -73,7 +73,7 @@ fn listed(out: &mut [u8], at: usize, numbers: &[u64], n: usize) -> usize {
     if numbers.len() < n {
         return at;
     }
-    answers::list(out, at, &numbers[0..n])
+    output::list(out, at, &numbers[0..n])
 }
 
 // Starts and lengths.
@@ -82,17 +82,17 @@ fn places_of(m: Message) -> [u64; 2 * MOST_PLACES] {
     [p[0] as u64, p[1] as u64, p[2] as u64, p[3] as u64]
 }
 
-// What status tells.
-pub fn told(r: Report) {
+// What status tells, with so many counts.
+pub fn told(r: Report, n: usize) {
     let mut space = [0u8; OUT];
     let out: &mut [u8] = &mut space;
     let numbers = numbers_of(r);
     let held = r.held;
     let waiting = r.waiting;
     let at = begun(out, b"status", &numbers);
-    let next = answers::list(out, at, &held);
-    let end = answers::list(out, next, &waiting);
-    answers::end(out, end);
+    let next = listed(out, at, &held, n);
+    let end = listed(out, next, &waiting, n);
+    output::end(out, end);
 }
 
 fn numbers_of(r: Report) -> [u64; 7] {
@@ -129,8 +129,8 @@ fn closed(why: Closing) -> [u64; 3] {
 pub fn stores(receive: &[u8], send: &[u8]) {
     let mut space = [0u8; OUT];
     let out: &mut [u8] = &mut space;
-    let at = answers::words(out, 0, b"stores");
-    let next = answers::run(out, at, receive);
-    let end = answers::run(out, next, send);
-    answers::end(out, end);
+    let at = output::words(out, 0, b"stores");
+    let next = output::run(out, at, receive);
+    let end = output::run(out, next, send);
+    output::end(out, end);
 }

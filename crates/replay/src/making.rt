@@ -18,6 +18,9 @@ use wire::instances::INSTANCES;
 use wire::instances::Party;
 use wire::instances::Side;
 use wire::instances::count;
+use wire::instances::known;
+ghost use Prim.Native.Nat.{_≤_};
+ghost use Rattle.wire.specs.Instances.{most};
 
 // The calls by their places in the table; a line that is no call; and one that is passed over.
 const BUNDLE: usize = 0;
@@ -44,6 +47,10 @@ const BAD: usize = 10;
 
 const NOTHING: usize = 11;
 
+// How many capacities of each kind an `open` line has for an unknown bundle, and how many counts a `status` line has of a
+// record out of range, whichever bundles there are.
+const NINE: usize = 9;
+
 // Which call a line is, and what its words say. Of a line that is too long only that is known.
 fn called(line: &mut [u8], long: bool, words: &mut [u64; WORDS]) -> usize {
     if long {
@@ -56,11 +63,30 @@ fn called(line: &mut [u8], long: bool, words: &mut [u64; WORDS]) -> usize {
         return NOTHING;
     }
     calls::said(
-        b"bundle n open snnnnnnnnnnnnnnnnnnn lend kk feed r take nb build nnlpb put nr next tb status . stores .",
+        b"bundle n open snm lend kk feed r take nb build nnlpb put nr next tb status . stores .",
         BAD,
         line,
         words,
     )
+}
+
+// An `open` line with another number of capacities than the bundle's is no call.
+fn fitting(call: usize, bundle: u64, words: [u64; WORDS]) -> usize {
+    let n = each(bundle);
+    if base::and(call == OPEN, words[2] != (n + n) as u64) {
+        return BAD;
+    }
+    call
+}
+
+// How many receive capacities an `open` line has, and as many send capacities: one for each instance of the bundle.
+fn each(bundle: u64) -> usize
+    ensures { λ r. ⌜ r ≤ most ⌝ }
+{
+    if known(bundle) {
+        return count(bundle);
+    }
+    NINE
 }
 
 // Makes the call that a line spells.
@@ -72,8 +98,8 @@ pub fn line(
     long: bool,
 ) -> Desk {
     let mut words = [0; WORDS];
-    let call = called(line, long, &mut words);
     let before = d.given;
+    let call = fitting(called(line, long, &mut words), before.bundle, words);
     let given = chosen(counted(before), call, words);
     let c = d.connection;
     let mut buf = [FILL; LENT];
@@ -102,8 +128,9 @@ fn chosen(g: Given, call: usize, words: [u64; WORDS]) -> Given {
 }
 
 fn opened(g: Given, words: [u64; WORDS]) -> Given {
-    let receive = sum(g.bundle, capacities(words, 2));
-    let send = sum(g.bundle, capacities(words, 11));
+    let n = each(g.bundle);
+    let receive = sum(g.bundle, capacities(words, 3, n));
+    let send = sum(g.bundle, capacities(words, 3 + n, n));
     lending(g, receive, send)
 }
 
@@ -144,21 +171,24 @@ fn plus(sum: usize, cap: u64) -> usize {
     smaller(STORE, smaller(STORE, sum) + cap as usize)
 }
 
-// As many numbers as the largest bundle has instances, from a place on.
-fn capacities(words: [u64; WORDS], from: usize) -> [u64; INSTANCES] {
+// So many numbers from a place on, and 0 behind them.
+fn capacities(words: [u64; WORDS], from: usize, n: usize) -> [u64; INSTANCES]
+    requires { ⌜ n ≤ most ⌝ }
+{
     let mut caps = [0; INSTANCES];
     let mut i: usize = 0;
-    while i < INSTANCES {
+    while i < n {
         caps[i] = calls::at(words, std::num::wrapping_add_usize(from, i));
         i += 1;
     }
     caps
 }
 
-// The settings that SIDE S R0 .. R8 W0 .. W8 say.
+// The settings that SIDE S R.. W.. say.
 pub fn settings(bundle: u64, words: [u64; WORDS]) -> Settings {
-    let receive = capacities(words, 2);
-    let send = capacities(words, 11);
+    let n = each(bundle);
+    let receive = capacities(words, 3, n);
+    let send = capacities(words, 3 + n, n);
     let party = Party {
         bundle,
         side: side(words[0]),
@@ -206,14 +236,26 @@ fn plain(c: Connection, g: Given, call: usize) -> Connection {
     match call {
         BUNDLE => answering::name(b"bundle"),
         LEND => answering::name(b"lend"),
-        STATUS => answering::told(telling::status(c)),
+        STATUS => status(c),
         BAD => answering::bad(g.lines),
         _ => {}
     }
     c
 }
 
-// open SIDE S R0 .. R8 W0 .. W8
+// status, with as many counts as the record's bundle has instances
+fn status(c: Connection) {
+    let s = c.settings;
+    let party = s.party;
+    let r = telling::status(c);
+    if r.number == 0 {
+        answering::told(r, count(party.bundle));
+        return;
+    }
+    answering::told(r, NINE);
+}
+
+// open SIDE S R.. W..
 fn open(g: Given, receive: &[u8], send: &[u8], words: [u64; WORDS]) -> Connection {
     let r = lent(g.receive, receive);
     let s = lent(g.send, send);

@@ -8,7 +8,8 @@ use native.Mathlib.Decide.{decLt}
 use native.Mathlib.Nat.{mod-lt, mod-eq-of-lt, mod-eq-sub-mod, mod-add-mod}
 use lib.ListN.{length, getD, take, drop, length-append, length-take, length-drop, List·getD-append}
 use lib.Seq.{take-take, getD-take, getD-drop, getD-append-add, ext-getD, take-append-seam}
-use Rattle.ring.specs.Ring.{stream, run, around}
+use Rattle.ring.specs.Ring.{stream, run}
+use Rattle.ring.specs.Inside.{around}
 use Rattle.ring.proofs.Runs.{run-length}
 use Rattle.ring.proofs.Stores.{stream-length, stream-at}
 

@@ -10,7 +10,8 @@ use native.Mathlib.Nat.{add-zero, zero-add, add-suc, suc-add, mul-le-mul-left, d
 use native.Mathlib.Nat.{suc-mod, mod-lt, mod-eq-of-lt, mod-mod, mod-self, zero-mod, mod-add-mod}
 use lib.ListN.{length, getD, set, take, drop, length-set}
 use lib.Seq.{sets, take-at, drop-at, drop-cons, getD-set-same, getD-set-other, ext-getD}
-use Rattle.ring.specs.Ring.{stream, laid, run, Elsewhere}
+use Rattle.ring.specs.Ring.{stream, laid, run}
+use Rattle.ring.specs.Besides.Ring.{Elsewhere}
 
 -- positions with the same remainder are followed by positions with the same remainder
 same-next : (c n m : ℕ) → n % c ≡ m % c → suc n % c ≡ suc m % c

@@ -1,10 +1,8 @@
 -- A store and its areas. Each area is a ring: "Byte n of an instance's stream, counted from 0 at open, is kept in
 -- its area at place n mod capacity."
-use Prim.Native.Nat.{ℕ, zero, suc, _+_, _%_, _<_}
-use mathlib.Core.Path.{_≡_}
-use mathlib.Core.Logic.{_≢_}
-use mathlib.Core.List.{List, [], _∷_, _++_}
-use lib.ListN.{length, getD, set, take, drop}
+use Prim.Native.Nat.{ℕ, zero, suc, _+_, _%_}
+use mathlib.Core.List.{List, [], _∷_}
+use lib.ListN.{getD, set, take, drop}
 
 -- areas lie in their order, one behind the other: where area i begins; a store of n areas is as long as they are together, up to where the next would begin
 unfoldable pub baseOf : List ℕ → ℕ → ℕ
@@ -26,15 +24,6 @@ unfoldable pub laid : List ℕ → ℕ → ℕ → ℕ → List ℕ → List ℕ
 laid store base cap n [] = store
 laid store base cap n (x ∷ xs) = laid (set store (place base cap n) x) base cap (suc n) xs
 
--- nothing else is written
-abbrev pub Elsewhere : Type 0
-Elsewhere = (store : List ℕ) (base cap n : ℕ) (xs : List ℕ) (p : ℕ) → ((j : ℕ) → j < length xs → p ≢ place base cap (n + j))
-    → getD (laid store base cap n xs) p 0 ≡ getD store p 0
-
 -- k bytes of xs from place i on
 abbrev pub run : List ℕ → ℕ → ℕ → List ℕ
 run xs i k = take k (drop i xs)
-
--- k bytes of xs from place i on, where xs is a ring: its front follows its end
-unfoldable pub around : List ℕ → ℕ → ℕ → List ℕ
-around xs i k = take k (drop i xs ++ xs)

@@ -7,7 +7,8 @@ ghost use mathlib.Core.Path.{_≡_};
 ghost use Prim.Native.Nat.{_+_, _%_, _^_, _≤_, _<_};
 ghost use lib.ListN.{length, getD};
 ghost use lib.Seq.{sets};
-ghost use Rattle.ring.specs.Ring.{baseOf, stream, laid, run, around};
+ghost use Rattle.ring.specs.Ring.{baseOf, stream, laid, run};
+ghost use Rattle.ring.specs.Inside.{around};
 
 // How much is copied at once.
 const BLOCK: usize = 4096;

@@ -15,7 +15,8 @@ use Rattle.rows.specs.declared.Agency.{Agency}
 use Rattle.rows.specs.declared.Agency.the-variants.{Initiator, Responder, Nobody}
 use Rattle.rows.specs.declared.Next.{Next}
 use Rattle.rows.specs.declared.Next.the-variants.{To, None}
-use Rattle.rows.specs.Rows.{State, Done, Row, states, doneOf, rowsOf, rowIn, RowsSay, fits, nextIn, nextOf, agencyIn, agencyOf, placeIn, talk, dialogues}
+use Rattle.rows.specs.Rows.{State, Done, Row, states, doneOf, rowsOf, fits, nextIn, nextOf, agencyIn, agencyOf, placeIn}
+use Rattle.rows.specs.Besides.Rows.{rowIn, RowsSay, talk, dialogues}
 use Rattle.rows.proofs.ByProtocol.{each-protocol, Search, entry, column}
 use Rattle.rows.specs.Inside.{entries, allRows, rowCount, rowAt, mark, inOne, stateIn, agentIn, kindIn, flagIn, leadsIn, suits}
 

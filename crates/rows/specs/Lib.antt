@@ -1,3 +1,4 @@
 pub mod Rows
 pub mod Spoken
+pub mod Besides
 pub mod Inside

@@ -28,7 +28,7 @@ use Rattle.range.proofs.StoreLaws.{leaves-front}
 use Rattle.range.proofs.RangeLaws.{ranged, in-range, sends-both}
 use Rattle.sending.specs.declared.Made.{Made}
 use Rattle.sending.specs.NextSegment.{Told, told, refused, much, headed, payloadOf, sentOf, chosenOf, nextOf}
-use Rattle.sending.specs.Numbers.{Unclosed, When, out-of-range, closed, all-empty, no-room, done, Exactly, Untouched, Keeps}
+use Rattle.sending.specs.Besides.Numbers.{Unclosed, When, out-of-range, closed, all-empty, no-room, done, Exactly, Untouched, Keeps}
 use Rattle.sending.proofs.SendingLaws.{served, serve-short, serve-all, next-unranged, next-closed, next-served}
 
 -- the counts of the bundle's instances

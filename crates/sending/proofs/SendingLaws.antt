@@ -13,7 +13,8 @@ use Rattle.base.proofs.ListLaws.{sets-append}
 use Rattle.base.proofs.NumberLaws.{length-octets}
 use Rattle.wire.specs.declared.segment.Segment.{Segment}
 use Rattle.wire.specs.declared.instances.Party.{Party}
-use Rattle.wire.specs.Segments.{headerLength, encoded, Fits}
+use Rattle.wire.specs.Segments.{headerLength, encoded}
+use Rattle.wire.specs.Inside.{Fits}
 use Rattle.wire.specs.Instances.{instances, modeOf, protocolOf}
 use Rattle.wire.proofs.InstanceLaws.{mode-low, protocol-low}
 use Rattle.ready.specs.Ready.{wordOf, chosen, turnAfter}
@@ -28,7 +29,7 @@ use Rattle.range.specs.Ranges.{inRange, sends}
 use Rattle.range.proofs.RangeLaws.{ranged, sends-both}
 use Rattle.connection.specs.declared.Sending.{Sending}
 use Rattle.connection.specs.Parts.{withSending, firstWaiting}
-use Rattle.range.specs.Ranges.{InSend}
+use Rattle.range.specs.Besides.Ranges.{InSend}
 use Rattle.sending.specs.NextSegment.{Told, told, refused, much, headed, payloadOf, sentOf, serve, byChoice, chosenOf, nextOf}
 use Rattle.sending.specs.Inside.{Chosen}
 

@@ -4,7 +4,7 @@ use mathlib.Core.List.{List}
 use Rattle.ready.specs.declared.Choice.{Choice}
 use Rattle.ready.specs.declared.Choice.the-variants.{Instance, Nobody}
 use Rattle.connection.specs.declared.Connection.{Connection}
-use Rattle.range.specs.Ranges.{InSend}
+use Rattle.range.specs.Besides.Ranges.{InSend}
 
 -- whoever is chosen is an instance of a record in range with its send store
 abbrev pub Chosen : Connection → List ℕ → Choice → Type 0

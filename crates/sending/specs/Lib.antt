@@ -1,3 +1,3 @@
 pub mod NextSegment
-pub mod Numbers
+pub mod Besides
 pub mod Inside

@@ -23,16 +23,17 @@ use Rattle.connection.specs.declared.Closing.the-variants.{Of}
 use Rattle.connection.specs.Shapes.{Shaped}
 use Rattle.connection.specs.Closings.{closedBy, takeFault, gateOk}
 use Rattle.connection.specs.Parts.{withReceiving, withGate, firstHeld}
-use Rattle.range.specs.Ranges.{inRange, receives, InReceive}
+use Rattle.range.specs.Ranges.{inRange, receives}
+use Rattle.range.specs.Besides.Ranges.{InReceive}
 use Rattle.range.proofs.StoreLaws.{leaves-front}
 use Rattle.range.proofs.RangeLaws.{AreaIn, Ranged, ranged, in-range, receives-both}
 use Rattle.judging.specs.declared.Judged.{Judged}
 use Rattle.judging.specs.Judging.{View, spoken, led, heard}
-use Rattle.judging.specs.Hearing.{Spells, Hears, refusal, message}
+use Rattle.judging.specs.Besides.Hearing.{Spells, Hears, refusal, message}
 use Rattle.judging.proofs.HearingLaws.{hears, heard-exactly, unheard-number}
 use Rattle.judging.proofs.Moving.{moved-ranged, moved-shaped}
 use Rattle.taking.specs.Taking.{Told, told, seen, refused, undone, freedOf, handed, takeOf}
-use Rattle.taking.specs.Numbers.{When, out-of-range, no-instance, unheard, no-room, done, Exactly, Leaves, LeavesAll, HandsOut, Keeps}
+use Rattle.taking.specs.Besides.Numbers.{When, out-of-range, no-instance, unheard, no-room, done, Exactly, Leaves, LeavesAll, HandsOut, Keeps}
 use Rattle.taking.proofs.TakingLaws.{take-range, take-instance, take-refused, take-handed, hand-short, hand-made}
 
 -- a refusal has its number, fault or not

@@ -10,7 +10,8 @@ use native.Mathlib.Nat.{mod-eq-of-lt}
 use lib.ListN.{length, getD, set, take, drop}
 use lib.Seq.{sets}
 use borrow.Author.Tests.{eq-eqb, ne-eqb, lt-ltb, le-ltb}
-use Rattle.ring.specs.Ring.{baseOf, run, around}
+use Rattle.ring.specs.Ring.{baseOf, run}
+use Rattle.ring.specs.Inside.{around}
 use Rattle.ring.proofs.Around.{stream-around}
 use Rattle.ring.proofs.Runs.{run-length}
 use Rattle.ring.proofs.Stores.{stream-length, stream-take}
@@ -22,7 +23,8 @@ use Rattle.connection.specs.declared.Connection.{Connection}
 use Rattle.connection.specs.Areas.{bytesOf, startsPast, countsLess}
 use Rattle.connection.specs.Closings.{isOpen}
 use Rattle.connection.specs.Parts.{firstHeld, heldOf}
-use Rattle.range.specs.Ranges.{receives, InReceive}
+use Rattle.range.specs.Ranges.{receives}
+use Rattle.range.specs.Besides.Ranges.{InReceive}
 use Rattle.range.proofs.StoreLaws.{receive-area}
 use Rattle.range.proofs.RangeLaws.{ranged, receives-both}
 use Rattle.judging.specs.declared.Judged.{Judged}

@@ -7,7 +7,7 @@ use native.Mathlib.Omega.{arith}
 use Rattle.connection.specs.declared.Connection.{Connection}
 use Rattle.range.specs.Ranges.{inRange}
 use Rattle.telling.specs.Statuses.{statusOf}
-use Rattle.telling.specs.Numbers.{StatusExactly}
+use Rattle.telling.specs.Besides.Numbers.{StatusExactly}
 
 by-range : (c : Connection) (t : Bool) → inRange c ≡ t → ((statusOf c .number ≡ 0) ↔ (inRange c ≡ true)) × ((statusOf c .number ≡ 23) ↔ (inRange c ≡ false))
 unfolding statusOf

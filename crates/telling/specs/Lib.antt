@@ -1,2 +1,2 @@
 pub mod Statuses
-pub mod Numbers
+pub mod Besides

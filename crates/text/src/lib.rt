@@ -5,7 +5,7 @@ ghost use Prim.Native.Nat.{_+_, _/_, _%_, _<_, _≤_};
 ghost use lib.ListN.{length, set, take};
 ghost use lib.Seq.{sets};
 ghost use Rattle.io.specs.Digits.{glyph};
-ghost use Rattle.text.specs.Text.{Decimal};
+ghost use Rattle.text.specs.Inside.{Decimal};
 
 // How many digits a number of 64 bits has at most.
 pub const DIGITS: usize = 20;

@@ -18,7 +18,7 @@ use Rattle.head.specs.declared.Major.the-variants.{Array, Map}
 use Rattle.head.specs.declared.Initial.the-variants.{Short, Long, Indefinite}
 use Rattle.item.specs.Grammar.{Frame, Items, Content, Argument, content, indefinite, enter, nesting}
 use Rattle.item.specs.Verdict.{Stack, push}
-use Rattle.moves.specs.Levels.{frameOf, tell}
+use Rattle.moves.specs.Inside.Levels.{frameOf, tell}
 use Rattle.moves.specs.Inside.Frames.{kept, Wants, roomFor}
 use Rattle.usual.specs.Inside.Usual.{following, smallOf}
 use Rattle.moves.specs.Inside.Moves.{Goes}

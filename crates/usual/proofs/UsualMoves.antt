@@ -9,7 +9,7 @@ use native.Mathlib.Omega.{arith}
 use borrow.Author.Tests.{ltb-true, ltb-false}
 use Rattle.item.specs.Grammar.{Frame, nesting}
 use Rattle.item.specs.Verdict.{push}
-use Rattle.moves.specs.Levels.{frameOf, tell, Good}
+use Rattle.moves.specs.Inside.Levels.{frameOf, tell, Good}
 use Rattle.moves.specs.Inside.Frames.{breakable}
 use Rattle.moves.specs.Inside.Moves.{Stays, Downs}
 use Rattle.moves.proofs.Frames.{level-wants, level-less}

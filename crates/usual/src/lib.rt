@@ -13,7 +13,7 @@ use moves::PAIRS;
 ghost use mathlib.Core.Path.{_≡_};
 ghost use Prim.Native.Nat.{_+_, _-_, _^_, _≤_, _<_};
 ghost use lib.ListN.{length};
-ghost use Rattle.ring.specs.Ring.{around};
+ghost use Rattle.ring.specs.Inside.{around};
 ghost use Rattle.usual.specs.Inside.Pieces.{Spot, PieceAt};
 ghost use Rattle.usual.specs.Inside.Usual.{following, smallOf, Quickly, Usually, UsualString};
 

@@ -94,11 +94,11 @@ fn show(bytes: &[u8])
     let v = cbor::measure_slice(bytes);
     let mut space = [0u8; LINE];
     let out: &mut [u8] = &mut space;
-    let mut at = answers::hex(out, 0, bytes);
+    let mut at = output::hex(out, 0, bytes);
     at = verdict(out, at, v);
     at = count(out, at, b", prefixes", prefixes(bytes));
     at = count(out, at, b", rings", rings(bytes, v));
-    answers::end(out, at);
+    output::end(out, at);
 }
 
 // How many proper prefixes are incomplete.
@@ -192,12 +192,12 @@ fn verdict(out: &mut [u8], at: usize, v: Verdict) -> usize {
     match v {
         Verdict::Whole(n) => count(out, at, b" whole", n),
         Verdict::Bad(n) => count(out, at, b" bad", n),
-        Verdict::Incomplete => answers::words(out, at, b" incomplete"),
+        Verdict::Incomplete => output::words(out, at, b" incomplete"),
     }
 }
 
 // Words and a number.
 fn count(out: &mut [u8], at: usize, words: &[u8], n: usize) -> usize {
-    let next = answers::words(out, at, words);
-    answers::number(out, next, n as u64)
+    let next = output::words(out, at, words);
+    output::number(out, next, n as u64)
 }

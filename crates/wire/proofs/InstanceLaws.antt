@@ -1,44 +1,37 @@
--- Laws of instances, in any bundle: what is searched in it, what the tables of the code say of it, and the route.
+-- Laws of bundles: what holds of each by a computed test, what the tables of the code say of them, and their routes.
 -- Assumes nothing.
 use mathlib.Core.Path.{_≡_, refl, sym, ap, _∙_}
-use mathlib.Core.Bool.{Bool, true, false, true≢false, cond, not, _&&_}
-use mathlib.Core.List.{List, [], _∷_, _++_, map}
+use mathlib.Core.Bool.{Bool, true, false, true≢false, _&&_}
+use mathlib.Core.List.{List, [], _∷_, map}
 use Prim.Native.Nat.{ℕ, zero, suc, _+_, _-_, _*_, _/_, _%_, _^_, _<_, _≤_}
 use native.Mathlib.Nat.{add-zero, suc-mul, mul-le-mul-right, mul-add-div-right, mul-add-mod-self-right, div-eq-of-lt, mod-eq-of-lt}
 use native.Mathlib.Omega.{arith}
-use lib.Dec.{T, eqb, ltb, leb, eqb→eq, ltb→lt, leb→le}
-use lib.ListN.{length, getD}
-use borrow.Author.Tests.{eq-eqb, ne-eqb, eqb-false, ltb-true, ltb-false}
-use mathlib.Core.Logic.{_↔_}
-use mathlib.Core.Option.{Option, none, some}
+use lib.Dec.{T, eqb, ltb, leb, ltb→lt, leb→le}
+use lib.ListN.{length, getD, List·getD-eq-default}
+use borrow.Author.Tests.{eqb-true, eqb-false, ltb-true, ltb-false}
 use Rattle.base.specs.Below.{allBelow}
-use Rattle.base.proofs.Conds.{by-test, cond-cases, and-left, and-right, below-at}
+use Rattle.base.proofs.Conds.{by-test, cond-cases, is, and-left, and-right}
 use Rattle.base.proofs.ListLaws.{getD-map}
 use Rattle.base.proofs.Table.{every, at}
 use Rattle.wire.specs.declared.instances.Side.{Side}
-use Rattle.wire.specs.declared.instances.Side.the-variants.{Dialler, Accepter}
+use Rattle.wire.specs.declared.instances.Side.the-variants.{Dialler}
 use Rattle.wire.specs.declared.instances.Party.{Party}
 use Rattle.wire.specs.declared.instances.Route.{Route}
 use Rattle.wire.specs.declared.instances.Route.the-variants.{Unknown, Wrong, To}
-use Rattle.wire.specs.Instances.{Instance, Role, initiator, responder, ofSide, sided, bundles, known, bundleOf, instances, most, roleOf, protocolOf, modeOf, modeFrom, initiates, find, takes, orElse, routeOf, Within, otherOf, pairOf, OneWay}
+use Rattle.wire.specs.Instances.{Instance, Role, initiator, responder, ofSide, sided, bundles, known, bundleOf, instances, most, roleOf, protocolOf, modeOf, modeFrom, initiates, routeOf}
+use Rattle.wire.specs.Inside.{Within}
+use Rattle.wire.specs.Besides.Instances.{pairOf}
 use Rattle.wire.specs.Instances as instances
+use Rattle.wire.specs.Besides.Routes.{passing, wellFormed, OneWay}
 use Rattle.wire.specs.Inside.{numbers, markOf, byMode}
-
--- what stands past a bundle's end
-abbrev nobody : Instance
-nobody = record { protocol = 0; role = initiator }
+use Rattle.wire.proofs.RouteLaws.{nobody, fixed-role, to-low, wrong-low, any-bundle}
 
 -- ---- the bundles
-
-past-end : {A : Type 0} (d : A) (xs : List A) (k : ℕ) → length xs ≤ k → getD xs k d ≡ d
-past-end d [] k h = refl
-past-end d (x ∷ xs) zero h = absurd (omega arith)
-past-end d (x ∷ xs) (suc k) h = past-end d xs k (omega arith)
 
 -- an unknown bundle has no instances
 pub unknown-none : (b : ℕ) → length bundles ≤ b → bundleOf b ≡ []
 unfolding bundleOf
-unknown-none b h = past-end [] bundles b h
+unknown-none b h = List·getD-eq-default bundles [] h
 
 pub none-unknown : (b : ℕ) → length bundles ≤ b → instances b ≡ 0
 unfolding instances
@@ -83,95 +76,36 @@ unfolding instances few
 at-least b t =
     leb→le 2 (instances b) (and-right (leb (instances b) most) (leb 2 (instances b)) (of-bundles few all-few b (ltb-true b (length bundles) t)))
 
--- ---- the search
+-- ---- T5, the route
 
-module _ {A : Type 0} (f : A → Bool) (d : A) where
-  -- i is the place, counted from k, of an element that passes the test
-  abbrev pub Found : List A → ℕ → ℕ → Type 0
-  Found xs k i = (j : ℕ) × (i ≡ k + j) × (j < length xs) × (f (getD xs j d) ≡ true)
+-- every bundle is well formed; an unknown one has no instances
+all-formed : T (every [] (λ b. wellFormed) 0 bundles)
+unfolding wellFormed allBelow passing
+all-formed = tt
 
-  later : (x : A) (xs : List A) (k i : ℕ) → Found xs (suc k) i → Found (x ∷ xs) k i
-  later x xs k i (j, e, l, t) = (suc j, omega arith, omega arith, t)
+well-formed : (b : ℕ) → wellFormed (bundleOf b) ≡ true
+unfolding wellFormed allBelow
+well-formed b =
+    by-test (known b) (λ t. is (wellFormed (bundleOf b)) (of-bundles (λ b. wellFormed) all-formed b (ltb-true b (length bundles) t)))
+    (λ t. rw (unknown-none b (ltb-false b (length bundles) t)))
 
-  -- what is found passes the test
-  pub find-some : (xs : List A) (k i : ℕ) → find f k xs ≡ some i → Found xs k i
-  unfolding find
-  find-some [] k i e = absurd (let z : _≡_ {A = ℕ} 0 1 = cc in omega arith)
-  find-some (x ∷ xs) k i e =
-      by-test (f x) (λ t. let h : some k ≡ some i = rw t at e in let q : k ≡ i = cc in (0, omega arith, omega arith, t))
-      (λ t. later x xs k i (find-some xs (suc k) i (rw t at e)))
+pub one-way : (us : Party) → OneWay us
+unfolding routeOf pairOf instances
+one-way us = any-bundle (bundleOf (us .bundle)) (well-formed (us .bundle)) (us .side)
 
-  -- where nothing is found, nothing passes
-  pub find-none-all : (xs : List A) (k : ℕ) → find f k xs ≡ none → (j : ℕ) → j < length xs → f (getD xs j d) ≡ false
-  unfolding find
-  find-none-all [] k e j h = absurd (omega arith)
-  find-none-all (x ∷ xs) k e zero h = by-test (f x) (λ t. absurd (let q : some k ≡ none = rw t at e in let z : _≡_ {A = ℕ} 0 1 = cc in omega arith)) (λ t. t)
-  find-none-all (x ∷ xs) k e (suc j) h =
-      by-test (f x) (λ t. absurd (let q : some k ≡ none = rw t at e in let z : _≡_ {A = ℕ} 0 1 = cc in omega arith))
-      (λ t. find-none-all xs (suc k) (rw t at e) j (omega arith))
+-- a route leads to an instance, if to any
+within-at : (us : Party) (p m : ℕ) (r : Route) → routeOf us p m ≡ r → Within (us .bundle) r
+unfolding routeOf instances
+within-at us p m Unknown e = tt
+within-at us p m (Wrong i) e = wrong-low (bundleOf (us .bundle)) (us .side) p m i e
+within-at us p m (To i) e = to-low (bundleOf (us .bundle)) (us .side) p m i e
 
-  -- where nothing passes, nothing is found
-  pub find-none : (xs : List A) (k : ℕ) → ((j : ℕ) → j < length xs → f (getD xs j d) ≡ false) → find f k xs ≡ none
-  unfolding find
-  find-none [] k h = refl
-  find-none (x ∷ xs) k h = rw (h 0 (omega arith)) (find-none xs (suc k) (λ j l. h (suc j) (omega arith)))
-
--- ---- the table of rows
-
-same : Route → Route → Bool
-same Unknown Unknown = true
-same Unknown (Wrong j) = false
-same Unknown (To j) = false
-same (Wrong i) Unknown = false
-same (Wrong i) (Wrong j) = eqb i j
-same (Wrong i) (To j) = false
-same (To i) Unknown = false
-same (To i) (Wrong j) = false
-same (To i) (To j) = eqb i j
-
-are-same : (r q : Route) → T (same r q) → r ≡ q
-unfolding same
-are-same Unknown Unknown t = refl
-are-same Unknown (Wrong j) t = absurd t
-are-same Unknown (To j) t = absurd t
-are-same (Wrong i) Unknown t = absurd t
-are-same (Wrong i) (Wrong j) t = ap Wrong (eqb→eq i j t)
-are-same (Wrong i) (To j) t = absurd t
-are-same (To i) Unknown t = absurd t
-are-same (To i) (Wrong j) t = absurd t
-are-same (To i) (To j) t = ap To (eqb→eq i j t)
-
--- our end of a bundle, on one side
-abbrev party : Side → ℕ → Party
-party side b = record { bundle = b; side = side }
-
--- the instance that a route names, if any; both sides' routes name the same
-unfoldable pub named : Route → ℕ
-named Unknown = 255
-named (Wrong i) = i
-named (To i) = i
-
-unfoldable pub entry : ℕ → ℕ → ℕ → ℕ
-entry b p m = named (routeOf (party Dialler b) p m)
-
--- an entry is right: none for an unknown number, else an instance
-right : Party → ℕ → ℕ → Bool
-right us p m =
-    let e = entry (us .bundle) p m in
-    cond (eqb e 255) (same Unknown (routeOf us p m)) (ltb e (instances (us .bundle)) && same (byMode us m e) (routeOf us p m))
-
-rightly : Side → ℕ → Bool
-rightly side b = allBelow (λ p. allBelow (right (party side b) p) 2) numbers
-
-all-right : (side : Side) → T (allBelow (rightly side) (length bundles))
-unfolding allBelow rightly right entry named same routeOf byMode find bundleOf instances
-all-right Dialler = tt
-all-right Accepter = tt
+pub route-within : (us : Party) (p m : ℕ) → Within (us .bundle) (routeOf us p m)
+route-within us p m = within-at us p m (routeOf us p m) refl
 
 -- an unknown bundle knows no number
 pub no-bundle : (us : Party) (p m : ℕ) → length bundles ≤ us .bundle → Unknown ≡ routeOf us p m
-unfolding routeOf find
-no-bundle us p m h = rw (unknown-none (us .bundle) h)
+no-bundle us p m h = sym (one-way us .unknown p m .1 (λ i l q. omega (arith, none-unknown (us .bundle) h)))
 
 -- every protocol number of a bundle has a row
 numbered : ℕ → ℕ → Instance → Bool
@@ -184,6 +118,10 @@ all-numbered = tt
 pub protocol-row : (b i : ℕ) → i < instances b → protocolOf b i < numbers
 unfolding numbered
 protocol-row b i h = ltb→lt (protocolOf b i) numbers (of-instances numbered all-numbered b i h)
+
+-- a number past the table is unknown
+pub past : (us : Party) (p m : ℕ) → numbers ≤ p → Unknown ≡ routeOf us p m
+past us p m h = sym (one-way us .unknown p m .1 (λ i l q. omega (arith, protocol-row (us .bundle) i l)))
 
 -- ---- the tables of the code
 
@@ -204,9 +142,9 @@ byBundle w f = table (λ k. f (k / w) (k % w)) 0 (length bundles * w)
 
 by-bundle : {A : Type 0} (w : ℕ) (f : ℕ → ℕ → A) (d : A) (b i : ℕ) → b < length bundles → i < w → getD (byBundle w f) (b * w + i) d ≡ f b i
 by-bundle w f d b i here h =
-    let some : 0 < w = omega arith in
+    let wide : 0 < w = omega arith in
     let k : 0 + (b * w + i) ≡ b * w + i = omega arith in
-    let q : (b * w + i) / w ≡ b = mul-add-div-right some b i ∙ rw (div-eq-of-lt h) (add-zero b) in
+    let q : (b * w + i) / w ≡ b = mul-add-div-right wide b i ∙ rw (div-eq-of-lt h) (add-zero b) in
     let r : (b * w + i) % w ≡ i = mul-add-mod-self-right b w i ∙ mod-eq-of-lt h in
     let in-all : b * w + i < length bundles * w = omega (arith, mul-le-mul-right w here, suc-mul b w) in
     in-table (λ k. f (k / w) (k % w)) d 0 (length bundles * w) (b * w + i) in-all ∙ rw (k, q, r)
@@ -234,6 +172,19 @@ roles = byBundle most mark
 pub role-right : (b i : ℕ) → i < instances b → getD roles (b * most + i) 0 ≡ markOf (roleOf b i)
 role-right b i h = by-bundle most mark 0 b i (known-some b i h) (omega (arith, at-most b))
 
+-- the instance that a route names, if any
+unfoldable pub named : Route → ℕ
+named Unknown = 255
+named (Wrong i) = i
+named (To i) = i
+
+-- our end of a bundle as its dialler, whose routes the table is made of: the accepter's name the same instances
+abbrev dialler : ℕ → Party
+dialler b = record { bundle = b; side = Dialler }
+
+unfoldable pub entry : ℕ → ℕ → ℕ → ℕ
+entry b p m = named (routeOf (dialler b) p m)
+
 abbrev row : ℕ → ℕ → List ℕ
 row b p = entry b p 0 ∷ entry b p 1 ∷ []
 
@@ -245,34 +196,50 @@ route-right b p zero here low two = ap (λ (r : List ℕ). getD r 0 0) (by-bundl
 route-right b p (suc zero) here low two = ap (λ (r : List ℕ). getD r 1 0) (by-bundle numbers row [] b p here low)
 route-right b p (suc (suc m)) here low two = absurd (omega arith)
 
-module _ (us : Party) (p m : ℕ) (here : us .bundle < length bundles) (low : p < numbers) (two : m < 2) where
-  tested : T (right us p m)
-  unfolding rightly
-  tested =
-      let test = below-at (rightly (us .side)) (length bundles) (all-right (us .side)) (us .bundle) here in
-      below-at (right us p) 2 (below-at (λ q. allBelow (right us q) 2) numbers test p low) m two
+-- ---- the table of routes
 
-  -- what the code finds
-  abbrev e : ℕ
-  e = getD (getD routes (us .bundle * numbers + p) []) m 0
+pub mode-low : (us : Party) (i : ℕ) → modeOf us i < 2
+mode-low us i = cond-cases (λ (m : ℕ). m < 2) (initiates (us .side) (roleOf (us .bundle) i)) (λ t. omega arith) (λ t. omega arith)
 
-  is-entry : e ≡ entry (us .bundle) p m
-  is-entry = route-right (us .bundle) p m here low two
+module _ (us : Party) (p m : ℕ) (two : m < 2) where
+  abbrev b : ℕ
+  b = us .bundle
 
-  -- no instance: the number is unknown
-  pub none-known : e ≡ 255 → Unknown ≡ routeOf us p m
-  unfolding right
-  none-known q = are-same Unknown (routeOf us p m) (rw (eq-eqb (entry (us .bundle) p m) 255 (sym is-entry ∙ q)) at tested)
+  -- the mode decides at an instance that has the number, where that takes the segment or our role in it is our side's
+  mode-decides : (i : ℕ) → i < instances b → p ≡ protocolOf b i → (sided (roleOf b i) ≡ false → m ≡ 1 - modeOf us i) → byMode us m i ≡ routeOf us p m
+  unfolding byMode
+  mode-decides i l ep taken =
+      let low = mode-low us i in
+      cond-cases (λ (r : Route). r ≡ routeOf us p m) (eqb m (modeOf us i))
+      (λ t.
+      let em : m ≡ modeOf us i = eqb-true m (modeOf us i) t in
+      let ours = by-test (sided (roleOf b i)) (λ s. s) (λ s. absurd (let q = taken s in omega arith)) in
+      sym (one-way us .wrong p m i two .1 (l, ours, ep, em)))
+      (λ t. let em : m ≡ 1 - modeOf us i = omega (arith, eqb-false m (modeOf us i) t) in rw (ep, em) (sym (one-way us .reached i l)))
 
-  -- an instance: it is one, and the mode decides
-  pub one-known : (e ≡ 255 → ⊥) → (e < instances (us .bundle)) × (byMode us m e ≡ routeOf us p m)
-  unfolding right
-  one-known n =
-      let i = entry (us .bundle) p m in
-      let small = ltb i (instances (us .bundle)) in
-      let said = same (byMode us m i) (routeOf us p m) in
-      let t : T (small && said) = rw (ne-eqb i 255 (λ q. n (is-entry ∙ q))) at tested in
-      rw is-entry (ltb→lt i (instances (us .bundle)) (and-left small said t), are-same (byMode us m i) (routeOf us p m) (and-right small said t))
+  -- so the instance that the dialler's route names is that of ours
+  abbrev Decided : ℕ → Type 0
+  Decided e = (e ≡ 255 → Unknown ≡ routeOf us p m) × ((e ≡ 255 → ⊥) → (e < instances b) × (byMode us m e ≡ routeOf us p m))
+
+  named-decides : (r : Route) → routeOf (dialler b) p m ≡ r → Decided (named r)
+  unfolding named
+  named-decides Unknown e = (λ q. sym (one-way us .unknown p m .1 (one-way (dialler b) .unknown p m .0 e)), λ n. absurd (n refl))
+  named-decides (Wrong i) e =
+      let (l, s, ep, em) = one-way (dialler b) .wrong p m i two .0 e in
+      (λ q. absurd (omega (arith, at-most b)), λ n. (l, mode-decides i l ep (λ f. absurd (true≢false (sym s ∙ f)))))
+  named-decides (To i) e =
+      let l : i < instances b = within-at (dialler b) p m (To i) e in
+      let (ep, em) = one-way (dialler b) .only p m i e in
+      let taken : sided (roleOf b i) ≡ false → m ≡ 1 - modeOf us i =
+      λ f. em ∙ ap (λ (t : Bool). 1 - modeFrom t) (fixed-role Dialler (us .side) (roleOf b i) f) in
+      (λ q. absurd (omega (arith, at-most b)), λ n. (l, mode-decides i l ep taken))
+
+  -- what the code finds in its table
+  pub decided : (here : b < length bundles) (low : p < numbers) → Decided (getD (getD routes (b * numbers + p) []) m 0)
+  unfolding entry
+  decided here low = rw (route-right b p m here low two) (named-decides (routeOf (dialler b) p m) refl)
+
+-- ---- roles
 
 -- what the number of a role says
 pub role-sided : (r : Role) → eqb (markOf r) 2 ≡ sided r
@@ -293,222 +260,7 @@ role-side initiator e = absurd (omega arith)
 role-side responder e = absurd (omega arith)
 role-side ofSide e = refl
 
--- ---- T5, the route
-
-module _ (side : Side) where
-  reaches : ℕ → ℕ → Instance → Bool
-  reaches b i x = same (routeOf (party side b) (protocolOf b i) (1 - modeOf (party side b) i)) (To i)
-
-  arriving : ℕ → ℕ → Instance → Bool
-  arriving b i x = same (routeOf (otherOf (party side b)) (protocolOf b i) (modeOf (party side b) i)) (To (pairOf b i))
-
-all-reached : (side : Side) → T (every [] (each (reaches side)) 0 bundles)
-unfolding reaches same routeOf find bundleOf
-all-reached Dialler = tt
-all-reached Accepter = tt
-
-all-arrive : (side : Side) → T (every [] (each (arriving side)) 0 bundles)
-unfolding arriving same routeOf find pairOf bundleOf
-all-arrive Dialler = tt
-all-arrive Accepter = tt
-
-back : ℕ → ℕ → Instance → Bool
-back b i x = eqb (pairOf b (pairOf b i)) i
-
-all-back : T (every [] (each back) 0 bundles)
-unfolding back find pairOf bundleOf
-all-back = tt
-
-module _ (us : Party) where
-  abbrev b : ℕ
-  b = us .bundle
-
-  reached : (i : ℕ) → i < instances b → routeOf us (protocolOf b i) (1 - modeOf us i) ≡ To i
-  unfolding reaches
-  reached i h =
-      are-same (routeOf us (protocolOf b i) (1 - modeOf us i)) (To i) (of-instances (reaches (us .side)) (all-reached (us .side)) b i h)
-
-  arrives : (i : ℕ) → i < instances b → routeOf (otherOf us) (protocolOf b i) (modeOf us i) ≡ To (pairOf b i)
-  unfolding arriving
-  arrives i h =
-      are-same (routeOf (otherOf us) (protocolOf b i) (modeOf us i)) (To (pairOf b i))
-      (of-instances (arriving (us .side)) (all-arrive (us .side)) b i h)
-
-paired : (b i : ℕ) → i < instances b → pairOf b (pairOf b i) ≡ i
-unfolding back
-paired b i h = eqb→eq (pairOf b (pairOf b i)) i (of-instances back all-back b i h)
-
--- what a search, and then another, say of a route
-wrong-or-unknown : (o : Option ℕ) (i : ℕ) → orElse o Wrong Unknown ≡ To i → ⊥
-wrong-or-unknown (some j) i e = let z : _≡_ {A = ℕ} 0 1 = cc in omega arith
-wrong-or-unknown none i e = let z : _≡_ {A = ℕ} 0 1 = cc in omega arith
-
-found : (o q : Option ℕ) (i : ℕ) → orElse o To (orElse q Wrong Unknown) ≡ To i → o ≡ some i
-found (some j) q i e = cc
-found none q i e = absurd (wrong-or-unknown q i e)
-
-known-not : (o q : Option ℕ) → orElse o To (orElse q Wrong Unknown) ≡ Unknown → q ≡ none
-known-not (some j) q e = absurd (let z : _≡_ {A = ℕ} 0 1 = cc in omega arith)
-known-not none (some j) e = absurd (let z : _≡_ {A = ℕ} 0 1 = cc in omega arith)
-known-not none none e = refl
-
-wrong-found : (o q : Option ℕ) (i : ℕ) → orElse o To (orElse q Wrong Unknown) ≡ Wrong i → (o ≡ none) × (q ≡ some i)
-wrong-found (some j) q i e = absurd (let z : _≡_ {A = ℕ} 0 1 = cc in omega arith)
-wrong-found none (some j) i e = (refl, cc)
-wrong-found none none i e = absurd (let z : _≡_ {A = ℕ} 0 1 = cc in omega arith)
-
--- a mode is the one or the other
-one-mode : (m : ℕ) (b : Bool) → T (eqb m (modeFrom (not b))) → m ≡ 1 - modeFrom b
-one-mode m true t = eqb→eq m 1 t
-one-mode m false t = eqb→eq m 0 t
-
-other-mode : (m : ℕ) (b : Bool) → m < 2 → eqb m (modeFrom (not b)) ≡ false → m ≡ modeFrom b
-other-mode m true h e = omega (arith, eqb-false m 1 e)
-other-mode m false h e = omega (arith, eqb-false m 0 e)
-
--- where nothing was found, or an instance
-within-or : (b : ℕ) (o : Option ℕ) (r : Route) → ((i : ℕ) → o ≡ some i → i < instances b) → Within b r → Within b (orElse o Wrong r)
-within-or b none r f h = h
-within-or b (some i) r f h = f i refl
-
-module _ (us : Party) (p m : ℕ) where
-  abbrev ours : ℕ
-  ours = us .bundle
-
-  abbrev xs : List Instance
-  xs = bundleOf ours
-
-  -- an instance that has the number, and one that takes the segment
-  abbrev speaks : Instance → Bool
-  speaks x = eqb (x .protocol) p
-
-  abbrev hears : Instance → Bool
-  hears = takes (us .side) p m
-
-  abbrev initiating : ℕ → Bool
-  initiating j = initiates (us .side) (roleOf ours j)
-
-  -- a segment goes to i only where i takes it
-  only-there : (i : ℕ) → Found hears nobody xs 0 i → (p ≡ protocolOf ours i) × (m ≡ 1 - modeOf us i)
-  only-there i (j, q, l, t) =
-      let same-place : i ≡ j = omega arith in
-      let number = eqb (protocolOf ours j) p in
-      let mode = eqb m (modeFrom (not (initiating j))) in
-      let u : T (hears (instances.at ours j)) = rw t tt in
-      rw same-place (sym (eqb→eq (protocolOf ours j) p (and-left number mode u)), one-mode m (initiating j) (and-right number mode u))
-
-  only : (i : ℕ) → routeOf us p m ≡ To i → (p ≡ protocolOf ours i) × (m ≡ 1 - modeOf us i)
-  unfolding routeOf
-  only i e = only-there i (find-some hears nobody xs 0 i (found (find hears 0 xs) (find speaks 0 xs) i e))
-
-  -- an unknown number is that of no instance
-  abbrev Strange : Type 0
-  Strange = (i : ℕ) → i < instances ours → p ≡ protocolOf ours i → ⊥
-
-  strange : routeOf us p m ≡ Unknown → Strange
-  unfolding routeOf instances
-  strange e i h q =
-      let n : find speaks 0 xs ≡ none = known-not (find hears 0 xs) (find speaks 0 xs) e in
-      eqb-false (protocolOf ours i) p (find-none-all speaks nobody xs 0 n i h) (sym q)
-
-  nowhere : Strange → routeOf us p m ≡ Unknown
-  unfolding routeOf instances
-  nowhere h =
-      let no : (j : ℕ) → j < instances ours → eqb (protocolOf ours j) p ≡ false = λ j l. ne-eqb (protocolOf ours j) p (λ e. h j l (sym e)) in
-      rw (find-none hears nobody xs 0 (λ j l. rw (no j l)), find-none speaks nobody xs 0 no)
-
-  unknown : (routeOf us p m ≡ Unknown) ↔ Strange
-  unknown = (strange, nowhere)
-
-  -- a number past the table is unknown
-  pub past : numbers ≤ p → Unknown ≡ routeOf us p m
-  past h = sym (nowhere (λ i l q. omega (arith, protocol-row ours i l)))
-
-  -- a segment is wrong at i where i has its number, and nobody takes it
-  abbrev Wrongly : ℕ → Type 0
-  Wrongly i = (i < instances ours) × (p ≡ protocolOf ours i) × (m ≡ modeOf us i)
-
-  wrong-there : (i : ℕ) → m < 2 → find hears 0 xs ≡ none → Found speaks nobody xs 0 i → Wrongly i
-  unfolding instances
-  wrong-there i two nobody-takes (j, q, l, t) =
-      let same-place : i ≡ j = omega arith in
-      let n : hears (instances.at ours j) ≡ false = find-none-all hears nobody xs 0 nobody-takes j l in
-      let mode : eqb m (modeFrom (not (initiating j))) ≡ false = rw t at n in
-      rw same-place (l, sym (eqb→eq (protocolOf ours j) p (rw t tt)), other-mode m (initiating j) two mode)
-
-  wrong-at : (i : ℕ) → m < 2 → routeOf us p m ≡ Wrong i → Wrongly i
-  unfolding routeOf
-  wrong-at i two e =
-      let (takes-none, has) = wrong-found (find hears 0 xs) (find speaks 0 xs) i e in
-      wrong-there i two takes-none (find-some speaks nobody xs 0 i has)
-
-  -- a route leads to an instance, if to any
-  found-within : (f : Instance → Bool) (i : ℕ) → find f 0 xs ≡ some i → i < instances ours
-  unfolding instances
-  found-within f i e = let q = find-some f nobody xs 0 i e in omega (arith, q .1, q .2)
-
-  within : (o : Option ℕ) → find hears 0 xs ≡ o → Within ours (orElse o To (orElse (find speaks 0 xs) Wrong Unknown))
-  within (some i) e = found-within hears i e
-  within none e = within-or ours (find speaks 0 xs) Unknown (λ i q. found-within speaks i q) tt
-
-  pub route-within : Within ours (routeOf us p m)
-  unfolding routeOf
-  route-within = within (find hears 0 xs) refl
-
--- our own mode is wrong exactly where our role is our side's
-isWrong : Route → Bool
-isWrong Unknown = false
-isWrong (Wrong i) = true
-isWrong (To i) = false
-
-not-wrong : (r : Route) (i : ℕ) → T (not (isWrong r)) → r ≡ Wrong i → ⊥
-unfolding isWrong
-not-wrong r i t e = rw e at t
-
-abbrev ownRoute : Party → ℕ → Route
-ownRoute us i = routeOf us (protocolOf (us .bundle) i) (modeOf us i)
-
-wrongly : Side → ℕ → ℕ → Instance → Bool
-wrongly side b i x = let r = ownRoute (party side b) i in cond (sided (x .role)) (same r (Wrong i)) (not (isWrong r))
-
-all-wrong : (side : Side) → T (every [] (each (wrongly side)) 0 bundles)
-unfolding wrongly isWrong same routeOf find bundleOf
-all-wrong Dialler = tt
-all-wrong Accepter = tt
-
-module _ (us : Party) (i : ℕ) (h : i < instances (us .bundle)) where
-  abbrev role : Role
-  role = roleOf (us .bundle) i
-
-  own : Route
-  own = ownRoute us i
-
-  judged : T (cond (sided role) (same own (Wrong i)) (not (isWrong own)))
-  unfolding own wrongly
-  judged = of-instances (wrongly (us .side)) (all-wrong (us .side)) (us .bundle) i h
-
-  own-wrong : sided role ≡ true → own ≡ Wrong i
-  own-wrong t = are-same own (Wrong i) (rw t at judged)
-
-  wrong-sided : own ≡ Wrong i → sided role ≡ true
-  wrong-sided e = by-test (sided role) (λ t. t) (λ t. absurd (not-wrong own i (rw t at judged) e))
-
-wrong : (us : Party) (p m i : ℕ) → m < 2 → let b = us .bundle in
-    (routeOf us p m ≡ Wrong i) ↔ ((i < instances b) × (sided (roleOf b i) ≡ true) × (p ≡ protocolOf b i) × (m ≡ modeOf us i))
-unfolding own
-wrong us p m i two = (
-  λ e. let (h, ep, em) = wrong-at us p m i two e in (h, wrong-sided us i h (rw (ep, em) at e), ep, em),
-  λ (h, s, ep, em). rw (ep, em) (own-wrong us i h s),
-)
-
-pub one-way : (us : Party) → OneWay us
-one-way us =
-    record { reached = reached us; only = only us; unknown = unknown us; wrong = wrong us; arrives = arrives us; paired = paired (us .bundle) }
-
 -- ---- what a header can hold
-
-pub mode-low : (us : Party) (i : ℕ) → modeOf us i < 2
-mode-low us i = cond-cases (λ (m : ℕ). m < 2) (initiates (us .side) (roleOf (us .bundle) i)) (λ t. omega arith) (λ t. omega arith)
 
 pub protocol-low : (b i : ℕ) → i < instances b → protocolOf b i < 2 ^ 15
 protocol-low b i h = omega (arith, protocol-row b i h)

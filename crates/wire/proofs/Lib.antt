@@ -1,2 +1,3 @@
 pub mod SegmentLaws
+pub mod RouteLaws
 pub mod InstanceLaws

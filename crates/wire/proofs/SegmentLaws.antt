@@ -14,7 +14,9 @@ use Rattle.base.proofs.ListLaws.{sets-append}
 use Rattle.base.proofs.NumberLaws.{length-octets, number-octets, octets-number, number-below, bytes-take, bytes-drop}
 use Rattle.wire.specs.declared.segment.Segment.{Segment}
 use Rattle.wire.specs.declared.segment.Header.{Header}
-use Rattle.wire.specs.Segments.{headerLength, Fits, decoded, encoded, RoundTrip, added, Adds, Carried, Divided, in-header, in-payload, whole, DividedOnce}
+use Rattle.wire.specs.Segments.{headerLength, decoded, encoded, added, Carried, Divided, in-header, in-payload, whole}
+use Rattle.wire.specs.Inside.{Fits}
+use Rattle.wire.specs.Besides.Segments.{RoundTrip, Adds, DividedOnce}
 
 -- the three fields stored one after the other are the header
 pub stored : (l : List ℕ) (s : Segment)

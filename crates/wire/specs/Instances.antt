@@ -1,10 +1,8 @@
 -- Instances (document 01, "What the front holds" and "Segments"; document 02, K1).
-use Prim.Native.Nat.{ℕ, zero, suc, _<_, _-_}
-use mathlib.Core.Path.{_≡_}
+use Prim.Native.Nat.{ℕ, suc}
 use mathlib.Core.Bool.{Bool, true, false, cond, not, _&&_}
 use mathlib.Core.List.{List, [], _∷_, _++_}
-use mathlib.Core.Logic.{_↔_}
-use mathlib.Core.Option.{Option, none, some, Option·getD}
+use mathlib.Core.Option.{Option, none, some}
 use lib.Dec.{eqb, ltb, leb}
 use lib.ListN.{length, getD}
 use Rattle.wire.specs.declared.instances.Side.{Side}
@@ -28,8 +26,8 @@ sided responder = false
 sided ofSide = true
 
 -- our initiator of a protocol, and then our responder
-abbrev pub pair : ℕ → List Instance
-pair p = record { protocol = p; role = initiator } ∷ record { protocol = p; role = responder } ∷ []
+abbrev pub double : ℕ → List Instance
+double p = record { protocol = p; role = initiator } ∷ record { protocol = p; role = responder } ∷ []
 
 -- the dialler is initiator of a protocol, the accepter responder
 abbrev pub single : ℕ → List Instance
@@ -37,7 +35,7 @@ single p = record { protocol = p; role = ofSide } ∷ []
 
 -- Node to node. Nine instances: Handshake 0; then for Chain-Sync 2, Block-Fetch 3, TxSubmission 4 and Keep-alive 8 in turn, our initiator and our responder.
 abbrev pub nodeToNode : List Instance
-nodeToNode = single 0 ++ (pair 2 ++ (pair 3 ++ (pair 4 ++ pair 8)))
+nodeToNode = single 0 ++ (double 2 ++ (double 3 ++ (double 4 ++ double 8)))
 
 -- Node to client. Handshake 0, Chain-Sync 5, Local TxSubmission 6, Local State Query 7. The dialler has only initiators and the accepter only
 -- responders, so there are four instances, 0 to 3.
@@ -65,13 +63,17 @@ longest (xs ∷ xss) = let n = longest xss in cond (leb n (length xs)) (length x
 abbrev pub most : ℕ
 most = longest bundles
 
--- Handshake's
+-- Handshake's instance
 abbrev pub handshake : ℕ
 handshake = 0
 
--- what instance i is
+-- what instance i of a list is
+abbrev pub instanceIn : List Instance → ℕ → Instance
+instanceIn xs i = getD xs i (record { protocol = 0; role = initiator })
+
+-- and of a bundle
 abbrev pub at : ℕ → ℕ → Instance
-at b i = getD (bundleOf b) i (record { protocol = 0; role = initiator })
+at b i = instanceIn (bundleOf b) i
 
 abbrev pub protocolOf : ℕ → ℕ → ℕ
 protocolOf b i = at b i .protocol
@@ -90,9 +92,13 @@ initiates Accepter ofSide = false
 abbrev pub modeFrom : Bool → ℕ
 modeFrom initiates = cond initiates 0 1
 
--- the mode of what we send as instance i
+-- the mode of what our side sends as an instance
+abbrev pub modeAs : Side → Instance → ℕ
+modeAs side x = modeFrom (initiates side (x .role))
+
+-- and of what we send as instance i
 abbrev pub modeOf : Party → ℕ → ℕ
-modeOf us i = modeFrom (initiates (us .side) (roleOf (us .bundle) i))
+modeOf us i = modeAs (us .side) (at (us .bundle) i)
 
 -- Mode 0 is for our responder, mode 1 for our initiator.
 abbrev pub takes : Side → ℕ → ℕ → Instance → Bool
@@ -108,54 +114,13 @@ orElse (some i) found other = found i
 orElse none found other = other
 
 -- Protocol number and mode together choose the instance. A number that only an instance for the other mode has is wrong there.
-unfoldable pub routeOf : Party → ℕ → ℕ → Route
-routeOf us p m =
-    let xs = bundleOf (us .bundle) in
-    orElse (find (takes (us .side) p m) 0 xs) To (orElse (find (λ x. eqb (x .protocol) p) 0 xs) Wrong Unknown)
+abbrev pub routeIn : List Instance → Side → ℕ → ℕ → Route
+routeIn xs side p m = orElse (find (takes side p m) 0 xs) To (orElse (find (λ x. eqb (x .protocol) p) 0 xs) Wrong Unknown)
 
--- an instance of the bundle
-abbrev pub Within : ℕ → Route → Type 0
-Within b Unknown = Unit {0}
-Within b (Wrong i) = i < instances b
-Within b (To i) = i < instances b
+unfoldable pub routeOf : Party → ℕ → ℕ → Route
+routeOf us p m = routeIn (bundleOf (us .bundle)) (us .side) p m
 
 -- the other side
 abbrev pub other : Side → Side
 other Dialler = Accepter
 other Accepter = Dialler
-
--- the other party: the same bundle, from the other side
-abbrev pub otherOf : Party → Party
-otherOf us = record { bundle = us .bundle; side = other (us .side) }
-
--- an initiator talks with a responder, whichever side has which
-abbrev pub opposite : Role → Role → Bool
-opposite initiator initiator = false
-opposite initiator responder = true
-opposite initiator ofSide = false
-opposite responder initiator = true
-opposite responder responder = false
-opposite responder ofSide = false
-opposite ofSide initiator = false
-opposite ofSide responder = false
-opposite ofSide ofSide = true
-
--- the instance of the other side that instance i talks with: the same protocol in the opposite role
-unfoldable pub pairOf : ℕ → ℕ → ℕ
-pairOf b i = Option·getD (find (λ x. eqb (x .protocol) (protocolOf b i) && opposite (roleOf b i) (x .role)) 0 (bundleOf b)) 0
-
--- T5, the route, in any bundle. Every instance is reached by one protocol number and one mode, those that its other end sends with;
--- a number is unknown if and only if no instance has it; only a segment with the mode of our own side is wrong, for a protocol in which our
--- role is our side's (node to node, Handshake alone); and what one side sends as i arrives at the other side's instance that i talks with.
-module _ (us : Party) where
-  abbrev b : ℕ
-  b = us .bundle
-
-  pub record OneWay : Type 0 where
-    pub reached : (i : ℕ) → i < instances b → routeOf us (protocolOf b i) (1 - modeOf us i) ≡ To i
-    pub only : (p m i : ℕ) → routeOf us p m ≡ To i → (p ≡ protocolOf b i) × (m ≡ 1 - modeOf us i)
-    pub unknown : (p m : ℕ) → (routeOf us p m ≡ Unknown) ↔ ((i : ℕ) → i < instances b → p ≡ protocolOf b i → ⊥)
-    pub wrong : (p m i : ℕ) → m < 2
-        → (routeOf us p m ≡ Wrong i) ↔ ((i < instances b) × (sided (roleOf b i) ≡ true) × (p ≡ protocolOf b i) × (m ≡ modeOf us i))
-    pub arrives : (i : ℕ) → i < instances b → routeOf (otherOf us) (protocolOf b i) (modeOf us i) ≡ To (pairOf b i)
-    pub paired : (i : ℕ) → i < instances b → pairOf b (pairOf b i) ≡ i

@@ -1,3 +1,4 @@
 pub mod Segments
 pub mod Instances
+pub mod Besides
 pub mod Inside

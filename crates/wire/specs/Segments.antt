@@ -5,7 +5,7 @@ use mathlib.Core.Bool.{cond}
 use mathlib.Core.List.{List, [], _∷_, _++_}
 use lib.Dec.{ltb}
 use lib.ListN.{length, take, drop, set, replicate}
-use Rattle.base.specs.Numbers.{Bytes, number, octets}
+use Rattle.base.specs.Numbers.{number, octets}
 use Rattle.wire.specs.declared.segment.Segment.{Segment}
 use Rattle.wire.specs.declared.segment.Header.{Header}
 
@@ -22,33 +22,13 @@ decoded bs =
 unfoldable pub encoded : Segment → List ℕ
 encoded s = octets 4 (s .time) ++ (octets 2 (s .mode * 2 ^ 15 + s .protocol) ++ octets 2 (s .len))
 
--- what can be said in eight bytes
-pub record Fits (s : Segment) : Type 0 where
-  pub time : s .time < 2 ^ 32
-  pub mode : s .mode < 2
-  pub protocol : s .protocol < 2 ^ 15
-  pub len : s .len < 2 ^ 16
-
--- T5: reading what was written gives it back, and every eight bytes are those of what they say
-pub record RoundTrip : Type 0 where
-  pub read-written : (s : Segment) → Fits s → decoded (encoded s) ≡ s
-  pub written-read : (bs : List ℕ) → length bs ≡ headerLength → Bytes bs → Fits (decoded bs) × (encoded (decoded bs) ≡ bs)
-
 -- the header record with no byte yet
 abbrev pub empty : Header
 empty = record { bytes = replicate headerLength 0; count = 0 }
 
--- the bytes that have come
-abbrev pub came : Header → List ℕ
-came h = take (h .count) (h .bytes)
-
 -- one byte more; a whole record stays
 unfoldable pub added : Header → ℕ → Header
 added h b = cond (ltb (h .count) headerLength) (record { bytes = set (h .bytes) (h .count) b; count = h .count + 1 }) h
-
--- the bytes that have come, with one more, are those that had come with it behind them
-abbrev pub Adds : Type 0
-Adds = (h : Header) (b : ℕ) → length (h .bytes) ≡ headerLength → h .count < headerLength → came (added h b) ≡ came h ++ (b ∷ [])
 
 -- a whole segment: what its header says, and its payload
 pub record Carried : Type 0 where
@@ -61,8 +41,3 @@ pub data Divided : List ℕ → List Carried → List ℕ → Type 0 where
   in-payload : (h p : List ℕ) → length h ≡ headerLength → length p < decoded h .len → Divided (h ++ p) [] (h ++ p)
   whole : (h p : List ℕ) {bs left : List ℕ} {cs : List Carried} → length h ≡ headerLength → length p ≡ decoded h .len
       → Divided bs cs left → Divided (h ++ (p ++ bs)) (record { header = decoded h; payload = p } ∷ cs) left
-
--- a run of bytes is divided in one way
-abbrev pub DividedOnce : Type 0
-DividedOnce =
-    (xs left left′ : List ℕ) (cs cs′ : List Carried) → Divided xs cs left → Divided xs cs′ left′ → (cs ≡ cs′) × (left ≡ left′)

@@ -4,7 +4,8 @@
 ghost use mathlib.Core.Path.{_≡_};
 ghost use Prim.Native.Nat.{_+_, _*_, _<_, _≤_};
 ghost use lib.ListN.{length};
-ghost use Rattle.wire.specs.Instances.{ofSide, sided, bundles, known, instances, most, roleOf, protocolOf, initiates, modeFrom, modeOf, routeOf, Within};
+ghost use Rattle.wire.specs.Instances.{ofSide, sided, bundles, known, instances, most, roleOf, protocolOf, initiates, modeFrom, modeOf, routeOf};
+ghost use Rattle.wire.specs.Inside.{Within};
 ghost use Rattle.wire.specs.Inside.{numbers, markOf, byMode};
 
 // The bundles, by number: 0 node to node, 1 node to client.
@@ -140,13 +141,13 @@ pub fn mode(party: Party, i: usize) -> u8
     let role = role(party.bundle, i);
     if role == O {
         let side = party.side;
-        return of(side);
+        return side_mode(side);
     }
     role
 }
 
 // The mode of what our side sends.
-fn of(side: Side) -> u8
+fn side_mode(side: Side) -> u8
     ensures { λ r. ⌜ r ≡ modeFrom (initiates side ofSide) ⌝ }
 {
     match side {

@@ -6,7 +6,8 @@ ghost use lib.Dec.{leb};
 ghost use Prim.Native.Nat.{_≤_};
 ghost use lib.ListN.{length};
 ghost use lib.Seq.{sets};
-ghost use Rattle.wire.specs.Segments.{headerLength, empty, added, Fits, decoded, encoded};
+ghost use Rattle.wire.specs.Segments.{headerLength, empty, added, decoded, encoded};
+ghost use Rattle.wire.specs.Inside.{Fits};
 
 // How many bytes a header has.
 pub const HEADER: usize = 8;

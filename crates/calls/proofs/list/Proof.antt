@@ -8,10 +8,10 @@ use Rattle.calls.proofs.list.Statement.{statement}
 use Rattle.calls.proofs.list.Tie as tie
 
 abbrev Inv-loop : tie.InvT-loop
-Inv-loop line₀ w kind most words₀ at element₀ place₀ i₀ line words element place i = (i ≤ most) × (length line ≡ length line₀)
+Inv-loop line₀ w by kind most words₀ at element₀ place₀ i₀ line words element place i = (i ≤ most) × (length line ≡ length line₀)
 
 abbrev μ-loop : tie.MeasureT-loop
-μ-loop line₀ w kind most words₀ at element₀ place₀ i₀ line words element place i = most - i
+μ-loop line₀ w by kind most words₀ at element₀ place₀ i₀ line words element place i = most - i
 
 pub list-spec : {M : Type 1} → statement M
 list-spec =

@@ -8,13 +8,13 @@ use mathlib.Core.Logic.{⊎-elim}
 use native.Mathlib.Omega.{arith}
 use lib.ListN.{length}
 use borrow.Author.Needs.{needs}
-use Rattle.ring.specs.Ring.{around}
+use Rattle.ring.specs.Inside.{around}
 use Rattle.ring.proofs.Around.{around-length}
 use Rattle.moves.specs.Inside.Moves.{Stays, Downs, Skips}
 use Rattle.usual.specs.Inside.Pieces.{PieceAt}
 use Rattle.usual.proofs.Pieces.{pieces-none, pieces-later}
 use Rattle.usual.proofs.UsualMoves.{if-past, if-asks, if-opens, if-ends}
-use Rattle.cbor.specs.Walk.{walkOf}
+use Rattle.cbor.specs.Inside.Walk.{walkOf}
 use Rattle.cbor.proofs.Walking.{Under, if-stay, if-down, if-skip, begins, stays, downs, pops, whole, faults, lacks, skips}
 use Rattle.cbor.proofs.advance.Statement.{statement}
 use Rattle.cbor.proofs.advance.Tie as tie

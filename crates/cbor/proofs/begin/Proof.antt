@@ -2,7 +2,7 @@
 -- Assumes nothing.
 use mathlib.Core.Path.{refl}
 use Rattle.item.specs.Grammar.{nesting}
-use Rattle.cbor.specs.Walk.{firstAt}
+use Rattle.cbor.specs.Inside.Walk.{firstAt}
 use Rattle.cbor.proofs.Kept.{first-sound}
 use Rattle.cbor.proofs.begin.Statement.{statement}
 use Rattle.cbor.proofs.begin.Tie as tie

@@ -1,8 +1,8 @@
 -- `cbor::item_at` meets its contract: a walk that begins at the place comes to the verdict there.
 -- Assumes nothing.
 use borrow.Author.Needs.{needs}
-use Rattle.ring.specs.Ring.{around}
-use Rattle.cbor.specs.Walk.{firstAt}
+use Rattle.ring.specs.Inside.{around}
+use Rattle.cbor.specs.Inside.Walk.{firstAt}
 use Rattle.cbor.proofs.Kept.{first-sound, first-told}
 use Rattle.cbor.proofs.item_at.Statement.{statement}
 use Rattle.cbor.proofs.item_at.Tie as tie

@@ -4,7 +4,7 @@ use mathlib.Core.List.{List}
 use Rattle.item.specs.declared.Verdict.{Verdict}
 use Rattle.cbor.specs.declared.Stop.{Stop}
 use Rattle.cbor.specs.declared.Walk.{Walk}
-use Rattle.cbor.specs.Walk.{walkOf}
+use Rattle.cbor.specs.Inside.Walk.{walkOf}
 
 -- A stop by its parts.
 abbrev pub stopOf : Verdict → ℕ → ℕ → ℕ → ℕ → ℕ → ℕ → Stop

@@ -3,10 +3,10 @@
 use mathlib.Core.Path.{ap, _∙_}
 use native.Mathlib.Omega.{arith}
 use denote.Ref.{now}
-use Rattle.ring.specs.Ring.{around}
+use Rattle.ring.specs.Inside.{around}
 use Rattle.ring.proofs.Around.{around-length}
 use Rattle.elements.specs.Reading.{ended, itemEnd}
-use Rattle.elements.proofs.Steps.{item-past}
+use Rattle.elements.proofs.ElementLaws.{item-past}
 use borrow.Author.Needs.{needs}
 use Rattle.elements.proofs.item_end.Statement.{statement}
 use Rattle.elements.proofs.item_end.Tie as tie

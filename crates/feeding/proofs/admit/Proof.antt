@@ -4,7 +4,8 @@ use mathlib.Core.Path.{sym, ap, subst, _∙_}
 use Prim.Native.Nat.{_<_}
 use native.Mathlib.Omega.{arith}
 use denote.Ref.{now}
-use Rattle.wire.specs.Instances.{instances, Within}
+use Rattle.wire.specs.Instances.{instances}
+use Rattle.wire.specs.Inside.{Within}
 use Rattle.wire.proofs.InstanceLaws.{at-most}
 use Rattle.wire.specs.declared.instances.Route.{Route}
 use Rattle.feeding.specs.Feeding.{admitted}

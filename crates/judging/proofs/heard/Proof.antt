@@ -5,13 +5,13 @@ use mathlib.Core.Bool.{cond, false}
 use mathlib.Core.List.{List}
 use Prim.Native.Nat.{ℕ}
 use lib.Dec.{eqb}
-use Rattle.ring.specs.Ring.{around}
+use Rattle.ring.specs.Inside.{around}
 use Rattle.ring.proofs.Around.{around-length}
 use Rattle.item.specs.Verdict.{verdict}
 use Rattle.rows.specs.declared.Protocol.{Protocol}
 use Rattle.rows.specs.Rows.{doneOf}
 use Rattle.judging.specs.Judging.{View, spoken, oursNow, barred, unjudged, byVerdict}
-use Rattle.judging.specs.Hearing.{refusal, no-accept, our-turn}
+use Rattle.judging.specs.Besides.Hearing.{refusal, no-accept, our-turn}
 use Rattle.judging.proofs.JudgingLaws.{ours-spoken}
 use Rattle.judging.proofs.HearingLaws.{heard-exactly, heard-done, awaited-so}
 use borrow.Author.Needs.{needs}

@@ -3,7 +3,7 @@
 use mathlib.Core.Path.{sym, _∙_}
 use mathlib.Core.List.{List}
 use Prim.Native.Nat.{ℕ}
-use Rattle.ring.specs.Ring.{around}
+use Rattle.ring.specs.Inside.{around}
 use Rattle.ring.proofs.Around.{around-length}
 use Rattle.judging.proofs.JudgingLaws.{judged-wrong, judged-read}
 use borrow.Author.Needs.{needs}

@@ -9,7 +9,7 @@ use borrow.Author.Tests.{ne-eqb}
 use Rattle.item.specs.declared.Verdict.{Verdict}
 use Rattle.item.specs.Verdict.{verdict}
 use Rattle.messages.specs.Reading.{wholly}
-use Rattle.ring.specs.Ring.{around}
+use Rattle.ring.specs.Inside.{around}
 use Rattle.ring.proofs.Around.{around-all}
 use Rattle.judging.specs.Judging.{judgedOf}
 use Rattle.judging.proofs.JudgingLaws.{judged-not-one}

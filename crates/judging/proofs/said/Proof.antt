@@ -4,7 +4,7 @@ use mathlib.Core.Path.{_≡_, sym, ap, _∙_}
 use mathlib.Core.Bool.{false}
 use Rattle.rows.specs.declared.Protocol.{Protocol}
 use Rattle.judging.specs.Judging.{View, oursNow, barred, unjudged, judgedOf}
-use Rattle.judging.specs.Saying.{refusal, closed, no-accept, not-our-turn}
+use Rattle.judging.specs.Besides.Saying.{refusal, closed, no-accept, not-our-turn}
 use Rattle.judging.proofs.JudgingLaws.{ours-spoken}
 use Rattle.judging.proofs.SayingLaws.{said-exactly, said-bytes}
 use borrow.Author.Needs.{needs}

@@ -3,7 +3,7 @@
 use mathlib.Core.Path.{ap}
 use Prim.Native.Nat.{ℕ, _+_}
 use native.Mathlib.Omega.{arith}
-use Rattle.head.specs.Write.{lengthOf}
+use Rattle.head.specs.Inside.{lengthOf}
 use borrow.Author.Needs.{needs}
 use Rattle.layout.proofs.heads.Statement.{statement}
 use Rattle.layout.proofs.heads.Tie as tie

@@ -5,7 +5,8 @@ use Prim.Native.Nat.{ℕ, _+_}
 use native.Mathlib.Omega.{arith}
 use lib.Seq.{sets}
 use mathlib.Core.List.{_++_}
-use Rattle.head.specs.Write.{lengthOf, shortest}
+use Rattle.head.specs.Inside.{lengthOf}
+use Rattle.head.specs.Write.{shortest}
 use Rattle.messages.specs.Inside.{formAt}
 use Rattle.elements.specs.Matching.{array}
 use Rattle.layout.specs.Inside.{bodyOf}

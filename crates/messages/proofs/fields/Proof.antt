@@ -8,10 +8,10 @@ use denote.Ref.{now}
 use mathlib.Core.List.{List}
 use lib.ListN.{length, drop}
 use borrow.Author.Tests.{eqb-true}
-use Rattle.ring.specs.Ring.{around}
-use Rattle.ring.proofs.Around.{around-length}
+use Rattle.ring.specs.Inside.{around}
 use Rattle.messages.specs.declared.Message.{Message}
-use Rattle.elements.specs.Matching.{ItemsAt, inMessage}
+use Rattle.elements.specs.Besides.Matching.{ItemsAt}
+use Rattle.elements.specs.Matching.{inMessage}
 use Rattle.messages.specs.Matching.{begun}
 use Rattle.messages.specs.Reading.{fieldsOf}
 use Rattle.rows.specs.Inside.{entries}
@@ -111,8 +111,7 @@ loop-again c =
     let w = c .before .before .before .before .before .part-at .result in
     let said = c .with-part .ensures in
     let few = with-count (l .message) w (l .i) (l .inv .1 .numbers) (l .inv .1 .places) in
-    let long = around-length (now (a .s)) (a .from) (a .n) (omega arith) in
-    let here = part-item bs (c .before .before .before .before .before .before .field-at .result) (l .at) (omega (arith, l .inv .1 .left .forward)) (c .before .before .before .before .before .part-at .ensures) (c .before .before .before .before .behind-of .ensures) (c .before .before .e .given .1) in
+    let here = part-item bs (c .before .before .before .before .before .before .field-at .result) (l .at) (c .before .before .before .before .before .part-at .ensures) (c .before .before .before .before .behind-of .ensures) (c .before .before .e .given .1) in
     let k : length fs - l .i - 1 ≡ length fs - (l .i + 1) = omega arith in (
       omega arith,
       record {

@@ -4,9 +4,10 @@ use Prim.Native.Nat.{ℕ, _+_, _-_}
 use mathlib.Core.Path.{_≡_, ap, subst, sym, _∙_}
 use lib.ListN.{length}
 use denote.Ref.{now}
-use Rattle.ring.specs.Ring.{around}
+use Rattle.ring.specs.Inside.{around}
 use native.Mathlib.Omega.{arith}
-use Rattle.elements.specs.Matching.{ItemsAt, inMessage}
+use Rattle.elements.specs.Besides.Matching.{ItemsAt}
+use Rattle.elements.specs.Matching.{inMessage}
 use Rattle.messages.specs.Inside.{formAt}
 use Rattle.messages.proofs.FieldLaws.{count-right, count-wrong}
 use borrow.Author.Needs.{needs}

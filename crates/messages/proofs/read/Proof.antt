@@ -3,11 +3,12 @@
 use Prim.Native.Nat.{ℕ}
 use mathlib.Core.Path.{sym, ap, subst, _∙_}
 use denote.Ref.{now}
-use Rattle.ring.specs.Ring.{around}
+use Rattle.ring.specs.Inside.{around}
 use Rattle.ring.proofs.Around.{around-length}
 use native.Mathlib.Omega.{arith}
 use Rattle.item.specs.declared.Verdict.the-variants.{Whole}
-use Rattle.elements.specs.Matching.{ItemsAt, inMessage}
+use Rattle.elements.specs.Besides.Matching.{ItemsAt}
+use Rattle.elements.specs.Matching.{inMessage}
 use Rattle.messages.proofs.FieldLaws.{array-left, message-array, message-none}
 use borrow.Author.Needs.{needs}
 use Rattle.messages.proofs.read.Statement.{statement}

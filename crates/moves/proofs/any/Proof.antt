@@ -5,7 +5,7 @@ use native.Mathlib.Omega.{arith}
 use borrow.Author.Needs.{needs}
 use Rattle.head.specs.Initial.{initial}
 use Rattle.head.proofs.ReadLaws.{long-small}
-use Rattle.ring.specs.Ring.{around}
+use Rattle.ring.specs.Inside.{around}
 use Rattle.ring.proofs.Around.{around-length}
 use Rattle.moves.proofs.AnyHead.{lacks, no-reserved}
 use Rattle.moves.proofs.any.Statement.{statement}

@@ -6,7 +6,7 @@ use mathlib.Core.Bool.{true}
 use native.Mathlib.Omega.{arith}
 use borrow.Author.Needs.{needs}
 use Rattle.item.specs.Grammar.{content}
-use Rattle.ring.specs.Ring.{around}
+use Rattle.ring.specs.Inside.{around}
 use Rattle.moves.specs.Inside.Frames.{mayBegin}
 use Rattle.moves.specs.Inside.Moves.{Asked}
 use Rattle.ring.proofs.Around.{around-length}

@@ -2,7 +2,7 @@
 -- Assumes nothing.
 use native.Mathlib.Omega.{arith}
 use borrow.Author.Needs.{needs}
-use Rattle.ring.specs.Ring.{around}
+use Rattle.ring.specs.Inside.{around}
 use Rattle.ring.proofs.Around.{around-length}
 use Rattle.moves.proofs.AnyHead.{no-simple, simple-cut, simple-low, simple-high}
 use Rattle.moves.proofs.simple.Statement.{statement}

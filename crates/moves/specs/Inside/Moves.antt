@@ -15,7 +15,7 @@ use Rattle.item.specs.Verdict.{Stack, push}
 use Rattle.moves.specs.declared.Level.{Level}
 use Rattle.moves.specs.declared.Move.{Move}
 use Rattle.moves.specs.declared.Move.the-variants.{Stay, Down, Skip, Fault, Lack}
-use Rattle.moves.specs.Levels.{frameOf, tell, Good}
+use Rattle.moves.specs.Inside.Levels.{frameOf, tell, Good}
 use Rattle.moves.specs.Inside.Frames.{kept, roomFor, mayBegin}
 
 -- A head at the place `at` takes us to the place p, from a stack to a stack.

@@ -1,21 +1,15 @@
--- `parts::of_number` meets its contract: each kind of field has its own limit.
+-- `parts::of_number` meets its contract: a number has its limit, and a bool is 0 or 1.
 -- Assumes nothing.
 use Rattle.parts.proofs.PartLaws.{number-by}
 use borrow.Author.Needs.{needs}
 use Rattle.parts.proofs.of_number.Statement.{statement}
 use Rattle.parts.proofs.of_number.Tie as tie
 
-returns-5 : tie.Need-returns-5
-returns-5 c = number-by _ (c .before .enum-told5 .given .1) (c .argument-if .ensures)
+returns-3 : tie.Need-returns-3
+returns-3 c = number-by _ (c .before .before .f .given .1) (c .argument-if .ensures)
 
-returns-6 : tie.Need-returns-6
-returns-6 c = number-by _ (c .before .enum-told6 .given .1) (c .bool-argument .ensures)
-
-returns-7 : tie.Need-returns-7
-returns-7 c = number-by _ (c .before .enum-told7 .given .1) (c .argument-if2 .ensures)
-
-returns-8 : tie.Need-returns-8
-returns-8 c = number-by _ (c .before .enum-told8 .given .1) (c .argument-if3 .ensures)
+returns-4 : tie.Need-returns-4
+returns-4 c = number-by _ (c .before .enum-told3 .given .1) (c .bool-argument .ensures)
 
 pub of-number-spec : {M : Type 1} → statement M
 of-number-spec =
@@ -24,20 +18,10 @@ of-number-spec =
     (λ c. search needs)
     (λ c. search needs)
     (λ c. search needs)
-    (λ c. search needs)
-    (λ c. search needs)
-    (λ c κs. search needs)
-    (λ c. search needs)
-    (λ c κs. search needs)
-    (λ c. search needs)
     (λ c κs. search needs)
     (λ c. search needs)
     (λ c κs. search needs)
     (λ c. search needs)
     (λ c. search needs)
-    (λ c. search needs)
-    (λ c. search needs)
-    returns-5
-    returns-6
-    returns-7
-    returns-8)
+    returns-3
+    returns-4)

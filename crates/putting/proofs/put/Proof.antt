@@ -9,7 +9,8 @@ use lib.ListN.{length, getD}
 use lib.Seq.{take-length}
 use borrow.Author.Tests.{not-true, not-false, leb-true}
 use Rattle.wire.specs.Instances.{instances, handshake}
-use Rattle.range.specs.Ranges.{inRange, sends, InSend}
+use Rattle.range.specs.Ranges.{inRange, sends}
+use Rattle.range.specs.Besides.Ranges.{InSend}
 use Rattle.range.proofs.RangeLaws.{sends-is}
 use Rattle.judging.specs.Judging.{viewOf, said}
 use Rattle.putting.specs.Inside.{Waits}

@@ -11,7 +11,8 @@ use Rattle.wire.proofs.InstanceLaws.{at-most, at-least, known-some}
 use Rattle.connection.specs.declared.Sending.{Sending}
 use Rattle.connection.specs.Closings.{isOpen}
 use Rattle.connection.specs.Parts.{withSending}
-use Rattle.range.specs.Ranges.{inRange, sends, InSend}
+use Rattle.range.specs.Ranges.{inRange, sends}
+use Rattle.range.specs.Besides.Ranges.{InSend}
 use Rattle.range.proofs.RangeLaws.{ranged, sends-both, sends-is}
 use Rattle.range.proofs.StoreLaws.{send-area}
 use Rattle.ready.specs.declared.Choice.{Choice}

@@ -7,7 +7,8 @@ use native.Mathlib.Omega.{arith}
 use lib.ListN.{length, getD}
 use borrow.Author.Tests.{not-true, not-false}
 use Rattle.wire.specs.Instances.{instances}
-use Rattle.range.specs.Ranges.{inRange, receives, InReceive}
+use Rattle.range.specs.Ranges.{inRange, receives}
+use Rattle.range.specs.Besides.Ranges.{InReceive}
 use Rattle.range.proofs.RangeLaws.{receives-is}
 use Rattle.judging.specs.declared.Judged.{Judged}
 use Rattle.judging.specs.Judging.{heard}

@@ -6,7 +6,7 @@ use native.Mathlib.Omega.{arith}
 use Prim.Native.Nat.{ℕ, _+_, _%_, _<_}
 use lib.ListN.{length, getD}
 use borrow.Author.Needs.{needs}
-use Rattle.ring.specs.Ring.{around}
+use Rattle.ring.specs.Inside.{around}
 use Rattle.ring.proofs.Around.{around-length}
 use Rattle.usual.proofs.Pieces.{spot-here, spot-byte}
 use Rattle.usual.proofs.UsualHeads.{width-most, is-break, pass-number, pass-simple}

@@ -9,7 +9,7 @@ use Rattle.head.specs.Initial.{initial}
 use Rattle.head.specs.declared.Initial.the-variants.{Break}
 use Rattle.item.specs.Grammar.{Frame, nesting}
 use Rattle.item.specs.Verdict.{push}
-use Rattle.moves.specs.Levels.{frameOf}
+use Rattle.moves.specs.Inside.Levels.{frameOf}
 use Rattle.moves.specs.Inside.Frames.{kept, Wants}
 use Rattle.moves.specs.Inside.Moves.{Goes}
 use Rattle.usual.specs.declared.Quick.{Quick}

@@ -5,7 +5,7 @@ use Prim.Native.Nat.{ℕ, _+_}
 use native.Mathlib.Omega.{arith}
 use borrow.Author.Needs.{needs}
 use denote.Ref.{now}
-use Rattle.ring.specs.Ring.{around}
+use Rattle.ring.specs.Inside.{around}
 use Rattle.ring.proofs.Around.{around-length}
 use Rattle.head.specs.declared.read.Head.the-variants.{Definite}
 use Rattle.head.proofs.ReadLaws.{long-here, long-short}

@@ -8,7 +8,8 @@ use denote.Ref.{now}
 use lib.ListN.{length}
 use Rattle.base.specs.Numbers.{spelled, number}
 use Rattle.base.proofs.NumberLaws.{number-more, room, grows}
-use Rattle.ring.specs.Ring.{run, around}
+use Rattle.ring.specs.Ring.{run}
+use Rattle.ring.specs.Inside.{around}
 use Rattle.ring.proofs.Around.{around-length}
 use Rattle.head.proofs.read.number_at.Statement.{statement}
 use Rattle.head.proofs.read.number_at.Tie as tie

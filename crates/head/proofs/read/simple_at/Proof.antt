@@ -6,7 +6,7 @@ use native.Mathlib.Omega.{arith}
 use borrow.Author.Needs.{needs}
 use denote.Ref.{now}
 use lib.ListN.{getD}
-use Rattle.ring.specs.Ring.{around}
+use Rattle.ring.specs.Inside.{around}
 use Rattle.ring.proofs.Around.{around-length}
 use Rattle.head.specs.declared.read.Head.the-variants.{Definite}
 use Rattle.head.proofs.ReadLaws.{simple-here, simple-bad, simple-short}

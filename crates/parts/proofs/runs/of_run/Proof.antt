@@ -1,4 +1,4 @@
--- `parts::runs::of_run` meets its contract: each kind of field has its own elements.
+-- `parts::runs::of_run` meets its contract: an item, or elements.
 -- Assumes nothing.
 use Rattle.parts.proofs.RunLaws.{run-by}
 use borrow.Author.Needs.{needs}
@@ -9,13 +9,7 @@ returns : tie.Need-returns
 returns c = run-by _ (c .before .enum-told .given .1) (c .one-item .ensures)
 
 returns-2 : tie.Need-returns-2
-returns-2 c = run-by _ (c .before .enum-told2 .given .1) (c .count .ensures)
-
-returns-3 : tie.Need-returns-3
-returns-3 c = run-by _ (c .before .enum-told3 .given .1) (c .count2 .ensures)
-
-returns-4 : tie.Need-returns-4
-returns-4 c = run-by _ (c .before .enum-told4 .given .1) (c .count3 .ensures)
+returns-2 c = run-by _ (c .before .before .f .given .1) (c .count .ensures)
 
 pub of-run-spec : {M : Type 1} → statement M
 of-run-spec =
@@ -26,18 +20,8 @@ of-run-spec =
     (λ c. search needs)
     (λ c κs. search needs)
     (λ c. search needs)
-    (λ c κs. search needs)
-    (λ c. search needs)
-    (λ c κs. search needs)
-    (λ c. search needs)
-    (λ c. search needs)
-    (λ c. search needs)
     (λ c. search needs)
     returns
     returns-2
-    returns-3
-    returns-4
-    (λ c. search needs)
-    (λ c. search needs)
     (λ c. search needs)
     (λ c. search needs))

@@ -5,7 +5,7 @@ use mathlib.Core.Path.{_∙_}
 use native.Mathlib.Omega.{arith}
 use borrow.Author.Needs.{needs}
 use Rattle.wire.specs.Instances.{bundleOf, find, routeOf}
-use Rattle.wire.proofs.InstanceLaws.{table, named, entry, no-bundle, past, none-known, one-known, at-most}
+use Rattle.wire.proofs.InstanceLaws.{table, named, entry, no-bundle, past, decided, at-most}
 use Rattle.wire.proofs.instances.find.Statement.{statement}
 use Rattle.wire.proofs.instances.find.Tie as tie
 
@@ -19,26 +19,26 @@ returns-3 : tie.Need-returns-3
 unfolding table entry named routeOf find bundleOf
 returns-3 c =
     let a = c .before .before .before .before .before .args in
-    (none-known (a .party) (a .protocol) (a .mode) (search needs) (search needs) (search needs) (c .if3 .taken), tt)
+    (decided (a .party) (a .protocol) (a .mode) (search needs) (search needs) (search needs) .0 (c .if3 .taken), tt)
 
 cast-by-mode : tie.Need-cast-by-mode
 unfolding table entry named routeOf find bundleOf
 cast-by-mode c =
     let a = c .before .before .before .before .before .args in
-    let low = one-known (a .party) (a .protocol) (a .mode) (search needs) (search needs) (search needs) (c .if3 .left) .0 in
+    let low = decided (a .party) (a .protocol) (a .mode) (search needs) (search needs) (search needs) .1 (c .if3 .left) .0 in
     record { fits = omega (arith, at-most (a .party .bundle)) }
 
 by-mode-requires : tie.Need-by-mode-requires
 unfolding table entry named routeOf find bundleOf
 by-mode-requires c κs =
     let a = c .before .before .before .before .before .args in
-    one-known (a .party) (a .protocol) (a .mode) (search needs) (search needs) (search needs) (c .if3 .left) .0
+    decided (a .party) (a .protocol) (a .mode) (search needs) (search needs) (search needs) .1 (c .if3 .left) .0
 
 returns-4 : tie.Need-returns-4
 unfolding table entry named routeOf find bundleOf
 returns-4 c =
     let a = c .before .before .before .before .before .before .args in
-    let known = one-known (a .party) (a .protocol) (a .mode) (search needs) (search needs) (search needs) (c .before .if3 .left) in
+    let known = decided (a .party) (a .protocol) (a .mode) (search needs) (search needs) (search needs) .1 (c .before .if3 .left) in
     (c .by-mode .ensures .0 ∙ known .1, c .by-mode .ensures .1)
 
 pub find-spec : {M : Type 1} → statement M

@@ -7,7 +7,7 @@ use Rattle.wire.proofs.instances.mode.Statement.{statement}
 use Rattle.wire.proofs.instances.mode.Tie as tie
 
 returns : tie.Need-returns
-returns c = rw (role-side _ (sym (c .before .before .role .ensures) ∙ c .before .if1 .taken)) (c .of .ensures)
+returns c = rw (role-side _ (sym (c .before .before .role .ensures) ∙ c .before .if1 .taken)) (c .side-mode .ensures)
 
 returns-2 : tie.Need-returns-2
 returns-2 c =

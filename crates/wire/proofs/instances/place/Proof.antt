@@ -1,4 +1,4 @@
--- `wire::instances::place` meets its contract: an instance is one of the nine that a bundle has at the most.
+-- `wire::instances::place` meets its contract: a bundle has no more instances than its part of the table has places.
 -- Assumes nothing.
 use native.Mathlib.Omega.{arith}
 use borrow.Author.Needs.{needs}

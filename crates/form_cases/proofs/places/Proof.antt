@@ -1,0 +1,37 @@
+-- `form_cases::places` is safe and ends: the index stays below two.
+-- Assumes nothing.
+use Prim.Native.Nat.{_-_, _≤_}
+use borrow.Author.Needs.{needs}
+use Rattle.form_cases.proofs.places.Statement.{statement}
+use Rattle.form_cases.proofs.places.Tie as tie
+
+abbrev Inv-loop : tie.InvT-loop
+Inv-loop places parts i₀ t5 t6 i = i ≤ 2
+
+abbrev μ-loop : tie.MeasureT-loop
+μ-loop places parts i₀ t5 t6 i = 2 - i
+
+pub places-spec : {M : Type 1} → statement M
+places-spec =
+    tie.close
+    (tie.spec
+    Inv-loop
+    μ-loop
+    (λ c. search needs)
+    (λ c. search needs)
+    (λ c κs. search needs)
+    (λ c. search needs)
+    (λ c. search needs)
+    (λ c. search needs)
+    (λ c κs. search needs)
+    (λ c. search needs)
+    (λ c κs. search needs)
+    (λ c. search needs)
+    (λ c. search needs)
+    (λ c. search needs)
+    (λ c. search needs)
+    (λ c κs. search needs)
+    (λ c. search needs)
+    (λ c. search needs)
+    (λ c. search needs)
+    (λ c. search needs))
