@@ -20,6 +20,7 @@
 PATHS(front)
 PATHS(plain)
 extern size_t cbor_end(const uint8_t *, size_t, size_t);
+extern uint64_t front_reply(const uint8_t *, size_t, uint8_t *, size_t, const uint8_t *, size_t, uint64_t);
 
 enum { CAPACITY = 131072, STORE = 9 * CAPACITY, HEADER = 8, FETCHES = 3, SERVES = 4, RUNS = 31 };
 enum { FEED, NEXT, TAKE, PUT, WAY };
@@ -269,6 +270,54 @@ static void row(const struct work *w)
         printf("| |\n");
 }
 
+/* A ReplyTxIds of so many pairs of a 32-byte id and a size: message array, list and pairs all definite, or all indefinite. */
+static size_t reply(uint8_t *b, size_t pairs, int open)
+{
+    const uint8_t definite[] = { 0x82, 1, 0x99, pairs >> 8, pairs }, indefinite[] = { 0x9f, 1, 0x9f };
+    size_t at = open ? sizeof indefinite : sizeof definite;
+    memcpy(b, open ? indefinite : definite, at);
+    for (size_t k = 0; k < pairs; k++) {
+        b[at++] = open ? 0x9f : 0x82;
+        b[at++] = 0x58;
+        b[at++] = 32;
+        for (size_t j = 0; j < 32; j++)
+            b[at++] = j * 7 + k;
+        b[at++] = 0x19;
+        b[at++] = 0x12;
+        b[at++] = k;
+        if (open)
+            b[at++] = 0xff;
+    }
+    if (open) {
+        b[at++] = 0xff;
+        b[at++] = 0xff;
+    }
+    return at;
+}
+
+static void reply_row(void)
+{
+    enum { PAIRS = 1000, TIMES = 20 };
+    const double bound = 1.4;
+    size_t size[] = { reply(message, PAIRS, 0), reply(buf, PAIRS, 1) };
+    const uint8_t *bytes[] = { message, buf };
+    double least[2];
+    for (int r = 0; r < RUNS; r++)
+        for (int open = 0; open < 2; open++) {
+            double begun = now();
+            uint64_t n = front_reply(receive, STORE, sending, STORE, bytes[open], size[open], TIMES);
+            double t = now() - begun;
+            if (n != size[open]) {
+                printf("a ReplyTxIds of %d pairs is not put\n", PAIRS);
+                exit(1);
+            }
+            if (r == 0 || t < least[open])
+                least[open] = t;
+        }
+    printf("| put, a ReplyTxIds of 1,000 pairs, all indefinite | | | | at most %g × the same all definite: %.2f | %s |\n", bound, least[1] / least[0],
+           least[1] <= bound * least[0] ? "yes" : "no");
+}
+
 static void growth(int k)
 {
     double small[WAYS], large[WAYS];
@@ -298,5 +347,6 @@ int main(int argc, char **argv)
     }
     for (size_t k = 0; k < n; k++)
         row(works + k);
+    reply_row();
     return 0;
 }

@@ -29,18 +29,24 @@ const CAPACITY: u64 = 131072;
 
 const LIMIT: u64 = 65535;
 
-// Block-Fetch as initiator and as responder, its state Streaming; Keep-alive as initiator and as responder.
+// Block-Fetch as initiator and as responder, its state Streaming; TxSubmission as initiator, its state Blocking; Keep-alive as
+// initiator and as responder.
 const FETCHES: usize = 3;
 
 const SERVES: usize = 4;
 
 const STREAMING: u64 = 2;
 
+const REPLIES: usize = 5;
+
+const BLOCKING: u64 = 2;
+
 const ASKS: u64 = 7;
 
 const ANSWERS: u64 = 8;
 
-// An opened connection whose Handshake ended in Accept and whose Block-Fetch streams; all else is in its first state.
+// An opened connection whose Handshake ended in Accept, whose Block-Fetch streams and which is asked for transaction ids; all else is in
+// its first state.
 fn talking(side: Side, limit: u64, receive: &[u8], send: &[u8]) -> Connection {
     let caps = [CAPACITY; INSTANCES];
     let party = Party { bundle: 0, side };
@@ -55,6 +61,7 @@ fn talking(side: Side, limit: u64, receive: &[u8], send: &[u8]) -> Connection {
     states[HANDSHAKE] = rows::done(Protocol::Handshake);
     states[FETCHES] = STREAMING;
     states[SERVES] = STREAMING;
+    states[REPLIES] = BLOCKING;
     let talk = Talk {
         states,
         accepted: true,
@@ -210,6 +217,22 @@ pub extern "C" fn front_put(receive: &[u8], send: &mut [u8], message: &[u8], tim
     let sending = last.sending;
     let waiting = sending.waiting;
     at(waiting, SERVES)
+}
+
+// Puts transaction ids, each time from open on. Hands back what waits then.
+#[no_mangle]
+pub extern "C" fn front_reply(receive: &[u8], send: &mut [u8], message: &[u8], times: u64) -> u64 {
+    let c = talking(Side::Dialler, LIMIT, receive, send);
+    let mut last = c;
+    let mut left = times;
+    while 0 < left {
+        let q = put(c, send, REPLIES as u64, message);
+        last = q.connection;
+        left -= 1;
+    }
+    let sending = last.sending;
+    let waiting = sending.waiting;
+    at(waiting, REPLIES)
 }
 
 // A message put, and its segment made.

@@ -38,38 +38,38 @@ use Rattle.build.proofs.PlanLaws.{lent, plan-makes, plan-long, all-lent
 at-most-two : (runs : ℕ) (first second : List ℕ) → allGiven runs first second ≡ true → runs ≤ 2
 at-most-two runs first second g = leb-true runs 2 (is (leb runs 2) (and-left (leb runs 2) _ (so (allGiven runs first second) g)))
 
-module _ (ns : List ℕ) (runs : ℕ) (first second : List ℕ) (kind : ℕ) (fs : List Field) where
+module _ (asked : Bool) (ns : List ℕ) (runs : ℕ) (first second : List ℕ) (kind : ℕ) (fs : List Field) where
   -- arguments first, and bytes then
   plan-whole : runs ≤ 2 → length fs ≤ 3
-      → onSome (made fs ns (lent first second runs)) (λ ys. some (shortest array (length fs + 1) ++ (shortest 0 kind ++ ys)))
-      ≡ madeBy ns runs first second fs kind
+      → onSome (made asked fs ns (lent first second runs)) (λ ys. some (shortest array (length fs + 1) ++ (shortest 0 kind ++ ys)))
+      ≡ madeBy asked ns runs first second fs kind
   unfolding madeBy
   plan-whole two few =
       ap (λ (o : Option (List ℕ)). onSome o (λ ys. some (shortest array (length fs + 1) ++ (shortest 0 kind ++ ys))))
-      (plan-makes ns runs first second two fs 0 0 0 nothing (omega arith) (omega arith) (omega arith))
+      (plan-makes asked ns runs first second two fs 0 0 0 nothing (omega arith) (omega arith) (omega arith))
       ∙ of (planned ns runs first second fs 0 0 0 nothing)
     where
       of : (o : Option (List ℕ))
-          → onSome (onSome o (λ args. some (bodyOf first second fs args 0 0)))
+          → onSome (onSome o (λ args. some (bodyOf asked first second fs args 0 0)))
           (λ ys. some (shortest array (length fs + 1) ++ (shortest 0 kind ++ ys)))
-          ≡ onSome o (λ args. some (wholeOf first second fs kind args))
+          ≡ onSome o (λ args. some (wholeOf asked first second fs kind args))
       of none = refl
       of (some args) = refl
 
   -- it is as long as its heads and all runs
   pub heads-and-runs : (args : List ℕ) → allGiven runs first second ≡ true → planned ns runs first second fs 0 0 0 nothing ≡ some args
-      → HeadsAndRuns first second fs kind args
+      → HeadsAndRuns asked first second fs kind args
   heads-and-runs args g e =
-      let body = subst (Found (λ _. length (bodyOf first second fs args 0 0) ≡ _)) e
-      (plan-long ns runs first second (at-most-two runs first second g) fs args) in
-      omega (arith, whole-long first second fs kind args, all-lent runs first second g)
+      let body = subst (Found (λ _. length (bodyOf asked first second fs args 0 0) ≡ _)) e
+      (plan-long asked ns runs first second (at-most-two runs first second g) fs args) in
+      omega (arith, whole-long asked first second fs kind args, all-lent runs first second g)
 
 -- ---- handing it over
 
-module _ (first second : List ℕ) (fs : List Field) (kind : ℕ) (args buf : List ℕ) (e : HeadsAndRuns first second fs kind args) {heads : ℕ}
-    (h : heads ≡ allHeads fs kind args) where
+module _ (asked : Bool) (first second : List ℕ) (fs : List Field) (kind : ℕ) (args buf : List ℕ) (e : HeadsAndRuns asked first second fs kind args) {heads : ℕ}
+    (h : heads ≡ allHeads asked fs kind args) where
   abbrev whole : List ℕ
-  whole = wholeOf first second fs kind args
+  whole = wholeOf asked first second fs kind args
 
   abbrev need : ℕ
   need = heads + (length first + length second)
@@ -92,24 +92,24 @@ module _ (first second : List ℕ) (fs : List Field) (kind : ℕ) (args buf : Li
 
 -- ---- the parts of a form
 
-module _ (ns : List ℕ) (runs : ℕ) (first second : List ℕ) (kind : ℕ) (fs : List Field) (p : Plan)
+module _ (asked : Bool) (ns : List ℕ) (runs : ℕ) (first second : List ℕ) (kind : ℕ) (fs : List Field) (p : Plan)
     (e : planOf p ≡ planned ns runs first second fs 0 0 0 nothing) where
-  pub unplanned : p .made ≡ false → madeBy ns runs first second fs kind ≡ none
+  pub unplanned : p .made ≡ false → madeBy asked ns runs first second fs kind ≡ none
   unfolding madeBy
   unplanned t = rw (← e, t)
 
   pub plan-is : p .made ≡ true → planned ns runs first second fs 0 0 0 nothing ≡ some (p .arguments)
   plan-is t = sym e ∙ rw t
 
-  pub planned-so : p .made ≡ true → some (wholeOf first second fs kind (p .arguments)) ≡ madeBy ns runs first second fs kind
+  pub planned-so : p .made ≡ true → some (wholeOf asked first second fs kind (p .arguments)) ≡ madeBy asked ns runs first second fs kind
   unfolding madeBy
   planned-so t = rw (plan-is t)
 
 -- ---- a kind, and its row
 
-module _ (p : Protocol) (kind : ℕ) (ns : List ℕ) (runs : ℕ) (first second : List ℕ) where
+module _ (p : Protocol) (kind : ℕ) (asked : Bool) (ns : List ℕ) (runs : ℕ) (first second : List ℕ) where
   abbrev message : Option (List ℕ)
-  message = bytesOf p kind ns runs first second
+  message = bytesOf p kind asked ns runs first second
 
   pub kind-not-given : allGiven runs first second ≡ false → message ≡ none
   unfolding bytesOf given
@@ -120,17 +120,17 @@ module _ (p : Protocol) (kind : ℕ) (ns : List ℕ) (runs : ℕ) (first second 
     unfolding bytesOf given encoded
     kind-unknown e = rw (g, subst (Finds p kind) e found)
 
-    pub kind-known : (row : ℕ) → w ≡ Row row → madeBy ns runs first second (formAt row .fields) kind ≡ message
+    pub kind-known : (row : ℕ) → w ≡ Row row → madeBy asked ns runs first second (formAt row .fields) kind ≡ message
     unfolding bytesOf given encoded
     kind-known row e =
         let row-found : Finds p kind (Row row) = subst (Finds p kind) e found in
         sym
         (rw (g, row-found .1)
-        (plan-whole ns runs first second kind (formAt row .fields) (at-most-two runs first second g) (at-most row (row-found .0))))
+        (plan-whole asked ns runs first second kind (formAt row .fields) (at-most-two runs first second g) (at-most row (row-found .0))))
 
 -- ---- the bundle, and its instance
 
-pub build-spoken : (bundle instance kind : ℕ) (ns : List ℕ) (runs : ℕ) (first second buf : List ℕ) → known bundle ≡ true → instance < instances bundle
-    → handed buf (bytesOf (speaks bundle instance) kind ns runs first second) ≡ buildOf bundle instance kind ns runs first second buf
+pub build-spoken : (bundle instance kind : ℕ) (asked : Bool) (ns : List ℕ) (runs : ℕ) (first second buf : List ℕ) → known bundle ≡ true → instance < instances bundle
+    → handed buf (bytesOf (speaks bundle instance) kind asked ns runs first second) ≡ buildOf bundle instance kind asked ns runs first second buf
 unfolding buildOf
-build-spoken bundle instance kind ns runs first second buf k low = sym (rw (k, lt-ltb instance (instances bundle) low))
+build-spoken bundle instance kind asked ns runs first second buf k low = sym (rw (k, lt-ltb instance (instances bundle) low))

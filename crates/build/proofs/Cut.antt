@@ -1,11 +1,11 @@
 -- What stands in the whole stands in the run cut out around it, as many places earlier as there are bytes in front.
 -- Assumes nothing.
-use Prim.Native.Nat.{ℕ, _+_, _-_, _≤_}
-use mathlib.Core.Path.{_≡_, sym, ap, subst, _∙_}
+use Prim.Native.Nat.{ℕ, _+_, _-_, _≤_, _<_}
+use mathlib.Core.Path.{_≡_, refl, sym, ap, subst, _∙_}
 use mathlib.Core.List.{List, _++_}
 use native.Mathlib.Omega.{arith}
-use lib.ListN.{length, drop, take-append-drop}
-use lib.Seq.{drop-drop, drop-append-le}
+use lib.ListN.{length, getD, drop, take-append-drop, List·getD-append}
+use lib.Seq.{drop-drop, drop-append-le, getD-drop}
 use Rattle.ring.specs.Ring.{run}
 use Rattle.ring.proofs.Runs.{run-length}
 use Rattle.head.specs.Read.{headAt}
@@ -14,8 +14,11 @@ use Rattle.head.proofs.ReadLaws.{definite-within, head-front, head-behind}
 use Rattle.item.specs.Grammar.{Frame, Reads}
 use Rattle.item.proofs.Local.{shorter}
 use Rattle.elements.specs.declared.Element.{Element}
-use Rattle.elements.specs.Besides.Matching.{Stands, ElementAt, an-item, a-pair, a-version, ElementsAt, no-element, an-element}
-use Rattle.elements.proofs.ElementLaws.{advance, elements-on}
+use Rattle.elements.specs.declared.Extent.{Extent}
+use Rattle.elements.specs.declared.Extent.the-variants.{Counted, Open, Rest}
+use Rattle.elements.specs.Besides.Matching.{Stands, Opens, Closes, ElementAt, an-item, a-pair, a-version, ElementsAt, no-element, an-element}
+use Rattle.elements.specs.Matching.{array, past}
+use Rattle.elements.proofs.ElementLaws.{opens-within, past-inside, advance, elements-on}
 
 -- the run from place a up to place e
 module _ (bs : List ℕ) (a e : ℕ) (h : a ≤ e) (l : e ≤ length bs) where
@@ -57,14 +60,43 @@ module _ (bs : List ℕ) (a e : ℕ) (h : a ≤ e) (l : e ≤ length bs) where
             (subst (Reads d f (drop p bs)) (drop-cut q (omega arith) to) (s .reads)));
       }
 
+  byte-cut : (p : ℕ) {b : ℕ} → a ≤ p → p < e → getD bs p 0 ≡ b → getD part (p - a) 0 ≡ b
+  byte-cut p {b} from to f =
+      let there : a + (p - a) ≡ p = omega arith in
+      sym (List·getD-append part (drop e bs) 0 (p - a) (omega (arith, long)))
+      ∙ ap (λ (l : List ℕ). getD l (p - a) 0) (sym behind)
+      ∙ getD-drop a bs (p - a) 0
+      ∙ ap (λ (n : ℕ). getD bs n 0) there
+      ∙ f
+
+  opens-cut : (m p : ℕ) (x : Extent) {b : ℕ} → a ≤ p → b ≤ e → Opens bs m p x b → Opens part m (p - a) x (b - a)
+  opens-cut m p (Counted k) from to o = head-cut from to o
+  opens-cut m p Open from to (f, n) = (byte-cut p from (omega arith) f, omega arith)
+  opens-cut m p Rest from to o = absurd o
+
+  closes-cut : (m p b : ℕ) (x : Extent) (k : ℕ) {q : ℕ} → a ≤ q → past x q ≤ e → Opens bs m p x b → Closes bs x k q → Closes part x k (q - a)
+  closes-cut m p b (Counted n) k from to o c = c
+  closes-cut m p b Open k {q} from to o c = byte-cut q from (omega arith) c
+  closes-cut m p b Rest k from to o c = absurd o
+
+  past-cut : (x : Extent) (q : ℕ) → a ≤ q → past x (q - a) ≡ past x q - a
+  past-cut (Counted n) q from = refl
+  past-cut Open q from = omega arith
+  past-cut Rest q from = refl
+
   element-cut : {d : ℕ} {el : Element} {low p next q : ℕ} → a ≤ p → q ≤ e → ElementAt bs d el low p next q → ElementAt part d el low (p - a) next (q - a)
   element-cut from to (an-item i) = an-item (cut from to i)
-  element-cut from to (a-pair {p = p} {b = b} o i u less) =
-      let w = definite-within bs p o in
+  element-cut {d} {el} {low} {p} {next} from to (a-pair {a = first} {b = b} {q = q} x o i u less c) =
+      let w = opens-within bs array p x (omega arith) o in
       let w′ = definite-within bs b u in
-      a-pair (head-cut from (omega (arith, i .forward, w′ .0)) o) (cut (omega (arith, w .0)) (omega (arith, w′ .0)) i)
-      (head-cut (omega (arith, w .0, i .forward)) to u)
+      let end = past-inside bs x 2 (w′ .1) c in
+      let on : q ≤ e = omega (arith, end .0) in
+      let behind-p : a ≤ q = omega (arith, w .0, i .forward, w′ .0) in
+      subst (λ (r : ℕ). ElementAt part d el low (p - a) next r) (past-cut x q behind-p)
+      (a-pair x (opens-cut array p x from (omega (arith, i .forward, w′ .0)) o) (cut (omega (arith, w .0)) (omega (arith, w′ .0)) i)
+      (head-cut (omega (arith, w .0, i .forward)) on u)
       less
+      (closes-cut array p first x 2 behind-p to o c))
   element-cut from to (a-version {p = p} u low high i) =
       let w = definite-within bs p u in
       a-version (head-cut from (omega (arith, i .forward)) u) low high (cut (omega (arith, w .0)) to i)

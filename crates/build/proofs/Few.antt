@@ -1,5 +1,5 @@
--- What is small of a form: its kind is at most 9, and it has no more than three fields, of which no more than two are given by runs; its numbers
--- are below 2^32.
+-- What is small of a form: its kind is at most 9, and it has no more than three fields, of which no more than two are given by runs and no more than
+-- one is a list; its numbers are below 2^32.
 -- Each holds of every row of the tables, and so of what is found in one.
 -- Assumes nothing.
 use Prim.Native.Nat.{ℕ, zero, suc, _^_, _≤_}
@@ -21,12 +21,18 @@ use Rattle.elements.specs.Besides.Matching.{Value, FieldAt}
 use Rattle.messages.specs.Besides.Matching.{FieldsAt, no-field, a-field}
 use Rattle.elements.specs.Besides.Matching as matching
 use Rattle.parts.specs.Given.{numeric}
+use Rattle.layout.specs.Inside.{openIn}
 use Rattle.build.specs.Besides.Theorem.{runsOf}
 
 -- how many fields are given by runs
 pub runsIn : List Field → ℕ
 runsIn [] = zero
 runsIn (f ∷ fs) = cond (numeric f) (runsIn fs) (suc (runsIn fs))
+
+-- how many fields are lists, which may be asked for of indefinite length
+unfoldable pub listsIn : List Field → ℕ
+listsIn [] = zero
+listsIn (f ∷ fs) = cond (openIn true f) (suc (listsIn fs)) (listsIn fs)
 
 -- the limit of a field that is a number
 abbrev pub Low : Field → Type 0
@@ -44,6 +50,7 @@ pub record Few (kind : ℕ) (fs : List Field) : Type 0 where
   pub fields : length fs ≤ 3
   pub runs : runsIn fs ≤ 2
   pub limits : AllLow fs
+  pub lists : listsIn fs ≤ 1
 
 -- the same as a test, and of all rows
 low : Field → Bool
@@ -57,7 +64,7 @@ all-low [] = true
 all-low (f ∷ fs) = low f && all-low fs
 
 few : ℕ → List Field → Bool
-few k fs = leb k 9 && (leb (length fs) 3 && (leb (runsIn fs) 2 && all-low fs))
+few k fs = leb k 9 && (leb (length fs) 3 && (leb (runsIn fs) 2 && (all-low fs && leb (listsIn fs) 1)))
 
 all-few : List Form → Bool
 all-few [] = true
@@ -78,13 +85,19 @@ are-low (f ∷ fs) t = (is-low f (and-left (low f) (all-low fs) t), are-low fs (
 is-few : (k : ℕ) (fs : List Field) → T (few k fs) → Few k fs
 unfolding few
 is-few k fs t =
-    let u = and-right (leb k 9) (leb (length fs) 3 && (leb (runsIn fs) 2 && all-low fs)) t in
-    let v = and-right (leb (length fs) 3) (leb (runsIn fs) 2 && all-low fs) u in
+    let kinds : Bool = leb k 9 in
+    let fields : Bool = leb (length fs) 3 in
+    let runs : Bool = leb (runsIn fs) 2 in
+    let lists : Bool = leb (listsIn fs) 1 in
+    let u = and-right kinds (fields && (runs && (all-low fs && lists))) t in
+    let v = and-right fields (runs && (all-low fs && lists)) u in
+    let w = and-right runs (all-low fs && lists) v in
     record {
-      kinds = leb→le k 9 (and-left (leb k 9) (leb (length fs) 3 && (leb (runsIn fs) 2 && all-low fs)) t);
-      fields = leb→le (length fs) 3 (and-left (leb (length fs) 3) (leb (runsIn fs) 2 && all-low fs) u);
-      runs = leb→le (runsIn fs) 2 (and-left (leb (runsIn fs) 2) (all-low fs) v);
-      limits = are-low fs (and-right (leb (runsIn fs) 2) (all-low fs) v);
+      kinds = leb→le k 9 (and-left kinds (fields && (runs && (all-low fs && lists))) t);
+      fields = leb→le (length fs) 3 (and-left fields (runs && (all-low fs && lists)) u);
+      runs = leb→le (runsIn fs) 2 (and-left runs (all-low fs && lists) v);
+      limits = are-low fs (and-left (all-low fs) lists w);
+      lists = leb→le (listsIn fs) 1 (and-right (all-low fs) lists w);
     }
 
 few-in : (k : ℕ) (l : List Form) {fs : List Field} → T (all-few l) → formIn k l ≡ some fs → Few k fs
@@ -100,7 +113,7 @@ few-in k (f ∷ l) {fs} t =
     (λ _. few-in k l (and-right (few (f .kind) (f .fields)) (all-few l) t))
 
 each-few : (p : Protocol) → T (all-few (forms p))
-unfolding all-few few runsIn all-low low
+unfolding all-few few runsIn listsIn all-low low
 each-few = each-protocol (λ p. all-few (forms p)) tt
 
 pub form-few : (p : Protocol) (kind : ℕ) {fs : List Field} → formOf p kind ≡ some fs → Few kind fs
@@ -111,7 +124,7 @@ one-more : (bs : List ℕ) {f : Field} {p q : ℕ} {x : Value} (fs : List Field)
     → length (runsOf bs xs) ≡ runsIn fs → length (runsOf bs (x ∷ xs)) ≡ runsIn (f ∷ fs)
 unfolding runsIn
 one-more bs fs xs (matching.item i) e = ap suc e
-one-more bs fs xs (matching.list o s) e = ap suc e
+one-more bs fs xs (matching.list x o s c) e = ap suc e
 one-more bs fs xs (matching.below u l) e = e
 one-more bs fs xs (matching.false b) e = e
 one-more bs fs xs (matching.true b) e = e

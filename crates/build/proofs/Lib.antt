@@ -5,6 +5,7 @@ pub mod MadeBytes
 pub mod Written
 pub mod Pieces
 pub mod Theorem
+pub mod OneForm
 pub mod Rebuilt
 pub mod PlanLaws
 pub mod BuildLaws

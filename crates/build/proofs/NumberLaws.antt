@@ -3,7 +3,7 @@
 -- Assumes nothing.
 use Prim.Native.Nat.{ℕ, zero, suc, _+_, _-_, _^_, _<_, _≤_}
 use mathlib.Core.Path.{_≡_, refl, sym, ap, subst, subst⁻¹, _∙_}
-use mathlib.Core.Bool.{true, false, true≢false}
+use mathlib.Core.Bool.{Bool, true, false, true≢false}
 use mathlib.Core.List.{List, [], _∷_, _++_}
 use mathlib.Core.Logic.{_↔_}
 use mathlib.Core.Option.{Option, none, some}
@@ -32,6 +32,7 @@ use Rattle.build.proofs.Few.{form-few, runs-counted}
 use Rattle.build.proofs.MadeBytes.{AllBytes, encoded-bytes}
 use Rattle.build.proofs.Pieces.{message-made}
 use Rattle.build.proofs.Theorem.{read-back}
+use Rattle.build.proofs.Rebuilt.{rebuilds as made-again-of}
 
 -- what holds of no runs, of the first and of both holds of those given
 given-each : (P : List (List ℕ) → Type 0) (runs : ℕ) (first second : List ℕ) → P [] → P (first ∷ []) → P (first ∷ second ∷ [])
@@ -60,12 +61,12 @@ two-given (r ∷ []) h = (1, r, [], refl)
 two-given (r ∷ (s ∷ [])) h = (2, r, s, refl)
 two-given (r ∷ (s ∷ (t ∷ rs))) h = absurd (omega arith)
 
-module _ (bundle i kind : ℕ) (ns : List ℕ) (runs : ℕ) (first second buf : List ℕ) where
+module _ (bundle i kind : ℕ) (asked : Bool) (ns : List ℕ) (runs : ℕ) (first second buf : List ℕ) where
   abbrev out : Told
-  out = buildOf bundle i kind ns runs first second buf
+  out = buildOf bundle i kind asked ns runs first second buf
 
   abbrev message : Option (List ℕ)
-  message = bytesOf (speaks bundle i) kind ns runs first second
+  message = bytesOf (speaks bundle i) kind asked ns runs first second
 
   abbrev number : ℕ
   number = out .answer .number
@@ -111,7 +112,7 @@ module _ (bundle i kind : ℕ) (ns : List ℕ) (runs : ℕ) (first second buf : 
   apart bs e q = let z : _≡_ {A = ℕ} 0 1 = cc in omega arith
 
   -- where the "when" of a number holds, it is answered; and one holds
-  answered : {n : ℕ} → When bundle i kind ns runs first second buf n → number ≡ n
+  answered : {n : ℕ} → When bundle i kind asked ns runs first second buf n → number ≡ n
   unfolding buildOf
   answered (unknown-bundle k) = numbered 23 (rw k)
   answered (no-instance k h) = numbered 10 (rw (k, le-ltb i (instances bundle) h))
@@ -119,7 +120,7 @@ module _ (bundle i kind : ℕ) (ns : List ℕ) (runs : ℕ) (first second buf : 
   answered (no-room {bs = bs} h e l) = numbered 18 (rw (has h, lt-ltb i (instances bundle) h, e, lt-ltb (length buf) (length bs) l))
   answered (done {bs = bs} h e l) = zeroed bs (rw (has h, lt-ltb i (instances bundle) h, e, le-ltb (length buf) (length bs) l))
 
-  when : Way → (n : ℕ) × When bundle i kind ns runs first second buf n
+  when : Way → (n : ℕ) × When bundle i kind asked ns runs first second buf n
   when (foreign k e) = (23, unknown-bundle k)
   when (above k h e) = (10, no-instance k h)
   when (unmade h m e) = (15, makes-none h m)
@@ -128,16 +129,16 @@ module _ (bundle i kind : ℕ) (ns : List ℕ) (runs : ℕ) (first second buf : 
 
   -- the bytes are a message that says these parts, with own heads as short as can be
   abbrev Back : List ℕ → Option (List (List ℕ)) → Type 0
-  Back bs o = (xs : List Value) × (m : Matches (speaks bundle i) bs kind xs) × (numbersOf xs ≡ ns) × (o ≡ some (runsOf bs xs)) × OwnLeast m
+  Back bs o = (xs : List Value) × (m : Matches (speaks bundle i) bs kind xs) × (numbersOf xs ≡ ns) × (o ≡ some (runsOf bs xs)) × OwnLeast asked m
 
   -- the message that was made of these runs
-  back-by : (o : Option (List (List ℕ))) (bs : List ℕ) → Found Slices o → onSome o (λ rs. encoded (speaks bundle i) kind ns rs) ≡ some bs → Back bs o
+  back-by : (o : Option (List (List ℕ))) (bs : List ℕ) → Found Slices o → onSome o (λ rs. encoded (speaks bundle i) kind asked ns rs) ≡ some bs → Back bs o
   back-by none bs fit e = absurd (let z : _≡_ {A = ℕ} 0 1 = cc in omega arith)
-  back-by (some rs) bs fit e = let r = read-back (speaks bundle i) kind ns rs bs fit e in (r .0, r .1, r .2, ap some (sym (r .3)), r .4)
+  back-by (some rs) bs fit e = let r = read-back (speaks bundle i) kind asked ns rs bs fit e in (r .0, r .1, r .2, ap some (sym (r .3)), r .4)
 
-  bytes-by : (o : Option (List (List ℕ))) (bs : List ℕ) → Found AllBytes o → onSome o (λ rs. encoded (speaks bundle i) kind ns rs) ≡ some bs → Bytes bs
+  bytes-by : (o : Option (List (List ℕ))) (bs : List ℕ) → Found AllBytes o → onSome o (λ rs. encoded (speaks bundle i) kind asked ns rs) ≡ some bs → Bytes bs
   bytes-by none bs fit e = absurd (let z : _≡_ {A = ℕ} 0 1 = cc in omega arith)
-  bytes-by (some rs) bs fit e = subst (Found Bytes) e (encoded-bytes (speaks bundle i) kind ns rs fit)
+  bytes-by (some rs) bs fit e = subst (Found Bytes) e (encoded-bytes (speaks bundle i) kind asked ns rs fit)
 
   -- no bytes are a message that says these parts
   abbrev Nothing : Type 0
@@ -148,7 +149,7 @@ module _ (bundle i kind : ℕ) (ns : List ℕ) (runs : ℕ) (first second buf : 
   none-made : message ≡ none → Nothing
   unfolding bytesOf
   none-made e bs xs bytes m n g =
-      let again = message-made bs (speaks bundle i) bytes m in
+      let again = message-made bs asked (speaks bundle i) bytes m in
       let same : message ≡ some (again .0) = rw (g, ← n) (again .1) in
       apart (again .0) same e
 
@@ -217,38 +218,34 @@ module _ (bundle i kind : ℕ) (ns : List ℕ) (runs : ℕ) (first second buf : 
         )
 
 pub exactly : Exactly
-exactly bundle i kind ns runs first second buf n =
-    let (k, w) = when bundle i kind ns runs first second buf (way bundle i kind ns runs first second buf) in
-    let is : (n : ℕ) → When bundle i kind ns runs first second buf n → buildOf bundle i kind ns runs first second buf .answer .number ≡ n =
-    λ n v. answered bundle i kind ns runs first second buf v in
-    exactly-when (When bundle i kind ns runs first second buf) (is k w) w (is n)
+exactly bundle i kind asked ns runs first second buf n =
+    let (k, w) = when bundle i kind asked ns runs first second buf (way bundle i kind asked ns runs first second buf) in
+    let is : (n : ℕ) → When bundle i kind asked ns runs first second buf n → buildOf bundle i kind asked ns runs first second buf .answer .number ≡ n =
+    λ n v. answered bundle i kind asked ns runs first second buf v in
+    exactly-when (When bundle i kind asked ns runs first second buf) (is k w) w (is n)
 
 pub untouched : Untouched
-untouched bundle i kind ns runs first second buf b after q z = untouched-by bundle i kind ns runs first second buf b after q (way bundle i kind ns runs first second buf) z
+untouched bundle i kind asked ns runs first second buf b after q z = untouched-by bundle i kind asked ns runs first second buf b after q (way bundle i kind asked ns runs first second buf) z
 
 pub stands : Stands
-stands bundle i kind ns runs first second buf b after q z = stands-by bundle i kind ns runs first second buf b after q (way bundle i kind ns runs first second buf) z
+stands bundle i kind asked ns runs first second buf b after q z = stands-by bundle i kind asked ns runs first second buf b after q (way bundle i kind asked ns runs first second buf) z
 
 pub reads-back : ReadsBack
-reads-back bundle i kind ns runs first second buf b after h l q z = reads-by bundle i kind ns runs first second buf b after q h l z
+reads-back bundle i kind asked ns runs first second buf b after h l q z = reads-by bundle i kind asked ns runs first second buf b after q h l z
 
 pub no-message : NoMessage
-no-message bundle i kind ns runs first second buf bf bs h l =
-    fifteen bundle i kind ns runs first second buf bf bs h l (way bundle i kind ns runs first second buf)
+no-message bundle i kind asked ns runs first second buf bf bs h l =
+    fifteen bundle i kind asked ns runs first second buf bf bs h l (way bundle i kind asked ns runs first second buf)
 
 pub givable : Givable
 givable p bs kind xs m = two-given (runsOf bs xs) (omega (arith, runs-counted bs (m .matched), form-few p kind (m .form) .runs))
 
 pub rebuilds : Rebuilds
 unfolding bytesOf
-rebuilds bundle i kind bs xs runs first second buf b after low bytes m g room q =
-    let again = message-made bs (speaks bundle i) bytes m in
-    let cs : List ℕ = again .0 in
-    let e : bytesOf (speaks bundle i) kind (numbersOf xs) runs first second ≡ some cs = rw g (again .1) in
-    let shorter : length cs ≤ length bs - 0 = again .2 .no-longer in
-    let r = made-again bundle i kind (numbersOf xs) runs first second buf b after q cs low e (omega arith) in
-    let all : run bs 0 (length bs - 0) ≡ bs = take-all (length bs - 0) bs (omega arith) in (
-      r .0,
-      omega (arith, r .1),
-      (λ e. again .2 .same .0 (sym (r .2) ∙ e ∙ sym all), λ s. r .2 ∙ again .2 .same .1 s ∙ all),
-    )
+rebuilds bundle i kind asked bs xs runs first second buf b after low bytes small m asks brief g room q =
+    let again = made-again-of (speaks bundle i) bs kind xs asked bytes small m in
+    let cs : List ℕ = again .message in
+    let e : bytesOf (speaks bundle i) kind asked (numbersOf xs) runs first second ≡ some cs = rw g (again .made) in
+    let shorter : length cs ≤ length bs = again .no-longer asks brief in
+    let r = made-again bundle i kind asked (numbersOf xs) runs first second buf b after q cs low e (omega arith) in
+    (r .0, omega (arith, r .1), (λ e. again .same .0 (sym (r .2) ∙ e), λ s. r .2 ∙ again .same .1 s))

@@ -11,5 +11,5 @@ once =
     record {
       every-input = λ lives a. tt;
       one-end = λ lives a r q after after′ e f.
-          let p = e ∙ sym f in (ap (λ (t : Told). t .answer) p, ap (λ (t : Told). (tt, (tt, (tt, (tt, (tt, (tt, (tt, (t .buffer, tt))))))))) p);
+          let p = e ∙ sym f in (ap (λ (t : Told). t .answer) p, ap (λ (t : Told). (tt, (tt, (tt, (tt, (tt, (tt, (tt, (tt, (t .buffer, tt)))))))))) p);
     }

@@ -14,19 +14,21 @@ use borrow.Author.Tests.{eqb-true, eqb-false, ltb-true, ltb-false, leb-true, eq-
 use Rattle.base.specs.Numbers.{octets}
 use Rattle.base.proofs.Conds.{by-test, cond-cases, so, is, and-left, and-right}
 use Rattle.head.specs.Write.{shortest}
+use Rattle.elements.specs.declared.Element.{Element}
 use Rattle.elements.specs.declared.Field.{Field}
 use Rattle.elements.specs.declared.Field.the-variants as field
 use Rattle.elements.specs.declared.End.{End}
 use Rattle.elements.specs.declared.End.the-variants.{At, Nowhere}
-use Rattle.elements.specs.Matching.{inMessage}
+use Rattle.elements.specs.Matching.{inMessage, opener}
 use Rattle.elements.specs.Reading.{onEnd, itemEnd}
 use Rattle.parts.specs.Given.{numeric, allGiven, empty}
-use Rattle.parts.specs.Counting.{onSome}
+use Rattle.layout.specs.Asked.{openly}
+use Rattle.parts.specs.Counting.{onSome, countOf}
 use Rattle.parts.specs.Inside.{numberArgument, runArgument, runAt, numberAfter, runAfter, numberAt, argumentOf, planned, nothing}
 use Rattle.parts.proofs.Counting.{Found, some-cases}
-use Rattle.layout.specs.Inside.{headLength, tailOf, pieceOf, bodyOf, headsOf}
+use Rattle.layout.specs.Inside.{ownLength, tailOf, pieceOf, bodyOf, headsOf}
 use Rattle.layout.proofs.LayoutLaws.{piece-long}
-use Rattle.build.specs.Made.{ofNumber, ofRun, allUsed, made}
+use Rattle.build.specs.Made.{headed, ofNumber, ofRun, allUsed, made}
 
 -- ---- one field
 
@@ -34,47 +36,59 @@ limited-piece : (limit v : ℕ) (f : ℕ → List ℕ) → ((v : ℕ) → f v �
     → cond (ltb v limit) (some (shortest 0 v)) none ≡ onSome (cond (ltb v limit) (some v) none) (λ a. some (f a))
 limited-piece limit v f e = by-test (ltb v limit) (λ t. rw t (ap some (sym (e v)))) (λ t. rw t)
 
-pub number-piece : (f : Field) (v : ℕ) (run : List ℕ) → numeric f ≡ true → ofNumber f v ≡ onSome (numberArgument f v) (λ a. some (pieceOf f a run))
+pub number-piece : (asked : Bool) (f : Field) (v : ℕ) (run : List ℕ) → numeric f ≡ true
+    → ofNumber f v ≡ onSome (numberArgument f v) (λ a. some (pieceOf asked f a run))
 unfolding pieceOf shortest octets
-number-piece field.Item v run t = absurd (false≢true t)
-number-piece (field.List e) v run t = absurd (false≢true t)
-number-piece (field.Below limit) v run t = limited-piece limit v (λ a. pieceOf (field.Below limit) a run) (λ a. append-nil (shortest 0 a))
-number-piece field.Bool zero run t = refl
-number-piece field.Bool (suc zero) run t = refl
-number-piece field.Bool (suc (suc v)) run t =
+number-piece asked field.Item v run t = absurd (false≢true t)
+number-piece asked (field.List e) v run t = absurd (false≢true t)
+number-piece asked (field.Below limit) v run t =
+    limited-piece limit v (λ a. pieceOf asked (field.Below limit) a run) (λ a. append-nil (shortest 0 a))
+number-piece asked field.Bool zero run t = refl
+number-piece asked field.Bool (suc zero) run t = refl
+number-piece asked field.Bool (suc (suc v)) run t =
     rw (ne-eqb (suc (suc v)) 0 (λ e. omega arith), ne-eqb (suc (suc v)) 1 (λ e. omega arith), le-ltb (suc (suc v)) 2 (omega arith))
 
-one-piece : (run : List ℕ) (e : End) → onEnd none e (λ q. cond (eqb q (length run)) (some run) none)
-    ≡ onSome (onEnd none e (λ q. cond (eqb q (length run)) (some 0) none)) (λ a. some (pieceOf field.Item a run))
+one-piece : (asked : Bool) (run : List ℕ) (e : End) → onEnd none e (λ q. cond (eqb q (length run)) (some run) none)
+    ≡ onSome (onEnd none e (λ q. cond (eqb q (length run)) (some 0) none)) (λ a. some (pieceOf asked field.Item a run))
 unfolding pieceOf
-one-piece run (At q) = by-test (eqb q (length run)) (λ t. rw t) (λ t. rw t)
-one-piece run Nowhere = refl
+one-piece asked run (At q) = by-test (eqb q (length run)) (λ t. rw t (ap some (sym (append-nil run)))) (λ t. rw t)
+one-piece asked run Nowhere = refl
 
-pub run-piece : (f : Field) (run : List ℕ) → numeric f ≡ false → ofRun f run ≡ onSome (runArgument f run) (λ a. some (pieceOf f a run))
+-- a list: its head and its run, and the break where it is of indefinite length
+list-piece : (asked : Bool) (e : Element) (run : List ℕ) (k : ℕ) → headed asked e run k ≡ pieceOf asked (field.List e) k run
 unfolding pieceOf
-run-piece field.Item run t = one-piece run (itemEnd run inMessage 0)
-run-piece (field.List e) run t = refl
-run-piece (field.Below limit) run t = absurd (true≢false t)
-run-piece field.Bool run t = absurd (true≢false t)
+list-piece asked e run k =
+    by-test (openly asked e) (λ t. rw t) (λ t. rw t (ap (λ (l : List ℕ). shortest (opener e) k ++ l) (sym (append-nil run))))
+
+list-pieces : (asked : Bool) (e : Element) (run : List ℕ) (o : Option ℕ)
+    → onSome o (λ k. some (headed asked e run k)) ≡ onSome o (λ a. some (pieceOf asked (field.List e) a run))
+list-pieces asked e run none = refl
+list-pieces asked e run (some k) = ap some (list-piece asked e run k)
+
+pub run-piece : (asked : Bool) (f : Field) (run : List ℕ) → numeric f ≡ false → ofRun asked f run ≡ onSome (runArgument f run) (λ a. some (pieceOf asked f a run))
+run-piece asked field.Item run t = one-piece asked run (itemEnd run inMessage 0)
+run-piece asked (field.List e) run t = list-pieces asked e run (countOf e run)
+run-piece asked (field.Below limit) run t = absurd (true≢false t)
+run-piece asked field.Bool run t = absurd (true≢false t)
 
 -- ---- a field in front of others: its argument stays where it was set
 
 abbrev Others : Option (List ℕ) → (ℕ → Option (List ℕ)) → (List ℕ → List ℕ) → Type 0
 Others m plan body = (a : ℕ) → m ≡ onSome (plan a) (λ args. some (body args))
 
-in-front : (f : Field) (run : List ℕ) (i : ℕ) (o : Option ℕ) (m : Option (List ℕ)) (plan : ℕ → Option (List ℕ)) (body : List ℕ → List ℕ)
+in-front : (asked : Bool) (f : Field) (run : List ℕ) (i : ℕ) (o : Option ℕ) (m : Option (List ℕ)) (plan : ℕ → Option (List ℕ)) (body : List ℕ → List ℕ)
     → Others m plan body → ((a : ℕ) → Found (λ args. getD args i 0 ≡ a) (plan a))
-    → onSome (onSome o (λ a. some (pieceOf f a run))) (λ xs. onSome m (λ ys. some (xs ++ ys)))
-    ≡ onSome (onSome o plan) (λ args. some (pieceOf f (getD args i 0) run ++ body args))
-in-front f run i none m plan body others stays = refl
-in-front f run i (some a) m plan body others stays =
-    ap (λ (m : Option (List ℕ)). onSome m (λ ys. some (pieceOf f a run ++ ys))) (others a) ∙ of (plan a) (stays a)
+    → onSome (onSome o (λ a. some (pieceOf asked f a run))) (λ xs. onSome m (λ ys. some (xs ++ ys)))
+    ≡ onSome (onSome o plan) (λ args. some (pieceOf asked f (getD args i 0) run ++ body args))
+in-front asked f run i none m plan body others stays = refl
+in-front asked f run i (some a) m plan body others stays =
+    ap (λ (m : Option (List ℕ)). onSome m (λ ys. some (pieceOf asked f a run ++ ys))) (others a) ∙ of (plan a) (stays a)
   where
     of : (p : Option (List ℕ)) → Found (λ args. getD args i 0 ≡ a) p
-        → onSome (onSome p (λ args. some (body args))) (λ ys. some (pieceOf f a run ++ ys)) ≡ onSome p
-        (λ args. some (pieceOf f (getD args i 0) run ++ body args))
+        → onSome (onSome p (λ args. some (body args))) (λ ys. some (pieceOf asked f a run ++ ys)) ≡ onSome p
+        (λ args. some (pieceOf asked f (getD args i 0) run ++ body args))
     of none e = refl
-    of (some args) e = ap (λ (k : ℕ). some (pieceOf f k run ++ body args)) (sym e)
+    of (some args) e = ap (λ (k : ℕ). some (pieceOf asked f k run ++ body args)) (sym e)
 
 -- ---- nothing is left over
 
@@ -118,17 +132,17 @@ module _ (first second : List ℕ) where
   lent-none runs r h l = drop-of-length-le (lent runs) {i = r} (omega (arith, lent-long runs h))
 
 -- a field's length in front of others
-number-long : (f : Field) (a : ℕ) (run rest : List ℕ) (h t : ℕ) → numeric f ≡ true → length rest ≡ h + t
-    → length (pieceOf f a run ++ rest) ≡ headLength f a + h + t
-number-long f a run rest h t is e =
+number-long : (asked : Bool) (f : Field) (a : ℕ) (run rest : List ℕ) (h t : ℕ) → numeric f ≡ true → length rest ≡ h + t
+    → length (pieceOf asked f a run ++ rest) ≡ ownLength asked f a + h + t
+number-long asked f a run rest h t is e =
     let z : length (tailOf f run) ≡ 0 = rw is in
-    omega (arith, length-append (pieceOf f a run) rest, piece-long f a run)
+    omega (arith, length-append (pieceOf asked f a run) rest, piece-long asked f a run)
 
-run-long : (f : Field) (a : ℕ) (run rest : List ℕ) (h t : ℕ) → numeric f ≡ false → length rest ≡ h + t
-    → length (pieceOf f a run ++ rest) ≡ headLength f a + h + (length run + t)
-run-long f a run rest h t is e =
+run-long : (asked : Bool) (f : Field) (a : ℕ) (run rest : List ℕ) (h t : ℕ) → numeric f ≡ false → length rest ≡ h + t
+    → length (pieceOf asked f a run ++ rest) ≡ ownLength asked f a + h + (length run + t)
+run-long asked f a run rest h t is e =
     let z : length (tailOf f run) ≡ length run = rw is in
-    omega (arith, length-append (pieceOf f a run) rest, piece-long f a run)
+    omega (arith, length-append (pieceOf asked f a run) rest, piece-long asked f a run)
 
 found-map : {A : Type 0} {R S : A → Type 0} (o : Option A) → ((a : A) → R a → S a) → Found R o → Found S o
 found-map none f r = tt
@@ -136,7 +150,7 @@ found-map (some a) f r = f a r
 
 -- ---- the fields from the i-th on, from number n on and run r on
 
-module _ (ns : List ℕ) (runs : ℕ) (first second : List ℕ) where
+module _ (asked : Bool) (ns : List ℕ) (runs : ℕ) (first second : List ℕ) where
   abbrev plan : List Field → ℕ → ℕ → ℕ → List ℕ → Option (List ℕ)
   plan fs i n r args = planned ns runs first second fs i n r args
 
@@ -168,10 +182,10 @@ module _ (ns : List ℕ) (runs : ℕ) (first second : List ℕ) where
     rs = lent first second runs
 
     abbrev body : List Field → ℕ → ℕ → List ℕ → List ℕ
-    body fs i r args = bodyOf first second fs args i r
+    body fs i r args = bodyOf asked first second fs args i r
 
     pub plan-makes : (fs : List Field) (i n r : ℕ) (args : List ℕ) → i + length fs ≤ length args → n ≤ length ns → r ≤ runs
-        → made fs (drop n ns) (drop r rs) ≡ onSome (plan fs i n r args) (λ out. some (body fs i r out))
+        → made asked fs (drop n ns) (drop r rs) ≡ onSome (plan fs i n r args) (λ out. some (body fs i r out))
     unfolding made planned bodyOf argumentOf
     plan-makes [] i n r args h hn hr =
         used (drop n ns) (drop r rs)
@@ -185,8 +199,8 @@ module _ (ns : List ℕ) (runs : ℕ) (first second : List ℕ) where
         (λ u.
         let lt : n < length ns = ltb-true n (length ns) u in
         let next : drop n ns ≡ getD ns n 0 ∷ drop (n + 1) ns = rw (add-one, drop-cons ns n 0) in
-        rw (next, u, number-piece f (getD ns n 0) (runAt first second r) t)
-        (in-front f (runAt first second r) i (numberArgument f (getD ns n 0)) (made fs (drop (n + 1) ns) (drop r rs))
+        rw (next, u, number-piece asked f (getD ns n 0) (runAt first second r) t)
+        (in-front asked f (runAt first second r) i (numberArgument f (getD ns n 0)) (made asked fs (drop (n + 1) ns) (drop r rs))
         (λ a. plan fs (i + 1) (n + 1) r (set args i a))
         (body fs (i + 1) r)
         (λ a. plan-makes fs (i + 1) (n + 1) r (set args i a) (omega (arith, length-set args i a)) (omega arith) hr)
@@ -200,8 +214,8 @@ module _ (ns : List ℕ) (runs : ℕ) (first second : List ℕ) where
         (λ u.
         let lt : r < runs = ltb-true r runs u in
         let next : drop r rs ≡ runAt first second r ∷ drop (r + 1) rs = rw add-one (lent-next first second runs r two lt) in
-        rw (next, u, run-piece f (runAt first second r) t)
-        (in-front f (runAt first second r) i (runArgument f (runAt first second r)) (made fs (drop n ns) (drop (r + 1) rs))
+        rw (next, u, run-piece asked f (runAt first second r) t)
+        (in-front asked f (runAt first second r) i (runArgument f (runAt first second r)) (made asked fs (drop n ns) (drop (r + 1) rs))
         (λ a. plan fs (i + 1) n (r + 1) (set args i a))
         (body fs (i + 1) (r + 1))
         (λ a. plan-makes fs (i + 1) n (r + 1) (set args i a) (omega (arith, length-set args i a)) hn (omega arith))
@@ -212,7 +226,7 @@ module _ (ns : List ℕ) (runs : ℕ) (first second : List ℕ) where
 
     -- fields that are planned are as long as their heads and the runs that they take
     long : (fs : List Field) (i n r : ℕ) (args out : List ℕ) → r ≤ runs
-        → Found (λ _. length (body fs i r out) ≡ headsOf fs out i + total (drop r rs)) (plan fs i n r args)
+        → Found (λ _. length (body fs i r out) ≡ headsOf asked fs out i + total (drop r rs)) (plan fs i n r args)
     unfolding planned bodyOf headsOf total argumentOf
     long [] i n r args out h =
         cond-cases (Found (λ _. 0 ≡ 0 + total (drop r rs))) (eqb n (length ns) && eqb r runs)
@@ -225,12 +239,12 @@ module _ (ns : List ℕ) (runs : ℕ) (first second : List ℕ) where
         (λ t.
         rw t
         (some-cases
-        (Found (λ _. length (pieceOf f (getD out i 0) (runAt first second r) ++ body fs (i + 1) r out)
-        ≡ headLength f (getD out i 0) + headsOf fs out (i + 1) + total (drop r rs)))
+        (Found (λ _. length (pieceOf asked f (getD out i 0) (runAt first second r) ++ body fs (i + 1) r out)
+        ≡ ownLength asked f (getD out i 0) + headsOf asked fs out (i + 1) + total (drop r rs)))
         (λ a. plan fs (i + 1) (n + 1) r (set args i a)) (numberAt ns f n) (any (numberAt ns f n)) tt
         (λ a _.
         found-map (plan fs (i + 1) (n + 1) r (set args i a))
-        (λ _ e. number-long f (getD out i 0) (runAt first second r) (body fs (i + 1) r out) (headsOf fs out (i + 1)) (total (drop r rs)) t e)
+        (λ _ e. number-long asked f (getD out i 0) (runAt first second r) (body fs (i + 1) r out) (headsOf asked fs out (i + 1)) (total (drop r rs)) t e)
         (long fs (i + 1) (n + 1) r (set args i a) out h))))
         (λ t.
         rw t
@@ -240,17 +254,17 @@ module _ (ns : List ℕ) (runs : ℕ) (first second : List ℕ) where
         let next : drop r rs ≡ runAt first second r ∷ drop (r + 1) rs = rw add-one (lent-next first second runs r two lt) in
         rw (next, u)
         (some-cases
-        (Found (λ _. length (pieceOf f (getD out i 0) (runAt first second r) ++ body fs (i + 1) (r + 1) out)
-        ≡ headLength f (getD out i 0) + headsOf fs out (i + 1) + (length (runAt first second r) + total (drop (r + 1) rs))))
+        (Found (λ _. length (pieceOf asked f (getD out i 0) (runAt first second r) ++ body fs (i + 1) (r + 1) out)
+        ≡ ownLength asked f (getD out i 0) + headsOf asked fs out (i + 1) + (length (runAt first second r) + total (drop (r + 1) rs))))
         (λ a. plan fs (i + 1) n (r + 1) (set args i a)) (runArgument f (runAt first second r)) (any (runArgument f (runAt first second r))) tt
         (λ a _.
         found-map (plan fs (i + 1) n (r + 1) (set args i a))
-        (λ _ e. run-long f (getD out i 0) (runAt first second r) (body fs (i + 1) (r + 1) out) (headsOf fs out (i + 1)) (total (drop (r + 1) rs)) t e)
+        (λ _ e. run-long asked f (getD out i 0) (runAt first second r) (body fs (i + 1) (r + 1) out) (headsOf asked fs out (i + 1)) (total (drop (r + 1) rs)) t e)
         (long fs (i + 1) n (r + 1) (set args i a) out (omega arith)))))
         (λ u. rw u tt)))
 
     pub plan-long : (fs : List Field) (out : List ℕ)
-        → Found (λ _. length (bodyOf first second fs out 0 0) ≡ headsOf fs out 0 + total rs) (planned ns runs first second fs 0 0 0 nothing)
+        → Found (λ _. length (bodyOf asked first second fs out 0 0) ≡ headsOf asked fs out 0 + total rs) (planned ns runs first second fs 0 0 0 nothing)
     plan-long fs out = long fs 0 0 0 nothing out (omega arith)
 
 -- what is lent as runs and not given is empty

@@ -3,6 +3,7 @@
 -- Assumes nothing.
 use Prim.Native.Nat.{ℕ, _-_, _^_, _≤_, _<_}
 use mathlib.Core.Path.{_≡_, sym, subst, _∙_}
+use mathlib.Core.Bool.{Bool}
 use mathlib.Core.List.{List, [], _∷_}
 use native.Mathlib.Omega.{arith}
 use native.Mathlib.Nat.{min-le-right}
@@ -11,6 +12,9 @@ use lib.Seq.{take-all}
 use Rattle.ring.specs.Ring.{run}
 use Rattle.elements.specs.Besides.Matching.{Value, number, place}
 use Rattle.build.specs.Besides.Theorem.{runsOf, numbersOf, Slices, Rebuilds}
+use Rattle.rows.specs.declared.Protocol.{Protocol}
+use Rattle.messages.specs.Besides.Matching.{Matches}
+use Rattle.build.proofs.OneForm.{Leastly, own-one}
 use Rattle.build.proofs.Pieces.{message-made}
 use Rattle.build.proofs.Theorem.{read-back}
 
@@ -24,16 +28,19 @@ slices bs (place a l ∷ xs) h =
     (omega (arith, length-drop a bs), slices bs xs h)
 
 pub rebuilds : Rebuilds
-rebuilds p bs kind xs bytes slice given =
-    let m = message-made bs p bytes given in
+rebuilds p bs kind xs asked bytes slice given =
+    let m = message-made bs asked p bytes given in
     let message : List ℕ = m .0 in
-    let back = read-back p kind (numbersOf xs) (runsOf bs xs) message (slices bs xs slice) (m .1) in
+    let back = read-back p kind asked (numbersOf xs) (runsOf bs xs) message (slices bs xs slice) (m .1) in
     let all : run bs 0 (length bs - 0) ≡ bs = take-all (length bs - 0) bs (omega arith) in
     record {
       message = message;
       made = m .1;
-      no-longer = omega (arith, m .2 .no-longer);
-      same = (λ e. m .2 .same .0 (e ∙ sym all), λ s. m .2 .same .1 s ∙ all);
+      no-longer = λ h s. omega (arith, m .2 .no-longer (h, s));
+      same = (
+        λ e. let least : Leastly asked p bs kind = subst (λ (bs : List ℕ). Leastly asked p bs kind) e (back .0, back .1, back .4) in own-one asked bs p (least .1) given (least .2),
+        λ s. m .2 .same s ∙ all,
+      );
       values = back .0;
       says = back .1;
       numbers = back .2;

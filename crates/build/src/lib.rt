@@ -32,19 +32,20 @@ fn refused(number: u64) -> Built
 fn hand(
     row: usize,
     kind: u64,
+    asked: bool,
     arguments: [u64; MOST_FIELDS],
     first: &[u8],
     second: &[u8],
     buf: &mut [u8],
 ) -> Built
-    requires { ⌜ (row < formCount) × HeadsAndRuns (now first) (now second) (formAt row .fields) kind arguments ⌝ }
-    ensures { λ r. ⌜ told r (now (buf .exit)) ≡ handed (now (buf .entry)) (some (wholeOf (now (first .entry)) (now (second .entry)) (formAt row .fields) kind arguments)) ⌝ }
+    requires { ⌜ (row < formCount) × HeadsAndRuns asked (now first) (now second) (formAt row .fields) kind arguments ⌝ }
+    ensures { λ r. ⌜ told r (now (buf .exit)) ≡ handed (now (buf .entry)) (some (wholeOf asked (now (first .entry)) (now (second .entry)) (formAt row .fields) kind arguments)) ⌝ }
 {
-    let heads = layout::heads(row, kind, arguments);
+    let heads = layout::heads(row, kind, asked, arguments);
     if !layout::fits(buf.len(), heads, first.len(), second.len()) {
         return refused(18);
     }
-    layout::put(buf, row, kind, arguments, first, second);
+    layout::put(buf, row, kind, asked, arguments, first, second);
     Built {
         number: 0,
         len: heads + first.len() + second.len(),
@@ -55,6 +56,7 @@ fn hand(
 fn build_form(
     row: usize,
     kind: u64,
+    asked: bool,
     numbers: &[u64],
     runs: u64,
     first: &[u8],
@@ -62,51 +64,54 @@ fn build_form(
     buf: &mut [u8],
 ) -> Built
     requires { ⌜ (row < formCount) × (allGiven runs (now first) (now second) ≡ true) ⌝ }
-    ensures { λ r. ⌜ told r (now (buf .exit)) ≡ handed (now (buf .entry)) (madeBy (now (numbers .entry)) runs (now (first .entry)) (now (second .entry)) (formAt row .fields) kind) ⌝ }
+    ensures { λ r. ⌜ told r (now (buf .exit)) ≡ handed (now (buf .entry)) (madeBy asked (now (numbers .entry)) runs (now (first .entry)) (now (second .entry)) (formAt row .fields) kind) ⌝ }
 {
     let plan = parts::judge(row, numbers, runs, first, second);
     if !plan.made {
         return refused(15);
     }
     let arguments = plan.arguments;
-    hand(row, kind, arguments, first, second, buf)
+    hand(row, kind, asked, arguments, first, second, buf)
 }
 
 // A message of the protocol, by its kind.
 fn build_kind(
     p: Protocol,
     kind: u64,
+    asked: bool,
     numbers: &[u64],
     runs: u64,
     first: &[u8],
     second: &[u8],
     buf: &mut [u8],
 ) -> Built
-    ensures { λ r. ⌜ told r (now (buf .exit)) ≡ handed (now (buf .entry)) (bytesOf p kind (now (numbers .entry)) runs (now (first .entry)) (now (second .entry))) ⌝ }
+    ensures { λ r. ⌜ told r (now (buf .exit)) ≡ handed (now (buf .entry)) (bytesOf p kind asked (now (numbers .entry)) runs (now (first .entry)) (now (second .entry))) ⌝ }
 {
     if !parts::are_given(runs, first, second) {
         return refused(15);
     }
     let form = messages::forms::find(p, kind);
     match form {
-        Listed::Row(row) => build_form(row, kind, numbers, runs, first, second, buf),
+        Listed::Row(row) => build_form(row, kind, asked, numbers, runs, first, second, buf),
         Listed::Unknown => refused(15),
     }
 }
 
 // Makes a message of the protocol that an instance of the bundle speaks, at the front of the lent buffer, from its kind, its
-// numbers and so many runs: none, the first, or both. A run that is not given is empty.
+// numbers and so many runs: none, the first, or both. A run that is not given is empty. `asked` is whether its list is to be of indefinite
+// length; a message without a list is the same either way, and so is a version map.
 pub fn build(
     bundle: u64,
     instance: u64,
     kind: u64,
+    asked: bool,
     numbers: &[u64],
     runs: u64,
     first: &[u8],
     second: &[u8],
     buf: &mut [u8],
 ) -> Built
-    ensures { λ r. ⌜ told r (now (buf .exit)) ≡ buildOf bundle instance kind (now (numbers .entry)) runs (now (first .entry)) (now (second .entry)) (now (buf .entry)) ⌝ }
+    ensures { λ r. ⌜ told r (now (buf .exit)) ≡ buildOf bundle instance kind asked (now (numbers .entry)) runs (now (first .entry)) (now (second .entry)) (now (buf .entry)) ⌝ }
 {
     if !wire::instances::known(bundle) {
         return refused(23);
@@ -115,5 +120,5 @@ pub fn build(
         return refused(10);
     }
     let p = rows::spoken::protocol(bundle, instance as usize);
-    build_kind(p, kind, numbers, runs, first, second, buf)
+    build_kind(p, kind, asked, numbers, runs, first, second, buf)
 }

@@ -8,6 +8,7 @@
 //   b  1  the length of a lent buffer
 //   k  1  how many bytes of a store are lent
 //   s  1  a side: 0 for `dialler`, 1 for `accepter`
+//   i  1  1 for `indefinite`, 0 where the line ends before it. Only as the last kind
 //   r  2  a run of bytes: where in the line its bytes are, and how many
 //   l  5  a list of at most four numbers: how many, and which
 //   p  7  a list of at most three runs: how many, and for each the same as of a run
@@ -70,6 +71,9 @@ fn all(line: &mut [u8], w: Word, kinds: &[u8], words: &mut [u64; WORDS]) -> bool
     let mut at: usize = 0;
     let mut i: usize = 0;
     while i < n {
+        if base::and(kinds[i] == b'i', script::last(line, last)) {
+            return true;
+        }
         last = behind(line, last, kinds[i]);
         if !one(line, last, kinds[i], words, at) {
             return false;
@@ -170,10 +174,18 @@ fn most(kind: u8) -> u64 {
 }
 
 fn value(line: &[u8], w: Word, kind: u8) -> Number {
-    if kind == b's' {
-        return side(line, w);
+    match kind {
+        b's' => side(line, w),
+        b'i' => indefinite(line, w),
+        _ => numbers::of(line, w),
     }
-    numbers::of(line, w)
+}
+
+fn indefinite(line: &[u8], w: Word) -> Number {
+    if script::is(line, w, b"indefinite") {
+        return Number::Is(1);
+    }
+    Number::Not
 }
 
 fn side(line: &[u8], w: Word) -> Number {

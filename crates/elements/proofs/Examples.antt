@@ -27,4 +27,12 @@ edges =
       no-size = refl;
       rising = refl;
       repeated = refl;
+      nothing = refl;
+      one = refl;
+      open-pair = refl;
+      open-pairs = refl;
+      no-pair = refl;
+      counted = refl;
+      open-map = refl;
+      no-value = refl;
     }

@@ -1,25 +1,26 @@
 -- A head in the grammar: what stands at a place where a head is read is an item, and what is in it follows the head.
 -- Assumes nothing.
-use Prim.Native.Nat.{ℕ, zero, suc, _+_, _-_, _/_, _*_, _<_}
+use Prim.Native.Nat.{ℕ, zero, suc, _+_, _-_, _/_, _%_, _*_, _<_}
 use mathlib.Core.Path.{_≡_, refl, sym, ap, subst, subst⁻¹, _∙_}
 use mathlib.Core.List.{List, [], _∷_}
 use mathlib.Core.Option.{some}
 use native.Mathlib.Omega.{arith}
 use native.Mathlib.Decide.{decLt}
-use lib.Dec.{ltb}
-use lib.ListN.{length, getD, take, drop, length-drop}
+use lib.Dec.{ltb, leb, eqb}
+use lib.ListN.{length, getD, take, drop, length-drop, List·getD-eq-default}
 use lib.Seq.{drop-cons, drop-drop}
+use borrow.Author.Tests.{eqb-true}
 use Rattle.base.specs.Numbers.{spelled, number}
 use Rattle.base.proofs.Conds.{cond-cases}
 use Rattle.ring.specs.Ring.{run}
 use Rattle.head.specs.Initial.{majorOf, initial}
-use Rattle.head.specs.Read.{headAt, headBy, simpleAt}
+use Rattle.head.specs.Read.{headAt, headBy, longAt, simpleAt}
 use Rattle.head.specs.declared.Major.{Major}
 use Rattle.head.specs.declared.Initial.{Initial}
 use Rattle.head.specs.declared.Initial.the-variants as says
 use Rattle.head.specs.declared.read.Head.{Head}
 use Rattle.head.specs.declared.read.Head.the-variants.{Definite, Indefinite, Break, Short, Bad}
-use Rattle.head.proofs.ReadLaws.{Sound, sound, head-by, long-here, long-short, cut-short, definite-within}
+use Rattle.head.proofs.ReadLaws.{Sound, sound, head-by, long-here, long-short, cut-short, definite-within, indefinite-within}
 use Rattle.item.specs.Grammar.{Frame, One, Argument, content, nest, enter, Reads, one, last, digit}
 use Rattle.item.proofs.Heads.{nest-is}
 
@@ -143,3 +144,82 @@ module _ (bs : List ℕ) (p m v q : ℕ) (low : m < 7) where
             subst (λ (l : List ℕ). Reads (d - 1) (content (majorOf m) v) l ds) n
             (subst (λ (w : ℕ). Reads (d - 1) (content (majorOf m) w) (drop (suc k) (drop (suc p) bs)) ds) s
             (argued k 0 (drop (suc p) bs) (subst⁻¹ (λ (x : Frame). Reads (d - 1) x (drop (suc p) bs) ds) g r)))
+
+-- ---- heads of indefinite length, and breaks
+
+-- which byte has such an initial
+abbrev Marks : ℕ → Initial → Type 0
+Marks b (says.Short m v) = Unit {0}
+Marks b (says.Long m k) = Unit {0}
+Marks b (says.Indefinite m) = b % 32 ≡ 31
+Marks b says.Simple = Unit {0}
+Marks b says.Break = (b % 32 ≡ 31) × (b / 32 ≡ 7)
+Marks b says.Reserved = Unit {0}
+
+marks : (b : ℕ) → Marks b (initial b)
+unfolding initial
+marks b =
+    let m : ℕ = b / 32 in
+    let i : ℕ = b % 32 in
+    let P : Initial → Type 0 = Marks b in
+    cond-cases P (ltb i 24) (λ _. tt)
+    (λ _.
+    cond-cases P (eqb i 24) (λ _. cond-cases P (eqb m 7) (λ _. tt) (λ _. tt))
+    (λ _.
+    cond-cases P (eqb i 25) (λ _. tt)
+    (λ _.
+    cond-cases P (eqb i 26) (λ _. tt)
+    (λ _.
+    cond-cases P (eqb i 27) (λ _. tt)
+    (λ _.
+    cond-cases P (eqb i 31)
+    (λ t.
+    cond-cases P (eqb m 7) (λ s. (eqb-true i 31 t, eqb-true m 7 s))
+    (λ _. cond-cases P (leb 2 m) (λ _. cond-cases P (leb m 5) (λ _. eqb-true i 31 t) (λ _. tt)) (λ _. tt)))
+    (λ _. tt))))))
+
+pub break-byte : (b : ℕ) → initial b ≡ says.Break → b ≡ 255
+break-byte b e = let m = subst (Marks b) e (marks b) in omega (arith, m .0, m .1)
+
+module _ (bs : List ℕ) (p : ℕ) {m q : ℕ} where
+  never : {M v r : ℕ} → Definite M v r ≡ Indefinite m q → ⊥
+  never e = let z : _≡_ {A = ℕ} 0 1 = cc in omega arith
+
+  nor-short : Short ≡ Indefinite m q → ⊥
+  nor-short e = let z : _≡_ {A = ℕ} 0 1 = cc in omega arith
+
+  nor-bad : Bad ≡ Indefinite m q → ⊥
+  nor-bad e = let z : _≡_ {A = ℕ} 0 1 = cc in omega arith
+
+  never-long : (M k at : ℕ) → longAt bs M k at ≡ Indefinite m q → ⊥
+  unfolding longAt
+  never-long M k at = cond-cases (λ (h : Head). h ≡ Indefinite m q → ⊥) (leb (at + k) (length bs)) (λ _. never) (λ _. nor-short)
+
+  never-simple : (at : ℕ) → simpleAt bs at ≡ Indefinite m q → ⊥
+  unfolding simpleAt
+  never-simple at =
+      let P : Head → Type 0 = λ h. h ≡ Indefinite m q → ⊥ in
+      cond-cases P (ltb at (length bs)) (λ _. cond-cases P (ltb (getD bs at 0) 32) (λ _. nor-bad) (λ _. never)) (λ _. nor-short)
+
+  -- the byte of a head of indefinite length
+  pub open-byte : headAt bs p ≡ Indefinite m q → (getD bs p 0 ≡ m * 32 + 31) × (q ≡ p + 1)
+  unfolding headBy
+  open-byte e =
+      let w = indefinite-within bs p e in
+      let h : p < length bs = omega (arith, w) in
+      (of (initial (getD bs p 0)) (marks (getD bs p 0)) (sym (head-by bs {at = p} h refl refl refl) ∙ e), w .0)
+    where
+      of : (i : Initial) → Marks (getD bs p 0) i → headBy i bs (getD bs p 0 / 32) (p + 1) ≡ Indefinite m q → getD bs p 0 ≡ m * 32 + 31
+      of (says.Short M v) n f = absurd (never f)
+      of (says.Long M k) n f = absurd (never-long (getD bs p 0 / 32) (k + 1) (p + 1) f)
+      of (says.Indefinite M) n f = let z : getD bs p 0 / 32 ≡ m = cc in omega (arith, n)
+      of says.Simple n f = absurd (never-simple (p + 1) f)
+      of says.Break n f = absurd (let z : _≡_ {A = ℕ} 0 1 = cc in omega arith)
+      of says.Reserved n f = absurd (nor-bad f)
+
+-- the head that a byte makes by itself
+pub byte-head : (bs : List ℕ) (p b : ℕ) → getD bs p 0 ≡ b → 0 < b → headAt bs p ≡ headBy (initial b) bs (b / 32) (p + 1)
+byte-head bs p b e h = elim (decLt p (length bs)) [
+  | yes y ↦ head-by bs {at = p} y (sym e) refl refl
+  | no x ↦ absurd (omega (arith, e, List·getD-eq-default bs 0 {n = p} (omega arith)))
+]

@@ -1,3 +1,4 @@
 pub mod Matching
 pub mod Reading
 pub mod Besides
+pub mod Inside

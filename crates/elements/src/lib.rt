@@ -12,14 +12,15 @@ use item::NESTING;
 use item::Verdict;
 ghost use mathlib.Core.Path.{_≡_};
 ghost use mathlib.Core.Bool.{true, cond};
-ghost use Prim.Native.Nat.{_+_, _-_, _≤_, _<_};
+ghost use Prim.Native.Nat.{ℕ, _+_, _-_, _≤_, _<_};
 ghost use lib.Dec.{ltb, eqb};
 ghost use lib.ListN.{length, getD};
 ghost use Rattle.ring.specs.Inside.{around};
 ghost use Rattle.head.specs.Read.{headAt};
 ghost use Rattle.item.specs.Grammar.{nesting};
-ghost use Rattle.elements.specs.Matching.{inMessage, inList, opener};
-ghost use Rattle.elements.specs.Reading.{leads, ended, unsignedAt, opensAt, itemEnd, leaving, sizeEnd, sizedEnd, pairEnd, keyAt, versionAt, elementAt, closed, elementsOf, below, upTo, listed, boolOf, partOf};
+ghost use Rattle.elements.specs.Matching.{inMessage, inList, Break, past, opener};
+ghost use Rattle.elements.specs.Inside.{before, itemsUpTo};
+ghost use Rattle.elements.specs.Reading.{onEnd, ended, unsignedAt, opensAt, closed, itemEnd, leaving, sizeEnd, sizedEnd, twoEnd, pairEnd, keyAt, versionAt, elementAt, elementsOf, below, upTo, listed, boolOf, partOf};
 
 // An element of a list, or of a map: an item; a pair [item, size]; a version, which is a key, and its value.
 pub enum Element {
@@ -36,10 +37,17 @@ pub enum Field {
     Bool,
 }
 
-// How far elements go: so many of them; or up to the end of the bytes, as in a run that build is given.
+// How far elements go: so many of them; up to a break; or up to the end of the bytes, as in a run that build is given.
 pub enum Extent {
     Counted(u64),
+    Open,
     Rest,
+}
+
+// How far the elements of an array or a map go, and the place of the first of them; or it is none.
+pub enum Opening {
+    At(Extent, usize),
+    Not,
 }
 
 // A number and the place behind it, or none.
@@ -75,13 +83,16 @@ pub const WORD_LIMIT: u64 = 65536;
 
 pub const FAILURE_LIMIT: u64 = 2;
 
+// A break is one byte.
+pub const BREAK: u8 = 0xff;
+
 // A bool is one byte.
 const FALSE: u8 = 0xf4;
 
 const TRUE: u8 = 0xf5;
 
-// An end, and a number, that a test lets pass.
-fn end_if(test: bool, q: usize) -> End
+// An end, a number, and an opening, that a test lets pass.
+pub fn end_if(test: bool, q: usize) -> End
     ensures { λ r. ⌜ r ≡ cond test (End.At q) End.Nowhere ⌝ }
 {
     if test {
@@ -99,23 +110,13 @@ fn number_if(test: bool, v: u64, q: usize) -> Number
     Number::Not
 }
 
-// The argument of a head of a major type, of definite length.
-fn leading(s: &[u8], from: usize, n: usize, major: u8, at: usize) -> Number
-    requires { ⌜ (from ≤ length (now s)) × (n ≤ length (now s)) ⌝ }
-    ensures { λ r. ⌜ r ≡ leads major (headAt (around (now (s .entry)) from n) at) ⌝ }
+fn opening_if(test: bool, x: Extent, first: usize) -> Opening
+    ensures { λ r. ⌜ r ≡ cond test (Opening.At x first) Opening.Not ⌝ }
 {
-    let h = head::read::head_around(s, from, n, at);
-    match h {
-        Head::Definite {
-            major: m,
-            argument,
-            next,
-        } => number_if(m == major, argument, next),
-        Head::Indefinite { major: _, next: _ } => Number::Not,
-        Head::Break { next: _ } => Number::Not,
-        Head::Short => Number::Not,
-        Head::Bad => Number::Not,
+    if test {
+        return Opening::At(x, first);
     }
+    Opening::Not
 }
 
 // An unsigned number, of any width.
@@ -123,15 +124,72 @@ pub fn unsigned_at(s: &[u8], from: usize, n: usize, at: usize) -> Number
     requires { ⌜ (from ≤ length (now s)) × (n ≤ length (now s)) ⌝ }
     ensures { λ r. ⌜ r ≡ unsignedAt (around (now (s .entry)) from n) at ⌝ }
 {
-    leading(s, from, n, UNSIGNED, at)
+    let h = head::read::head_around(s, from, n, at);
+    match h {
+        Head::Definite {
+            major,
+            argument,
+            next,
+        } => number_if(major == UNSIGNED, argument, next),
+        Head::Indefinite { major: _, next: _ } => Number::Not,
+        Head::Break { next: _ } => Number::Not,
+        Head::Short => Number::Not,
+        Head::Bad => Number::Not,
+    }
 }
 
-// How many elements an array, or pairs a map, has, and the place of the first: of definite length.
-pub fn opens_at(s: &[u8], from: usize, n: usize, major: u8, at: usize) -> Number
+// How far the elements of an array, or the pairs of a map, go, and the place of the first.
+pub fn opens_at(s: &[u8], from: usize, n: usize, major: u8, at: usize) -> Opening
     requires { ⌜ (from ≤ length (now s)) × (n ≤ length (now s)) ⌝ }
     ensures { λ r. ⌜ r ≡ opensAt (around (now (s .entry)) from n) major at ⌝ }
 {
-    leading(s, from, n, major, at)
+    let h = head::read::head_around(s, from, n, at);
+    match h {
+        Head::Definite {
+            major: m,
+            argument,
+            next,
+        } => opening_if(m == major, Extent::Counted(argument), next),
+        Head::Indefinite { major: m, next } => opening_if(m == major, Extent::Open, next),
+        Head::Break { next: _ } => Opening::Not,
+        Head::Short => Opening::Not,
+        Head::Bad => Opening::Not,
+    }
+}
+
+// A break stands at a place.
+fn breaks(s: &[u8], from: usize, n: usize, at: usize) -> bool
+    requires { ⌜ (from ≤ length (now s)) × (n ≤ length (now s)) ⌝ }
+    ensures { λ r. ⌜ r ≡ eqb (getD (around (now (s .entry)) from n) at 0) Break ⌝ }
+{
+    if n <= at {
+        return false;
+    }
+    ring::byte_at(s, from, n, at) == BREAK
+}
+
+// Elements are at their end, with k of them, the last of which ends at this place.
+fn is_closed(s: &[u8], from: usize, n: usize, x: Extent, k: u64, at: usize) -> bool
+    requires { ⌜ (from ≤ length (now s)) × (n ≤ length (now s)) ⌝ }
+    ensures { λ r. ⌜ r ≡ closed (around (now (s .entry)) from n) x k at ⌝ }
+{
+    match x {
+        Extent::Counted(count) => k == count,
+        Extent::Open => breaks(s, from, n, at),
+        Extent::Rest => at == n,
+    }
+}
+
+// The place behind elements that are at their end: a break counts to the array or map.
+fn past_of(x: Extent, q: usize, n: usize) -> usize
+    requires { ⌜ past x q ≤ n ⌝ }
+    ensures { λ r. ⌜ r ≡ past x q ⌝ }
+{
+    match x {
+        Extent::Counted(_) => q,
+        Extent::Open => q + 1,
+        Extent::Rest => q,
+    }
 }
 
 // Where the item that a verdict is about ends.
@@ -190,14 +248,25 @@ fn sized_end(s: &[u8], from: usize, n: usize, d: usize, at: usize) -> End
 }
 
 // Where an array of two ends that are an item and its size.
-fn two_end(s: &[u8], from: usize, n: usize, d: usize, count: u64, first: usize) -> End
-    requires { ⌜ (from ≤ length (now s)) × (n ≤ length (now s)) × (d ≤ nesting) ⌝ }
-    ensures { λ r. ⌜ r ≡ cond (eqb count 2) (sizedEnd (around (now (s .entry)) from n) d first) End.Nowhere ⌝ }
+fn close_two(s: &[u8], from: usize, n: usize, x: Extent, at: usize) -> End
+    requires { ⌜ (from ≤ length (now s)) × (n ≤ length (now s)) × (at ≤ n) ⌝ }
+    ensures { λ r. ⌜ r ≡ twoEnd (around (now (s .entry)) from n) x at ⌝ }
 {
-    if count == 2 {
-        return sized_end(s, from, n, d, first);
+    if is_closed(s, from, n, x, 2, at) {
+        return End::At(past_of(x, at, n));
     }
     End::Nowhere
+}
+
+fn two_end(s: &[u8], from: usize, n: usize, d: usize, x: Extent, first: usize) -> End
+    requires { ⌜ (from ≤ length (now s)) × (n ≤ length (now s)) × (d ≤ nesting) ⌝ }
+    ensures { λ r. ⌜ r ≡ onEnd End.Nowhere (sizedEnd (around (now (s .entry)) from n) d first) (λ q. twoEnd (around (now (s .entry)) from n) x q) ⌝ }
+{
+    let e = sized_end(s, from, n, d, first);
+    match e {
+        End::At(q) => close_two(s, from, n, x, q),
+        End::Nowhere => End::Nowhere,
+    }
 }
 
 // Where a pair [item, size] ends.
@@ -207,8 +276,8 @@ fn pair_end(s: &[u8], from: usize, n: usize, d: usize, at: usize) -> End
 {
     let pair = opens_at(s, from, n, ARRAY, at);
     match pair {
-        Number::Is(count, first) => two_end(s, from, n, d - 1, count, first),
-        Number::Not => End::Nowhere,
+        Opening::At(x, first) => two_end(s, from, n, d - 1, x, first),
+        Opening::Not => End::Nowhere,
     }
 }
 
@@ -248,16 +317,6 @@ fn element_at(s: &[u8], from: usize, n: usize, d: usize, e: Element, low: u64, a
     }
 }
 
-// Elements are at their end, with k of them, the last of which ends at this place.
-fn is_closed(n: usize, x: Extent, k: u64, at: usize) -> bool
-    ensures { λ r. ⌜ r ≡ closed n x k at ⌝ }
-{
-    match x {
-        Extent::Counted(count) => k == count,
-        Extent::Rest => at == n,
-    }
-}
-
 // Passes elements from a place on, within the nesting d: how many there are, and where the last of them ends.
 pub fn walk(
     s: &[u8],
@@ -274,7 +333,7 @@ pub fn walk(
     let mut k: u64 = 0;
     let mut low: u64 = 0;
     let mut at = first;
-    while !is_closed(n, x, k, at) {
+    while !is_closed(s, from, n, x, k, at) {
         let next = element_at(s, from, n, d, e, low, at);
         let Number::Is(l, q) = next else {
             return Number::Not;
@@ -336,15 +395,15 @@ fn bool_at(s: &[u8], from: usize, n: usize, at: usize) -> Part
     Part::Wrong
 }
 
-// Where an element of the message ends: the last one where the message ends.
-fn element_end(s: &[u8], from: usize, n: usize, at: usize, last: bool) -> End
-    requires { ⌜ (from ≤ length (now s)) × (n ≤ length (now s)) × (last ≡ true → itemEnd (around (now s) from n) inMessage at ≡ End.At n) ⌝ }
+// Where an element of the message ends, which may be known.
+fn element_end(s: &[u8], from: usize, n: usize, at: usize, known: End) -> End
+    requires { ⌜ (from ≤ length (now s)) × (n ≤ length (now s)) × ((q : ℕ) → known ≡ End.At q → itemEnd (around (now s) from n) inMessage at ≡ End.At q) ⌝ }
     ensures { λ r. ⌜ r ≡ itemEnd (around (now (s .entry)) from n) inMessage at ⌝ }
 {
-    if last {
-        return End::At(n);
+    match known {
+        End::At(q) => End::At(q),
+        End::Nowhere => item_end(s, from, n, at, IN_MESSAGE),
     }
-    item_end(s, from, n, at, IN_MESSAGE)
 }
 
 // The major type of a list of such elements.
@@ -359,12 +418,34 @@ pub fn opener_of(e: Element) -> u8
 }
 
 // The place of elements, from the first of them to where the last ends.
-fn list_of(first: usize, elements: Number) -> Part
-    ensures { λ r. ⌜ r ≡ listed first elements ⌝ }
+fn list_of(x: Extent, first: usize, elements: Number, n: usize) -> Part
+    requires { ⌜ ((k q : ℕ) → elements ≡ Number.Is k q → past x q ≤ n) ⌝ }
+    ensures { λ r. ⌜ r ≡ listed x first elements ⌝ }
 {
     match elements {
-        Number::Is(_, q) => Part::Place(first, base::less(q, first), q),
+        Number::Is(_, q) => Part::Place(first, base::less(q, first), past_of(x, q, n)),
         Number::Not => Part::Wrong,
+    }
+}
+
+// Where the elements end, by where their array does: in front of a break.
+pub fn before_of(x: Extent, r: usize) -> usize
+    ensures { λ q. ⌜ q ≡ before x r ⌝ }
+{
+    match x {
+        Extent::Counted(_) => r,
+        Extent::Open => base::less(r, 1),
+        Extent::Rest => r,
+    }
+}
+
+// The same of items, by where their array ends.
+fn items_of(x: Extent, first: usize, e: End) -> Part
+    ensures { λ r. ⌜ r ≡ itemsUpTo x first e ⌝ }
+{
+    match e {
+        End::At(r) => Part::Place(first, base::less(before_of(x, r), first), r),
+        End::Nowhere => Part::Wrong,
     }
 }
 
@@ -375,46 +456,40 @@ fn elements_at(
     n: usize,
     e: Element,
     at: usize,
-    count: u64,
+    x: Extent,
     first: usize,
-    last: bool,
+    known: End,
 ) -> Part
-    requires { ⌜ (from ≤ length (now s)) × (n ≤ length (now s)) × (last ≡ true → itemEnd (around (now s) from n) inMessage at ≡ End.At n) × (opensAt (around (now s) from n) (opener e) at ≡ Number.Is count first) ⌝ }
-    ensures { λ r. ⌜ r ≡ listed first (elementsOf (around (now (s .entry)) from n) inList e (Extent.Counted count) first) ⌝ }
+    requires { ⌜ (from ≤ length (now s)) × (n ≤ length (now s)) × ((q : ℕ) → known ≡ End.At q → itemEnd (around (now s) from n) inMessage at ≡ End.At q) × (opensAt (around (now s) from n) (opener e) at ≡ Opening.At x first) ⌝ }
+    ensures { λ r. ⌜ r ≡ listed x first (elementsOf (around (now (s .entry)) from n) inList e x first) ⌝ }
 {
     match e {
-        Element::Item => up_to(first, element_end(s, from, n, at, last)),
-        Element::Pair => list_of(
-            first,
-            walk(s, from, n, IN_LIST, e, Extent::Counted(count), first),
-        ),
-        Element::Version => list_of(
-            first,
-            walk(s, from, n, IN_LIST, e, Extent::Counted(count), first),
-        ),
+        Element::Item => items_of(x, first, element_end(s, from, n, at, known)),
+        Element::Pair => list_of(x, first, walk(s, from, n, IN_LIST, e, x, first), n),
+        Element::Version => list_of(x, first, walk(s, from, n, IN_LIST, e, x, first), n),
     }
 }
 
 // A list, or a map.
-fn list_at(s: &[u8], from: usize, n: usize, e: Element, at: usize, last: bool) -> Part
-    requires { ⌜ (from ≤ length (now s)) × (n ≤ length (now s)) × (last ≡ true → itemEnd (around (now s) from n) inMessage at ≡ End.At n) ⌝ }
+fn list_at(s: &[u8], from: usize, n: usize, e: Element, at: usize, known: End) -> Part
+    requires { ⌜ (from ≤ length (now s)) × (n ≤ length (now s)) × ((q : ℕ) → known ≡ End.At q → itemEnd (around (now s) from n) inMessage at ≡ End.At q) ⌝ }
     ensures { λ r. ⌜ r ≡ partOf (around (now (s .entry)) from n) (Field.List e) at ⌝ }
 {
     let list = opens_at(s, from, n, opener_of(e), at);
     match list {
-        Number::Is(count, first) => elements_at(s, from, n, e, at, count, first, last),
-        Number::Not => Part::Wrong,
+        Opening::At(x, first) => elements_at(s, from, n, e, at, x, first, known),
+        Opening::Not => Part::Wrong,
     }
 }
 
-// What a field at a place says; `last` where it is the message's last element.
-pub fn part_at(s: &[u8], from: usize, n: usize, f: Field, at: usize, last: bool) -> Part
-    requires { ⌜ (from ≤ length (now s)) × (n ≤ length (now s)) × (last ≡ true → itemEnd (around (now s) from n) inMessage at ≡ End.At n) ⌝ }
+// What a field at a place says; `known` is where it ends, if that is known.
+pub fn part_at(s: &[u8], from: usize, n: usize, f: Field, at: usize, known: End) -> Part
+    requires { ⌜ (from ≤ length (now s)) × (n ≤ length (now s)) × ((q : ℕ) → known ≡ End.At q → itemEnd (around (now s) from n) inMessage at ≡ End.At q) ⌝ }
     ensures { λ r. ⌜ r ≡ partOf (around (now (s .entry)) from n) f at ⌝ }
 {
     match f {
-        Field::Item => up_to(at, element_end(s, from, n, at, last)),
-        Field::List(e) => list_at(s, from, n, e, at, last),
+        Field::Item => up_to(at, element_end(s, from, n, at, known)),
+        Field::List(e) => list_at(s, from, n, e, at, known),
         Field::Below(limit) => below_at(s, from, n, limit, at),
         Field::Bool => bool_at(s, from, n, at),
     }

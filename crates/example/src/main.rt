@@ -7,7 +7,7 @@ use front::INSTANCES;
 use front::Party;
 use front::Settings;
 use front::Side;
-use libc::STDOUT_FILENO;
+use output::Pen;
 ghost use Rattle.io.specs.Counts.{Counts};
 
 // Every capacity. Nine instances have a store of 144 bytes.
@@ -25,13 +25,30 @@ const HANDSHAKE: u64 = 0;
 
 const PROPOSE: u64 = 0;
 
-// A word, numbers behind it, and the line's end.
-fn say(word: &[u8], first: u64, second: u64) {
-    io::write_all(STDOUT_FILENO, word);
-    io::print_decimal(STDOUT_FILENO, first);
-    io::write_all(STDOUT_FILENO, b" ");
-    io::print_decimal(STDOUT_FILENO, second);
-    io::write_all(STDOUT_FILENO, b"\n");
+// Room for a line.
+const LINE: usize = 64;
+
+// What goes from step to step: the record, and whether every line so far could be written.
+struct Step {
+    connection: Connection,
+    written: bool,
+}
+
+// A line of a word and numbers, unless one before it could not be written.
+fn say(written: bool, word: &[u8], numbers: &[u64]) -> bool {
+    let mut space = [0u8; LINE];
+    let out: &mut [u8] = &mut space;
+    let p = output::words(out, Pen { at: 0, written }, word);
+    let q = output::numbers(out, p, numbers);
+    output::end(out, q)
+}
+
+// The same of bytes in hex.
+fn show(written: bool, bytes: &[u8]) -> bool {
+    let mut space = [0u8; LINE];
+    let out: &mut [u8] = &mut space;
+    let p = output::hex(out, Pen { at: 0, written }, bytes);
+    output::end(out, p)
 }
 
 // How many bytes of a buffer: so many, and all where that is more.
@@ -39,15 +56,6 @@ fn among(n: usize, buf: &[u8]) -> usize
     ensures { λ r. ⌜ Counts r (now (buf .entry)) ⌝ }
 {
     smaller(n, buf.len())
-}
-
-// Bytes in hex.
-fn show(bytes: &[u8]) {
-    let mut i: usize = 0;
-    while i < bytes.len() {
-        io::print_hex(STDOUT_FILENO, bytes[i] as u64, 2);
-        i += 1;
-    }
 }
 
 // Node to node, as the one that dialled.
@@ -64,52 +72,62 @@ fn settings() -> Settings {
     }
 }
 
-// Proposes version 7 with parameters 0: a map's run, key and value.
-fn propose(c: Connection, send: &mut [u8]) -> Connection {
+// Proposes version 7 with parameters 0: a map's run, key and value. `false`: a list of indefinite length is not asked for, and
+// Propose has none.
+fn propose(c: Connection, send: &mut [u8]) -> Step {
     let mut message = [0; ROOM];
     let built = front::build(
         0,
         HANDSHAKE,
         PROPOSE,
+        false,
         &[],
         1,
         b"\x07\x00",
         b"",
         &mut message,
     );
-    say(b"build ", built.number, built.len as u64);
+    let written = say(true, b"build", &[built.number, built.len as u64]);
     let n = among(built.len, &message);
     let queued = front::put(c, send, HANDSHAKE, &message[..n]);
-    say(b"put ", queued.number, 0);
-    queued.connection
+    let connection = queued.connection;
+    Step {
+        connection,
+        written: say(written, b"put", &[queued.number]),
+    }
 }
 
 // What is to be sent, as one segment.
-fn send_out(c: Connection, send: &[u8]) -> Connection {
+fn send_out(s: Step, send: &[u8]) -> Step {
     let mut segment = [0; ROOM];
-    let made = front::next_segment(c, send, 5, &mut segment);
-    say(b"next ", made.number, made.len as u64);
+    let made = front::next_segment(s.connection, send, 5, &mut segment);
+    let written = say(s.written, b"next", &[made.number, made.len as u64]);
     let n = among(made.len, &segment);
-    show(&segment[..n]);
-    io::write_all(STDOUT_FILENO, b"\n");
-    made.connection
+    let connection = made.connection;
+    Step {
+        connection,
+        written: show(written, &segment[..n]),
+    }
 }
 
 // The other end's answer: Accept of version 7, with parameters 0.
-fn hear(c: Connection, receive: &mut [u8]) -> Connection {
+fn hear(s: Step, receive: &mut [u8]) -> Step {
     let fed = front::feed(
-        c,
+        s.connection,
         receive,
         b"\x00\x00\x00\x09\x80\x00\x00\x04\x83\x01\x07\x00",
     );
-    say(b"feed ", fed.number, fed.used as u64);
+    let mut written = say(s.written, b"feed", &[fed.number, fed.used as u64]);
     let mut message = [0; ROOM];
     let taken = front::take(fed.connection, receive, HANDSHAKE, &mut message);
     let what = taken.message;
     let numbers = what.numbers;
-    say(b"take ", taken.number, taken.len as u64);
-    say(b"kind and version ", what.kind, numbers[0]);
-    taken.connection
+    written = say(written, b"take", &[taken.number, taken.len as u64]);
+    let connection = taken.connection;
+    Step {
+        connection,
+        written: say(written, b"kind and version", &[what.kind, numbers[0]]),
+    }
 }
 
 fn main() {
@@ -119,6 +137,8 @@ fn main() {
     let proposed = propose(opened.connection, &mut send);
     let sent = send_out(proposed, &send);
     let accepted = hear(sent, &mut receive);
-    let report = front::status(accepted);
-    say(b"status ", report.number, 0);
+    let report = front::status(accepted.connection);
+    if !say(accepted.written, b"status", &[report.number]) {
+        output::stop(b"example: cannot write to standard output\n");
+    }
 }

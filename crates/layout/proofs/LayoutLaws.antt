@@ -2,8 +2,8 @@
 -- Assumes nothing.
 use Prim.Native.Nat.{ℕ, _+_, _-_, _≤_, _<_}
 use mathlib.Core.Path.{_≡_, refl, sym, ap, _∙_}
-use mathlib.Core.Bool.{true, false}
-use mathlib.Core.List.{List, [], _++_}
+use mathlib.Core.Bool.{Bool, true, false, false≢true}
+use mathlib.Core.List.{List, [], _∷_, _++_}
 use native.Mathlib.Omega.{arith}
 use lib.Dec.{leb}
 use lib.ListN.{length, getD, drop, length-append}
@@ -15,13 +15,14 @@ use Rattle.ring.specs.Ring.{run}
 use Rattle.head.specs.Inside.{lengthOf}
 use Rattle.head.specs.Write.{shortest}
 use Rattle.head.proofs.WriteLaws.{shortest-length}
+use Rattle.elements.specs.declared.Element.the-variants as element
 use Rattle.elements.specs.declared.Field.{Field}
 use Rattle.elements.specs.declared.Field.the-variants as field
-use Rattle.elements.specs.Matching.{array}
+use Rattle.elements.specs.Matching.{array, indefinite, Break}
 use Rattle.parts.specs.Given.{numeric}
 use Rattle.parts.specs.Inside.{runAt, runAfter}
 use Rattle.parts.proofs.PartLaws.{field-next, field-none}
-use Rattle.layout.specs.Inside.{headless, majorOf, headOf, headLength, tailOf, pieceOf, bodyOf, headsOf, wholeOf}
+use Rattle.layout.specs.Inside.{headless, majorOf, openIn, headOf, tailOf, breakOf, ownLength, Put, pieceOf, bodyOf, headsOf, wholeOf}
 
 -- ---- room for three lengths
 
@@ -37,29 +38,60 @@ module _ (room a b c : ℕ) where
       by-test (leb c (room - a - b)) (λ t. t ∙ sym (le-leb (a + (b + c)) room (omega (arith, leb-true c (room - a - b) t))))
       (λ t. t ∙ sym (lt-leb (a + (b + c)) room (omega (arith, leb-false c (room - a - b) t))))
 
--- ---- a head, if the field has one
+-- ---- a head, and a break, if the field has one
 
-pub head-long : (f : Field) (a : ℕ) → length (headOf f a) ≡ headLength f a
-head-long f a = by-test (headless f) (λ t. rw t) (λ t. rw t (shortest-length (majorOf f) a))
+-- an item has no head, and none of indefinite length
+headless-not-open : (asked : Bool) (f : Field) → headless f ≡ true → openIn asked f ≡ false
+headless-not-open asked field.Item t = refl
+headless-not-open asked (field.List e) t = absurd (false≢true t)
+headless-not-open asked (field.Below limit) t = refl
+headless-not-open asked field.Bool t = refl
 
-module _ (f : Field) (a : ℕ) where
-  pub no-head : (buf : List ℕ) (at : ℕ) → headless f ≡ true → (at ≡ at + headLength f a) × (buf ≡ sets buf at (headOf f a))
-  no-head buf at t = rw t (omega arith, refl)
+-- what is written so is an array
+pub open-array : (asked : Bool) (f : Field) → openIn asked f ≡ true → indefinite (majorOf f) ≡ 0x9f
+open-array asked field.Item t = absurd (false≢true t)
+open-array asked (field.List element.Item) t = refl
+open-array asked (field.List element.Pair) t = refl
+open-array asked (field.List element.Version) t = absurd (false≢true t)
+open-array asked (field.Below limit) t = absurd (false≢true t)
+open-array asked field.Bool t = absurd (false≢true t)
 
-  module _ (t : headless f ≡ false) where
-    pub head-is : headLength f a ≡ lengthOf a
-    head-is = rw t
+module _ (asked : Bool) (f : Field) (a : ℕ) where
+  pub own-long : length (headOf asked f a) + length (breakOf asked f) ≡ ownLength asked f a
+  own-long =
+      by-test (headless f) (λ t. rw (t, headless-not-open asked f t))
+      (λ t. by-test (openIn asked f) (λ u. rw (t, u)) (λ u. rw (t, u) (omega (arith, shortest-length (majorOf f) a))))
 
-    pub head-there : (buf : List ℕ) (at : ℕ) {m q : ℕ} {after : List ℕ} → m ≡ majorOf f → q ≡ at + lengthOf a → after ≡ sets buf at (shortest m a)
-        → (q ≡ at + headLength f a) × (after ≡ sets buf at (headOf f a))
-    head-there buf at em eq ea = rw t (eq, ea ∙ ap (λ (k : ℕ). sets buf at (shortest k a)) em)
+  -- put at a place of the buffer: no head; the byte; the shortest head
+  module _ (buf : List ℕ) (at : ℕ) where
+    pub no-head : headless f ≡ true → Put buf at (headOf asked f a) at buf
+    no-head t = rw t (omega arith, refl)
+
+    module _ (t : headless f ≡ false) where
+      pub open-head : openIn asked f ≡ true → headOf asked f a ≡ 0x9f ∷ []
+      open-head u = rw (t, u) (ap (λ (b : ℕ). b ∷ []) (open-array asked f u))
+
+      pub short-head : openIn asked f ≡ false → headOf asked f a ≡ shortest (majorOf f) a
+      short-head u = rw (t, u)
+
+    pub no-break : openIn asked f ≡ false → Put buf at (breakOf asked f) at buf
+    no-break u = rw u (omega arith, refl)
+
+    pub a-break : openIn asked f ≡ true → breakOf asked f ≡ Break ∷ []
+    a-break u = rw u
+
+-- the shortest head, by its length
+pub head-there : (buf : List ℕ) (at v : ℕ) {m k q : ℕ} {after : List ℕ} → m ≡ k → q ≡ at + lengthOf v → after ≡ sets buf at (shortest m v)
+    → Put buf at (shortest k v) q after
+head-there buf at v {m} {k} em eq ea =
+    (eq ∙ ap (λ (n : ℕ). at + n) (sym (shortest-length k v)), ea ∙ ap (λ (m : ℕ). sets buf at (shortest m v)) em)
 
 -- ---- a run, if the field has one
 
 pub run-all : (xs : List ℕ) → run xs 0 (length xs) ≡ xs
 run-all xs = take-length xs
 
-pub no-tail : (f : Field) (xs buf : List ℕ) (at : ℕ) → numeric f ≡ true → (at ≡ at + length (tailOf f xs)) × (buf ≡ sets buf at (tailOf f xs))
+pub no-tail : (f : Field) (xs buf : List ℕ) (at : ℕ) → numeric f ≡ true → Put buf at (tailOf f xs) at buf
 no-tail f xs buf at t = rw t (omega arith, refl)
 
 module _ (f : Field) (first second : List ℕ) (r : ℕ) (t : numeric f ≡ false) where
@@ -69,54 +101,60 @@ module _ (f : Field) (first second : List ℕ) (r : ℕ) (t : numeric f ≡ fals
   pub tail-second : (r ≡ 0 → ⊥) → tailOf f (runAt first second r) ≡ second
   tail-second z = rw (t, ne-eqb r 0 z)
 
-pub tail-there : (buf : List ℕ) (at : ℕ) (xs : List ℕ) {ys after : List ℕ} {q : ℕ} → ys ≡ xs → (q ≡ at + length xs) × (after ≡ sets buf at xs)
-    → (q ≡ at + length ys) × (after ≡ sets buf at ys)
+pub tail-there : (buf : List ℕ) (at : ℕ) (xs : List ℕ) {ys after : List ℕ} {q : ℕ} → ys ≡ xs → Put buf at xs q after → Put buf at ys q after
 tail-there buf at xs e (eq, ea) = (eq ∙ ap (λ (l : List ℕ). at + length l) (sym e), ea ∙ ap (sets buf at) (sym e))
+
+-- one run behind the other
+pub both-there : (buf : List ℕ) (at : ℕ) (xs ys : List ℕ) {b q : ℕ} {half after : List ℕ} → Put buf at xs b half → Put half b ys q after
+    → Put buf at (xs ++ ys) q after
+both-there buf at xs ys {b} {q} {half} {after} (eb, eh) (eq, ea) = (
+  omega (arith, eb, eq, length-append xs ys),
+  ea
+      ∙ ap (λ (l : List ℕ). sets l b ys) eh
+      ∙ ap (λ (k : ℕ). sets (sets buf at xs) k ys) eb
+      ∙ sym (sets-append buf at xs ys),
+)
 
 -- ---- a field
 
-module _ (f : Field) (a : ℕ) (xs : List ℕ) where
-  pub piece-long : length (pieceOf f a xs) ≡ headLength f a + length (tailOf f xs)
+module _ (asked : Bool) (f : Field) (a : ℕ) (xs : List ℕ) where
+  pub piece-parts : length (pieceOf asked f a xs) ≡ length (headOf asked f a) + (length (tailOf f xs) + length (breakOf asked f))
   unfolding pieceOf
-  piece-long = length-append (headOf f a) (tailOf f xs) ∙ ap (λ (n : ℕ). n + length (tailOf f xs)) (head-long f a)
+  piece-parts =
+      length-append (headOf asked f a) (tailOf f xs ++ breakOf asked f)
+      ∙ ap (λ (n : ℕ). length (headOf asked f a) + n) (length-append (tailOf f xs) (breakOf asked f))
 
-  pub piece-there : (buf : List ℕ) (at : ℕ) {b q : ℕ} {half after : List ℕ} → (b ≡ at + headLength f a) × (half ≡ sets buf at (headOf f a))
-      → (q ≡ b + length (tailOf f xs)) × (after ≡ sets half b (tailOf f xs))
-      → (q ≡ at + length (pieceOf f a xs)) × (after ≡ sets buf at (pieceOf f a xs))
+  pub piece-long : length (pieceOf asked f a xs) ≡ ownLength asked f a + length (tailOf f xs)
+  piece-long = omega (arith, piece-parts, own-long asked f a)
+
+  pub piece-there : (buf : List ℕ) (at : ℕ) {b e q : ℕ} {half most after : List ℕ} → Put buf at (headOf asked f a) b half
+      → Put half b (tailOf f xs) e most → Put most e (breakOf asked f) q after → Put buf at (pieceOf asked f a xs) q after
   unfolding pieceOf
-  piece-there buf at {b} (eb, eh) (eq, ea) =
-      let long : length (headOf f a) ≡ headLength f a = head-long f a in
-      let behind : b ≡ at + length (headOf f a) = omega arith in
-      let both : length (headOf f a ++ tailOf f xs) ≡ length (headOf f a) + length (tailOf f xs) = length-append (headOf f a) (tailOf f xs) in (
-        omega arith,
-        ea
-            ∙ ap (λ (l : List ℕ). sets l b (tailOf f xs)) eh
-            ∙ ap (λ (k : ℕ). sets (sets buf at (headOf f a)) k (tailOf f xs)) behind
-            ∙ sym (sets-append buf at (headOf f a) (tailOf f xs)),
-      )
+  piece-there buf at {b} {half = half} h t k =
+      both-there buf at (headOf asked f a) (tailOf f xs ++ breakOf asked f) h (both-there half b (tailOf f xs) (breakOf asked f) t k)
 
 -- ---- one field after the other
 
-module _ (fs : List Field) (args : List ℕ) (i : ℕ) where
+module _ (asked : Bool) (fs : List Field) (args : List ℕ) (i : ℕ) where
   pub heads-on : {f : Field} → i < length fs → f ≡ getD fs i field.Item
-      → headsOf (drop i fs) args i ≡ headLength f (getD args i 0) + headsOf (drop (i + 1) fs) args (i + 1)
+      → headsOf asked (drop i fs) args i ≡ ownLength asked f (getD args i 0) + headsOf asked (drop (i + 1) fs) args (i + 1)
   unfolding headsOf
-  heads-on h e = ap (λ (l : List Field). headsOf l args i) (field-next fs i h e)
+  heads-on h e = ap (λ (l : List Field). headsOf asked l args i) (field-next fs i h e)
 
-  pub heads-end : i ≡ length fs → headsOf (drop i fs) args i ≡ 0
+  pub heads-end : i ≡ length fs → headsOf asked (drop i fs) args i ≡ 0
   unfolding headsOf
-  heads-end e = ap (λ (l : List Field). headsOf l args i) (field-none fs i e)
+  heads-end e = ap (λ (l : List Field). headsOf asked l args i) (field-none fs i e)
 
   module _ (first second : List ℕ) (r : ℕ) where
     pub body-on : {f : Field} → i < length fs → f ≡ getD fs i field.Item
-        → bodyOf first second (drop i fs) args i r
-        ≡ pieceOf f (getD args i 0) (runAt first second r) ++ bodyOf first second (drop (i + 1) fs) args (i + 1) (runAfter f r)
+        → bodyOf asked first second (drop i fs) args i r
+        ≡ pieceOf asked f (getD args i 0) (runAt first second r) ++ bodyOf asked first second (drop (i + 1) fs) args (i + 1) (runAfter f r)
     unfolding bodyOf
-    body-on h e = ap (λ (l : List Field). bodyOf first second l args i r) (field-next fs i h e)
+    body-on h e = ap (λ (l : List Field). bodyOf asked first second l args i r) (field-next fs i h e)
 
-    pub body-end : i ≡ length fs → bodyOf first second (drop i fs) args i r ≡ []
+    pub body-end : i ≡ length fs → bodyOf asked first second (drop i fs) args i r ≡ []
     unfolding bodyOf
-    body-end e = ap (λ (l : List Field). bodyOf first second l args i r) (field-none fs i e)
+    body-end e = ap (λ (l : List Field). bodyOf asked first second l args i r) (field-none fs i e)
 
 -- what is left to be put, behind what was put
 module _ (buf : List ℕ) (at : ℕ) (piece rest : List ℕ) {all : List ℕ} (e : all ≡ piece ++ rest) where
@@ -131,10 +169,10 @@ module _ (buf : List ℕ) (at : ℕ) (piece rest : List ℕ) {all : List ℕ} (e
 
 -- ---- the message
 
-pub whole-long : (first second : List ℕ) (fs : List Field) (kind : ℕ) (args : List ℕ)
-    → length (wholeOf first second fs kind args) ≡ lengthOf (length fs + 1) + lengthOf kind + length (bodyOf first second fs args 0 0)
-whole-long first second fs kind args =
-    let body : List ℕ = bodyOf first second fs args 0 0 in
+pub whole-long : (asked : Bool) (first second : List ℕ) (fs : List Field) (kind : ℕ) (args : List ℕ)
+    → length (wholeOf asked first second fs kind args) ≡ lengthOf (length fs + 1) + lengthOf kind + length (bodyOf asked first second fs args 0 0)
+whole-long asked first second fs kind args =
+    let body : List ℕ = bodyOf asked first second fs args 0 0 in
     omega (
       arith,
       length-append (shortest array (length fs + 1)) (shortest 0 kind ++ body),

@@ -3,6 +3,7 @@
 // What is listed is proved in `lister_core`; what is printed of it is run and compared.
 use lister_core::Line;
 use lister_core::Listing;
+use output::Pen;
 use wire::segment::Segment;
 ghost use mathlib.Core.Path.{_≡_};
 ghost use Rattle.lister_core.specs.Lister.{fed};
@@ -10,56 +11,69 @@ ghost use Rattle.lister_core.specs.Lister.{fed};
 // No line is longer.
 const LINE: usize = 64;
 
-// Lists a run of bytes, and answers what is known after it.
-pub fn print_run(l: Listing, run: &[u8]) -> Listing
-    ensures { λ r. ⌜ r ≡ fed l (now (run .entry)) .listing ⌝ }
+// What is known after some bytes, and whether the lines of all segments that ended in them were written.
+pub struct Printed {
+    pub listing: Listing,
+    pub written: bool,
+}
+
+// Lists a run of bytes. Once a line could not be written, no other is.
+pub fn print_run(l: Listing, run: &[u8]) -> Printed
+    ensures { λ r. ⌜ r .listing ≡ fed l (now (run .entry)) .listing ⌝ }
 {
     let mut known = l;
+    let mut written = true;
     let mut from = 0;
     while from < run.len() {
         let t = known.step(run, from);
         let line = t.line;
-        print_line(line);
+        written = print_line(line, written);
         let next = t.listing;
         known = next;
         from += t.used;
     }
-    known
+    Printed {
+        listing: known,
+        written,
+    }
 }
 
-// A line where a segment ended.
-fn print_line(line: Line) {
+// A line where a segment ended, after others that were written.
+fn print_line(line: Line, written: bool) -> bool {
+    if !written {
+        return false;
+    }
     match line {
-        Line::None => {}
+        Line::None => true,
         Line::Whole(s) => print_segment(s),
     }
 }
 
 // Time, protocol, mode, length.
-fn print_segment(s: Segment) {
+fn print_segment(s: Segment) -> bool {
     let mut space = [0u8; LINE];
     let out: &mut [u8] = &mut space;
-    let mut at = output::decimal(out, 0, s.time as u64);
-    at = output::number(out, at, s.protocol as u64);
-    at = output::number(out, at, s.mode as u64);
-    at = output::number(out, at, s.len as u64);
-    output::end(out, at);
+    let mut p = output::decimal(out, output::begin(), s.time as u64);
+    p = output::number(out, p, s.protocol as u64);
+    p = output::number(out, p, s.mode as u64);
+    p = output::number(out, p, s.len as u64);
+    output::end(out, p)
 }
 
 // `end` or, where bytes break off inside a segment, `cut`; then whole segments, then bytes read.
-pub fn print_last(l: Listing) {
+pub fn print_last(l: Listing) -> bool {
     let mut space = [0u8; LINE];
     let out: &mut [u8] = &mut space;
-    let mut at = ending(out, l.at_end());
-    at = output::number(out, at, l.segments);
-    at = output::number(out, at, l.bytes);
-    output::end(out, at);
+    let mut p = ending(out, l.at_end());
+    p = output::number(out, p, l.segments);
+    p = output::number(out, p, l.bytes);
+    output::end(out, p)
 }
 
 // The last line's first word.
-fn ending(out: &mut [u8], whole: bool) -> usize {
+fn ending(out: &mut [u8], whole: bool) -> Pen {
     if whole {
-        return output::words(out, 0, b"end");
+        return output::words(out, output::begin(), b"end");
     }
-    output::words(out, 0, b"cut")
+    output::words(out, output::begin(), b"cut")
 }

@@ -2,7 +2,8 @@
 -- element ends.
 -- Assumes nothing.
 use Prim.Native.Nat.{ℕ, zero, suc, _+_, _-_, _*_, _≤_, _<_}
-use mathlib.Core.Path.{_≡_, refl, sym, ap, subst, _∙_}
+use mathlib.Core.Path.{_≡_, refl, sym, ap, subst, subst⁻¹, _∙_}
+use mathlib.Core.Bool.{Bool, true, false, cond}
 use mathlib.Core.List.{List, [], _∷_}
 use mathlib.Core.Option.{some}
 use borrow.Author.Tests.{eq-eqb, ne-eqb}
@@ -14,10 +15,12 @@ use Rattle.item.specs.declared.Verdict.the-variants.{Whole}
 use Rattle.item.specs.Grammar.{One, Items, Reads, item, no-more}
 use Rattle.item.specs.Verdict.{verdict}
 use Rattle.item.proofs.Theorem.{one-end}
-use Rattle.head.proofs.ReadLaws.{definite-within}
 use Rattle.rows.specs.declared.Protocol.{Protocol}
 use Rattle.messages.specs.declared.forms.Listed.{Listed}
 use Rattle.messages.specs.declared.forms.Listed.the-variants.{Row, Unknown}
+use Rattle.elements.specs.declared.Extent.{Extent}
+use Rattle.elements.specs.declared.Opening.{Opening}
+use Rattle.elements.specs.declared.Opening.the-variants as opening
 use Rattle.elements.specs.declared.Number.{Number}
 use Rattle.elements.specs.declared.Number.the-variants.{Is, Not}
 use Rattle.messages.specs.Forms.{formOf}
@@ -31,14 +34,15 @@ use Rattle.elements.specs.declared.Part.the-variants as part
 use Rattle.messages.specs.declared.Reading.the-variants.{NotArray, UnknownKind, WrongCount, WrongField}
 use Rattle.messages.specs.declared.Message.{Message}
 use Rattle.messages.specs.declared.Answer.{Answer}
-use Rattle.elements.specs.Besides.Matching.{ItemAt, ItemsAt, UnsignedAt, Opens, FieldAt}
-use Rattle.elements.specs.Matching.{array, inMessage}
+use Rattle.elements.specs.Besides.Matching.{ItemAt, ItemsAt, UnsignedAt, Opens, Closes, FieldAt}
+use Rattle.elements.specs.Matching.{past, array, inMessage}
 use Rattle.messages.specs.Matching.{begun, withNumber, withPlace}
+use Rattle.elements.specs.Inside.{before}
 use Rattle.elements.specs.Reading.{onEnd, unsignedAt, opensAt, itemEnd, partOf}
-use Rattle.messages.specs.Reading.{failed, read, behind, withPart, fieldsOf, counted, numberedOf, messageOf}
-use Rattle.elements.proofs.ElementLaws.{Numbers, unsigned-sound, opens-sound, forward, item-found, number-item, item-array, Parts, part-sound, field-item}
-use Rattle.elements.proofs.Steps.{number-then, number-not, end-then, end-not}
-use Rattle.messages.proofs.Theorem.{whole-item}
+use Rattle.messages.specs.Reading.{failed, read, behind, withPart, fieldsOf, counted, numberedOf, countFrom, messageOf}
+use Rattle.elements.proofs.ElementLaws.{Numbers, Openings, unsigned-sound, opens-sound, forward, item-found, number-item, array-elements, before-past, no-items, Parts, part-sound, field-item}
+use Rattle.elements.proofs.Steps.{number-then, number-not, opening-then, opening-not, end-then, end-not}
+use Rattle.messages.proofs.Theorem.{whole-item, count-is, no-elements}
 
 -- a message with a number more, or a place more
 pub number-said : (m : Message) (v : ℕ) {l : List ℕ} → l ≡ set (m .numbers) (m .count) v
@@ -115,48 +119,62 @@ module _ (bs : List ℕ) where
       of (part.Place a l r) s e = let g : r ≡ q = cc in subst (λ (n : ℕ). ItemAt bs inMessage p n) g (field-item bs s)
       of part.Wrong s e = absurd (let z : _≡_ {A = ℕ} 0 1 = cc in omega arith)
 
-  -- the last item ends where the array ends
+  -- the last item ends where the array ends, and that is known of it alone
   pub last-ends : {d p n : ℕ} (k : ℕ) → k ≡ 1 → ItemsAt bs d k p n → itemEnd bs d p ≡ At n
   last-ends {d} {p} {n} k e s = item-found bs (record { forward = s .forward; inside = s .inside; reads = of (subst (λ (k : ℕ). Reads d (Items k) (drop p bs) (drop n bs)) e (s .reads)) })
     where
       of : Reads d (Items 1) (drop p bs) (drop n bs) → Reads d One (drop p bs) (drop n bs)
       of (item x no-more) = x
 
-  -- ---- the phases
+  pub known-end : (d p : ℕ) {n q : ℕ} (t : Bool) {e : End} → e ≡ cond t (At n) Nowhere → e ≡ At q → (t ≡ true → itemEnd bs d p ≡ At n) → itemEnd bs d p ≡ At q
+  known-end d p true f g last = last refl ∙ sym f ∙ g
+  known-end d p {q = q} false f g last = absurd (let z : Nowhere ≡ At q = sym f ∙ g in let y : _≡_ {A = ℕ} 0 1 = cc in omega arith)
 
-  pub array-is : {k a : ℕ} {n : Number} → n ≡ opensAt bs array 0 → n ≡ Is k a → Opens bs array 0 k a
-  array-is e f = subst (Numbers (λ k a. Opens bs array 0 k a)) (sym e ∙ f) (opens-sound bs array 0)
+  -- ---- the phases
 
   pub kind-is : (a : ℕ) {kind b : ℕ} {n : Number} → n ≡ unsignedAt bs a → n ≡ Is kind b → UnsignedAt bs a kind b
   kind-is a e f = subst (Numbers (λ v q. UnsignedAt bs a v q)) (sym e ∙ f) (unsigned-sound bs a)
 
-  -- the array of a message has its elements up to the end
-  pub array-left : {k a : ℕ} {n : Number} → verdict bs ≡ Whole (length bs) → n ≡ opensAt bs array 0 → n ≡ Is k a → ItemsAt bs inMessage k a (length bs)
-  array-left w e f = item-array bs (array-is e f) (whole-item bs w)
+  -- the array of a message has its elements up to the end, or up to its break
+  module _ (x : Extent) {a : ℕ} (w : verdict bs ≡ Whole (length bs)) (found : opensAt bs array 0 ≡ opening.At x a) where
+    o : Opens bs array 0 x a
+    o = subst (Openings (λ x a. Opens bs array 0 x a)) found (opens-sound bs array 0)
 
-  some-left : {d p n : ℕ} (k : ℕ) → p < n → ItemsAt bs d k p n → 0 < k
-  some-left {d} {p} {n} zero h s =
-      absurd (omega (arith, ap length (one-end d (Items zero) (drop p bs) (drop p bs) (drop n bs) no-more (s .reads)), length-drop p bs, length-drop n bs, s .inside))
-  some-left (suc k) h s = omega arith
+    pub array-left : ItemsAt bs inMessage (countFrom bs x a) a (before x (length bs))
+    array-left =
+        let f = array-elements bs x o (whole-item bs w) in
+        let end : f .1 ≡ before x (length bs) = sym (before-past bs x (f .1)) ∙ ap (before x) (f .4) in
+        subst (λ (q : ℕ). ItemsAt bs inMessage (countFrom bs x a) a q) end
+        (subst⁻¹ (λ (k : ℕ). ItemsAt bs inMessage k a (f .1)) (count-is bs x o (f .2) (f .3)) (f .2))
+
+    -- where an unsigned number opens it, it has an element
+    pub array-some : {v b : ℕ} → unsignedAt bs a ≡ Is v b → 0 < countFrom bs x a
+    array-some {v} {b} e =
+        let f = array-elements bs x o (whole-item bs w) in
+        let u = kind-is a refl e in
+        of (f .0) (count-is bs x o (f .2) (f .3)) (f .2) (f .3) (f .4) u
+      where
+        of : (k : ℕ) {q : ℕ} → countFrom bs x a ≡ k → ItemsAt bs inMessage k a q → Closes bs x k q → past x q ≡ length bs → UnsignedAt bs a v b
+            → 0 < countFrom bs x a
+        of zero n s c e u = absurd (no-elements bs x (no-items bs s) c e u)
+        of (suc k) n s c e u = omega arith
 
   -- and behind its kind one less
-  pub kind-left : (a : ℕ) {k kind b n : ℕ} {v : Number} → v ≡ unsignedAt bs a → v ≡ Is kind b → n ≡ length bs → ItemsAt bs inMessage k a n
+  pub kind-left : (a : ℕ) {k kind b n : ℕ} {v : Number} → v ≡ unsignedAt bs a → v ≡ Is kind b → 0 < k → ItemsAt bs inMessage k a n
       → ItemsAt bs inMessage (k - 1) b n
-  kind-left a {k} e f l s =
-      let u = kind-is a e f in
-      let w = definite-within bs a u in
-      items-after (some-left k (omega (arith, w .0, w .1)) s) s (number-item bs u)
+  kind-left a e f h s = items-after h s (number-item bs (kind-is a e f))
 
-  pub message-array : (p : Protocol) {k a : ℕ} {n : Number} {r : Answer} → verdict bs ≡ Whole (length bs) → n ≡ opensAt bs array 0 → n ≡ Is k a
-      → r ≡ numberedOf p bs k a → r ≡ messageOf p bs
+  pub message-array : (p : Protocol) {x : Extent} {a : ℕ} {n : Opening} {r : Answer} → verdict bs ≡ Whole (length bs) → n ≡ opensAt bs array 0
+      → n ≡ opening.At x a → r ≡ numberedOf p bs (countFrom bs x a) a → r ≡ messageOf p bs
   unfolding messageOf
   message-array p w e f g =
-      number-then (failed NotArray) (λ k a. numberedOf p bs k a) e f g ∙ sym (rw (w, eq-eqb (length bs) (length bs) refl))
+      opening-then (failed NotArray) (λ x a. numberedOf p bs (countFrom bs x a) a) e f g ∙ sym (rw (w, eq-eqb (length bs) (length bs) refl))
 
-  pub message-none : (p : Protocol) {n : Number} → verdict bs ≡ Whole (length bs) → n ≡ opensAt bs array 0 → n ≡ Not → failed NotArray ≡ messageOf p bs
+  pub message-none : (p : Protocol) {n : Opening} → verdict bs ≡ Whole (length bs) → n ≡ opensAt bs array 0 → n ≡ opening.Not
+      → failed NotArray ≡ messageOf p bs
   unfolding messageOf
   message-none p w e f =
-      number-not (failed NotArray) (λ k a. numberedOf p bs k a) e f ∙ sym (rw (w, eq-eqb (length bs) (length bs) refl))
+      opening-not (failed NotArray) (λ x a. numberedOf p bs (countFrom bs x a) a) e f ∙ sym (rw (w, eq-eqb (length bs) (length bs) refl))
 
   pub kind-named : (p : Protocol) (k a : ℕ) {kind b : ℕ} {n : Number} {r : Answer} → n ≡ unsignedAt bs a → n ≡ Is kind b
       → r ≡ counted bs k kind b (formOf p kind) → r ≡ numberedOf p bs k a

@@ -1,18 +1,19 @@
 -- T7: reading finds exactly the messages. Each field that matches is one item, so that the fields of a form and the
 -- elements of the array end at the same place.
 -- Assumes nothing.
-use Prim.Native.Nat.{ℕ, suc, _+_, _-_, _≤_, _<_}
+use Prim.Native.Nat.{ℕ, suc, _+_, _-_, _*_, _≤_, _<_}
 use mathlib.Core.Path.{_≡_, refl, sym, ap, subst, subst⁻¹, _∙_}
 use mathlib.Core.Bool.{true, false}
 use mathlib.Core.List.{List, [], _∷_}
 use mathlib.Core.Option.{Option, none, some}
 use native.Mathlib.Omega.{arith}
 use lib.Dec.{eqb}
-use lib.ListN.{length, drop, length-drop}
+use lib.ListN.{length, getD, drop, length-drop}
 use lib.Seq.{drop-length}
 use borrow.Author.Tests.{eqb-true, eq-eqb}
 use Rattle.base.proofs.Conds.{cond-cases}
 use Rattle.head.specs.Read.{headAt}
+use Rattle.head.proofs.ReadLaws.{definite-within}
 use Rattle.head.specs.declared.read.Head.the-variants as head
 use Rattle.item.specs.declared.Verdict.{Verdict}
 use Rattle.item.specs.declared.Verdict.the-variants.{Whole, Bad, Incomplete}
@@ -21,6 +22,11 @@ use Rattle.item.specs.Verdict.{verdict}
 use Rattle.item.proofs.Parts.{whole-reads, reads-whole}
 use Rattle.item.proofs.Theorem.{one-end}
 use Rattle.rows.specs.declared.Protocol.{Protocol}
+use Rattle.elements.specs.declared.Element.the-variants as element
+use Rattle.elements.specs.declared.Extent.{Extent}
+use Rattle.elements.specs.declared.Extent.the-variants.{Counted, Open, Rest}
+use Rattle.elements.specs.declared.Opening.the-variants as opening
+use Rattle.elements.specs.declared.Number.the-variants.{Is}
 use Rattle.elements.specs.declared.Field.{Field}
 use Rattle.elements.specs.declared.Part.{Part}
 use Rattle.elements.specs.declared.Part.the-variants as part
@@ -29,15 +35,15 @@ use Rattle.messages.specs.declared.Reading.the-variants.{Read, NotArray,
 use Rattle.messages.specs.declared.Message.{Message}
 use Rattle.messages.specs.declared.Answer.{Answer}
 use Rattle.messages.specs.Forms.{formOf}
-use Rattle.elements.specs.Besides.Matching.{Value, number, place, ItemAt, ItemsAt, UnsignedAt, Opens, FieldAt}
-use Rattle.elements.specs.Matching.{array, inMessage}
+use Rattle.elements.specs.Besides.Matching.{Value, number, place, ItemAt, ItemsAt, UnsignedAt, Opens, Closes, FieldAt}
+use Rattle.elements.specs.Matching.{past, array, inMessage}
 use Rattle.messages.specs.Besides.Matching.{FieldsAt, no-field, a-field, Matches, saying, told, messageFrom}
 use Rattle.messages.specs.Matching.{begun, withNumber, withPlace}
 use Rattle.elements.specs.Matching as matching
-use Rattle.elements.specs.Reading.{onEnd, unsignedAt, opensAt, partOf}
-use Rattle.messages.specs.Reading.{failed, read, behind, withPart, fieldsOf, counted, wholly, numberedOf, messageOf}
+use Rattle.elements.specs.Reading.{onEnd, unsignedAt, opensAt, elementsOf, partOf}
+use Rattle.messages.specs.Reading.{failed, read, behind, withPart, fieldsOf, counted, wholly, numberedOf, countFrom, messageOf}
 use Rattle.messages.specs.Besides.Theorem.{Says, ReadsForms, OneMatch, MessageIsItem}
-use Rattle.elements.proofs.ElementLaws.{number-cases, unsigned-sound, opens-sound, unsigned-found, opens-found, number-item, array-item, item-array, none-at, item-then, Parts, part-sound, got, part-found, field-item}
+use Rattle.elements.proofs.ElementLaws.{number-cases, opening-cases, unsigned-sound, opens-sound, unsigned-found, opens-found, opens-within, number-item, head-no-break, array-elements, items-elements, elements-found, list-item, none-at, item-then, Parts, part-sound, got, part-found, field-item}
 
 module _ (bs : List ℕ) where
   pub fields-items : {fs : List Field} {p q : ℕ} {xs : List Value} → p ≤ length bs → FieldsAt bs fs p xs q → ItemsAt bs inMessage (length fs) p q
@@ -107,28 +113,61 @@ module _ (bs : List ℕ) where
       let n = number-item bs u in
       subst (λ (k : ℕ). ItemsAt bs inMessage k a q) e (item-then bs n (fields-items (n .inside) r))
 
+  -- an array's count, by what is in it
+  pub count-is : (x : Extent) {a k q : ℕ} → Opens bs array 0 x a → ItemsAt bs inMessage k a q → Closes bs x k q → countFrom bs x a ≡ k
+  count-is (Counted n) o s c = sym c
+  count-is Open {a} {k} {q} o s c =
+      let found : elementsOf bs inMessage element.Item Open a ≡ Is k q =
+      elements-found bs inMessage element.Item Open (opens-within bs array 0 Open (omega arith) o .1) (items-elements bs k 0 s) c in
+      rw found
+  count-is Rest o s c = absurd o
+
+  -- an unsigned number does not stand behind the last element
+  pub no-elements : (x : Extent) {a v b q : ℕ} → a ≡ q → Closes bs x 0 q → past x q ≡ length bs → UnsignedAt bs a v b → ⊥
+  no-elements (Counted n) {a} e c w u = let d = definite-within bs a u in omega (arith, d .0, d .1)
+  no-elements Open {a} e c w u = head-no-break bs a u (ap (λ (n : ℕ). getD bs n 0) e ∙ c)
+  no-elements Rest {a} e c w u = let d = definite-within bs a u in omega (arith, d .0, d .1)
+
   failing : {r : Reading} {n : Message} → failed r ≡ read n → r ≡ Read
   failing e = ap (λ (a : Answer). a .reading) e
 
   module _ (p : Protocol) where
     pub matches-item : {kind : ℕ} {xs : List Value} → Matches p bs kind xs → ItemAt bs nesting 0 (length bs)
-    matches-item m = array-item bs (m .opens) (elements (m .named) (m .matched))
+    matches-item m =
+        let k : ℕ = length (m .fields) + 1 in
+        let z : k ≡ 1 * k = omega arith in
+        subst (λ (q : ℕ). ItemAt bs nesting 0 q) (m .whole)
+        (list-item bs element.Item (m .extent) k (m .opens)
+        (subst (λ (n : ℕ). ItemsAt bs inMessage n (m .first) (m .last)) z (elements (m .named) (m .matched))) (m .closes))
 
-    counted-sound : (k kind a b : ℕ) (n : Message) (w : Option (List Field)) → formOf p kind ≡ w → ItemAt bs nesting 0 (length bs)
-        → Opens bs array 0 k a → UnsignedAt bs a kind b → counted bs k kind b w ≡ read n → Says p bs n
-    counted-sound k kind a b n none f i o u = λ e. absurd (let z : UnknownKind ≡ Read = failing e in let y : _≡_ {A = ℕ} 0 1 = cc in omega arith)
-    counted-sound k kind a b n (some fs) f i o u =
-        cond-cases (λ (x : Answer). x ≡ read n → Says p bs n) (eqb k (length fs + 1))
-        (λ t e. of (eqb-true k (length fs + 1) t) (fields-sound fs 1 b (begun kind) n e))
+    counted-sound : (x : Extent) (kind a b : ℕ) (n : Message) (w : Option (List Field)) → formOf p kind ≡ w → ItemAt bs nesting 0 (length bs)
+        → Opens bs array 0 x a → UnsignedAt bs a kind b → counted bs (countFrom bs x a) kind b w ≡ read n → Says p bs n
+    counted-sound x kind a b n none f i o u = λ e. absurd (let z : UnknownKind ≡ Read = failing e in let y : _≡_ {A = ℕ} 0 1 = cc in omega arith)
+    counted-sound x kind a b n (some fs) f i o u =
+        cond-cases (λ (y : Answer). y ≡ read n → Says p bs n) (eqb (countFrom bs x a) (length fs + 1))
+        (λ t e. of (eqb-true (countFrom bs x a) (length fs + 1) t) (fields-sound fs 1 b (begun kind) n e))
         (λ _ e. absurd (let z : WrongCount ≡ Read = failing e in let y : _≡_ {A = ℕ} 0 1 = cc in omega arith))
       where
-        of : k ≡ length fs + 1 → Found fs b (begun kind) n → Says p bs n
+        of : countFrom bs x a ≡ length fs + 1 → Found fs b (begun kind) n → Says p bs n
         of c (xs, q, r, e) =
-            let o′ : Opens bs array 0 (length fs + 1) a = o ∙ ap (λ (m : ℕ). head.Definite array m a) c in
-            let end : q ≡ length bs = same-end (elements u r) (item-array bs o′ i) in (
+            let g = array-elements bs x o i in
+            let k : g .0 ≡ length fs + 1 = sym (count-is x o (g .2) (g .3)) ∙ c in
+            let end : g .1 ≡ q = same-end (subst (λ (k : ℕ). ItemsAt bs inMessage k a (g .1)) k (g .2)) (elements u r) in (
               kind,
               xs,
-              record { fields = fs; first = a; second = b; form = f; opens = o′; named = u; matched = subst (λ (l : ℕ). FieldsAt bs fs b xs l) end r },
+              record {
+                fields = fs;
+                extent = x;
+                first = a;
+                second = b;
+                last = q;
+                form = f;
+                opens = o;
+                named = u;
+                matched = r;
+                closes = subst (Closes bs x (length fs + 1)) end (subst (λ (k : ℕ). Closes bs x k (g .1)) k (g .3));
+                whole = ap (past x) (sym end) ∙ g .4;
+              },
               e,
             )
 
@@ -140,22 +179,30 @@ module _ (bs : List ℕ) where
         cond-cases P (wholly (verdict bs) (length bs))
         (λ t.
         let i : ItemAt bs nesting 0 (length bs) = whole-item (wholly-true (verdict bs) (length bs) t) in
-        number-cases P (λ k a. numberedOf p bs k a) (opensAt bs array 0) (opens-sound bs array 0) not-array
-        (λ k a o.
-        number-cases P (λ kind b. counted bs k kind b (formOf p kind)) (unsignedAt bs a) (unsigned-sound bs a) not-array
-        (λ kind b u. counted-sound k kind a b n (formOf p kind) refl i o u)))
+        opening-cases P (λ x a. numberedOf p bs (countFrom bs x a) a) (opensAt bs array 0) (opens-sound bs array 0) not-array
+        (λ x a o.
+        number-cases P (λ kind b. counted bs (countFrom bs x a) kind b (formOf p kind)) (unsignedAt bs a) (unsigned-sound bs a) not-array
+        (λ kind b u. counted-sound x kind a b n (formOf p kind) refl i o u)))
         (λ _. not-array)
 
     found : {kind : ℕ} {xs : List Value} → Matches p bs kind xs → messageOf p bs ≡ read (messageFrom kind xs)
     unfolding messageOf numberedOf
     found {kind} {xs} m =
         let n : ℕ = length (m .fields) + 1 in
-        rw (item-whole (matches-item m), eq-eqb (length bs) (length bs) refl, opens-found bs array 0 (m .opens), unsigned-found bs (m .first) (m .named), m .form, eq-eqb n n refl)
+        rw (
+          item-whole (matches-item m),
+          eq-eqb (length bs) (length bs) refl,
+          opens-found bs element.Item 0 (m .extent) (m .opens),
+          count-is (m .extent) (m .opens) (elements (m .named) (m .matched)) (m .closes),
+          unsigned-found bs (m .first) (m .named),
+          m .form,
+          eq-eqb n n refl,
+        )
         (fields-found 1 (begun kind) (m .matched))
 
   -- ---- one match
 
-  got-same : (x y : Value) (q r : ℕ) → got bs x q ≡ got bs y r → (x ≡ y) × (q ≡ r)
+  pub got-same : (x y : Value) (q r : ℕ) → got bs x q ≡ got bs y r → (x ≡ y) × (q ≡ r)
   got-same (number v) (number w) q r e = (cc, cc)
   got-same (number v) (place a l) q r e = absurd (let z : _≡_ {A = ℕ} 0 1 = cc in omega arith)
   got-same (place a l) (number v) q r e = absurd (let z : _≡_ {A = ℕ} 0 1 = cc in omega arith)
@@ -175,11 +222,12 @@ message-is-item p bs kind xs m = rw drop-length at (matches-item bs p m .reads)
 
 pub one-match : OneMatch
 one-match p bs kind other xs ys m n =
-    let o : head.Definite array (length (m .fields) + 1) (m .first) ≡ head.Definite array (length (n .fields) + 1) (n .first) = sym (m .opens) ∙ n .opens in
+    let o : opening.At (m .extent) (m .first) ≡ opening.At (n .extent) (n .first) =
+    sym (opens-found bs element.Item 0 (m .extent) (m .opens)) ∙ opens-found bs element.Item 0 (n .extent) (n .opens) in
     let a : m .first ≡ n .first = cc in
     let u : head.Definite 0 kind (m .second) ≡ head.Definite 0 other (n .second) = sym (m .named) ∙ ap (headAt bs) a ∙ n .named in
     let k : kind ≡ other = cc in
     let b : n .second ≡ m .second = cc in
     let f : some (n .fields) ≡ some (m .fields) = sym (n .form) ∙ ap (formOf p) (sym k) ∙ m .form in
     let g : n .fields ≡ m .fields = cc in
-    (k, fields-one bs (m .matched) (subst (λ (fs : List Field). FieldsAt bs fs (m .second) ys (length bs)) g (subst (λ (q : ℕ). FieldsAt bs (n .fields) q ys (length bs)) b (n .matched))))
+    (k, fields-one bs (m .matched) (subst (λ (fs : List Field). FieldsAt bs fs (m .second) ys (n .last)) g (subst (λ (q : ℕ). FieldsAt bs (n .fields) q ys (n .last)) b (n .matched))))

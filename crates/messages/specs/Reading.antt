@@ -10,6 +10,9 @@ use Rattle.item.specs.declared.Verdict.the-variants.{Whole, Bad, Incomplete}
 use Rattle.item.specs.Verdict.{verdict}
 use Rattle.rows.specs.declared.Protocol.{Protocol}
 use Rattle.rows.specs.declared.Protocol.the-variants.{Handshake, ChainSync, BlockFetch, TxSubmission, KeepAlive, LocalTxSubmission, LocalStateQuery}
+use Rattle.elements.specs.declared.Element.the-variants as element
+use Rattle.elements.specs.declared.Extent.{Extent}
+use Rattle.elements.specs.declared.Extent.the-variants.{Counted, Open, Rest}
 use Rattle.elements.specs.declared.Field.{Field}
 use Rattle.elements.specs.declared.End.{End}
 use Rattle.elements.specs.declared.End.the-variants.{At, Nowhere}
@@ -20,8 +23,8 @@ use Rattle.messages.specs.declared.Reading.the-variants.{Read, NotArray,
 use Rattle.messages.specs.declared.Message.{Message}
 use Rattle.messages.specs.declared.Answer.{Answer}
 use Rattle.messages.specs.Forms.{formOf}
-use Rattle.elements.specs.Matching.{array}
-use Rattle.elements.specs.Reading.{onNumber, onEnd, unsignedAt, opensAt, partOf}
+use Rattle.elements.specs.Matching.{array, inMessage}
+use Rattle.elements.specs.Reading.{onNumber, onOpening, onEnd, unsignedAt, opensAt, elementsOf, partOf}
 use Rattle.messages.specs.Matching.{begun, withNumber, withPlace}
 
 abbrev pub failed : Reading → Answer
@@ -56,6 +59,12 @@ counted bs n kind p (some fs) = cond (eqb n (length fs + 1)) (fieldsOf bs fs 1 p
 unfoldable pub numberedOf : Protocol → List ℕ → ℕ → ℕ → Answer
 numberedOf p bs n a = onNumber (failed NotArray) (unsignedAt bs a) (λ kind b. counted bs n kind b (formOf p kind))
 
+-- How many elements the array has, the first of them at place a: as many as its head says, or as stand in front of its break.
+abbrev pub countFrom : List ℕ → Extent → ℕ → ℕ
+countFrom bs (Counted n) a = n
+countFrom bs Open a = onNumber 0 (elementsOf bs inMessage element.Item Open a) (λ k q. k)
+countFrom bs Rest a = 0
+
 -- The bytes are exactly one item.
 abbrev pub wholly : Verdict → ℕ → Bool
 wholly (Whole q) n = eqb q n
@@ -67,7 +76,7 @@ wholly Incomplete n = false
 unfoldable pub messageOf : Protocol → List ℕ → Answer
 messageOf p bs =
     cond (wholly (verdict bs) (length bs))
-    (onNumber (failed NotArray) (opensAt bs array 0) (λ n a. numberedOf p bs n a))
+    (onOpening (failed NotArray) (opensAt bs array 0) (λ x a. numberedOf p bs (countFrom bs x a) a))
     (failed NotArray)
 
 -- Document 01's number for each case.

@@ -1,11 +1,16 @@
 // Messages: the forms of document 01 and of K1, and reading a message's kind, numbers and places.
 //
 // Taking and putting read by the same function. It goes in phases, so that a reader can tell them apart: an array that
-// an unsigned number opens; a known kind; the count of elements; the fields from left to right.
+// an unsigned number opens; a known kind; the count of elements; the fields from left to right. Only an array of indefinite length has
+// its elements counted before its fields are read.
 pub mod forms;
 
+use elements::Element;
 use elements::End;
+use elements::Extent;
+use elements::IN_MESSAGE;
 use elements::Number;
+use elements::Opening;
 use elements::Part;
 use forms::Listed;
 use head::ARRAY;
@@ -13,16 +18,17 @@ use rows::Protocol;
 ghost use mathlib.Core.Path.{_≡_};
 ghost use mathlib.Core.Bool.{cond};
 ghost use mathlib.Core.Option.{some};
-ghost use Prim.Native.Nat.{_-_, _≤_, _<_};
+ghost use Prim.Native.Nat.{ℕ, _-_, _≤_, _<_};
 ghost use lib.Dec.{eqb};
 ghost use lib.ListN.{length, getD, set};
 ghost use Rattle.ring.specs.Inside.{around};
 ghost use Rattle.item.specs.declared.Verdict.the-variants.{Whole};
 ghost use Rattle.item.specs.Verdict.{verdict};
 ghost use Rattle.elements.specs.Besides.Matching.{ItemsAt};
-ghost use Rattle.elements.specs.Matching.{inMessage};
+ghost use Rattle.elements.specs.Matching.{array, inMessage};
+ghost use Rattle.elements.specs.Reading.{unsignedAt, opensAt};
 ghost use Rattle.messages.specs.Matching.{begun, withNumber, withPlace};
-ghost use Rattle.messages.specs.Reading.{failed, withPart, behind, fieldsOf, counted, numberedOf, messageOf, numberOf, flagOf};
+ghost use Rattle.messages.specs.Reading.{failed, withPart, behind, fieldsOf, counted, numberedOf, countFrom, messageOf, numberOf, flagOf};
 ghost use Rattle.messages.specs.Forms.{formOf};
 ghost use Rattle.messages.specs.Inside.{formCount, formAt};
 
@@ -163,10 +169,18 @@ fn behind_of(part: Part) -> End
     }
 }
 
-// The fields of the form in a row, from left to right, the first of them at the place `first`.
-fn fields(s: &[u8], from: usize, n: usize, row: usize, kind: u64, first: usize) -> Answer
+// The fields of the form in a row, from left to right, the first of them at the place `first`, up to the place `end`.
+fn fields(
+    s: &[u8],
+    from: usize,
+    n: usize,
+    row: usize,
+    kind: u64,
+    first: usize,
+    end: usize,
+) -> Answer
     requires { ⌜ (from ≤ length (now s)) × (n ≤ length (now s)) × (row < formCount) ⌝ }
-    requires { ⌜ ItemsAt (around (now s) from n) inMessage (length (formAt row .fields)) first n ⌝ }
+    requires { ⌜ ItemsAt (around (now s) from n) inMessage (length (formAt row .fields)) first end ⌝ }
     ensures { λ r. ⌜ r ≡ fieldsOf (around (now (s .entry)) from n) (formAt row .fields) 1 first (begun kind) ⌝ }
 {
     let count = forms::fields(row);
@@ -174,7 +188,8 @@ fn fields(s: &[u8], from: usize, n: usize, row: usize, kind: u64, first: usize) 
     let mut at = first;
     let mut i: usize = 0;
     while i < count {
-        let part = elements::part_at(s, from, n, forms::field_at(row, i), at, i + 1 == count);
+        let known = elements::end_if(i + 1 == count, end);
+        let part = elements::part_at(s, from, n, forms::field_at(row, i), at, known);
         let e = behind_of(part);
         let End::At(q) = e else {
             return fail(Reading::WrongField((i + 1) as u64));
@@ -198,41 +213,93 @@ fn formed(
     count: u64,
     kind: u64,
     next: usize,
+    end: usize,
 ) -> Answer
     requires { ⌜ (from ≤ length (now s)) × (n ≤ length (now s)) ⌝ }
-    requires { ⌜ ItemsAt (around (now s) from n) inMessage (count - 1) next n ⌝ }
+    requires { ⌜ ItemsAt (around (now s) from n) inMessage (count - 1) next end ⌝ }
     ensures { λ r. ⌜ r ≡ counted (around (now (s .entry)) from n) count kind next (formOf p kind) ⌝ }
 {
     let form = forms::find(p, kind);
     match form {
-        Listed::Row(row) => filled(s, from, n, row, count, kind, next),
+        Listed::Row(row) => filled(s, from, n, row, count, kind, next, end),
         Listed::Unknown => fail(Reading::UnknownKind),
     }
 }
 
 // The same of the form in a row.
-fn filled(s: &[u8], from: usize, n: usize, row: usize, count: u64, kind: u64, next: usize) -> Answer
+fn filled(
+    s: &[u8],
+    from: usize,
+    n: usize,
+    row: usize,
+    count: u64,
+    kind: u64,
+    next: usize,
+    end: usize,
+) -> Answer
     requires { ⌜ (from ≤ length (now s)) × (n ≤ length (now s)) × (row < formCount) ⌝ }
-    requires { ⌜ ItemsAt (around (now s) from n) inMessage (count - 1) next n ⌝ }
+    requires { ⌜ ItemsAt (around (now s) from n) inMessage (count - 1) next end ⌝ }
     ensures { λ r. ⌜ r ≡ counted (around (now (s .entry)) from n) count kind next (some (formAt row .fields)) ⌝ }
 {
     if count == forms::fields(row) as u64 + 1 {
-        return fields(s, from, n, row, kind, next);
+        return fields(s, from, n, row, kind, next, end);
     }
     fail(Reading::WrongCount)
 }
 
 // The kind, which opens the array of so many elements.
-fn numbered(p: Protocol, s: &[u8], from: usize, n: usize, count: u64, first: usize) -> Answer
+fn numbered(
+    p: Protocol,
+    s: &[u8],
+    from: usize,
+    n: usize,
+    count: u64,
+    first: usize,
+    end: usize,
+) -> Answer
     requires { ⌜ (from ≤ length (now s)) × (n ≤ length (now s)) ⌝ }
-    requires { ⌜ ItemsAt (around (now s) from n) inMessage count first n ⌝ }
+    requires { ⌜ ItemsAt (around (now s) from n) inMessage count first end × ((v b : ℕ) → unsignedAt (around (now s) from n) first ≡ Number.Is v b → 0 < count) ⌝ }
     ensures { λ r. ⌜ r ≡ numberedOf p (around (now (s .entry)) from n) count first ⌝ }
 {
     let kind = elements::unsigned_at(s, from, n, first);
     match kind {
-        Number::Is(k, next) => formed(p, s, from, n, count, k, next),
+        Number::Is(k, next) => formed(p, s, from, n, count, k, next, end),
         Number::Not => fail(Reading::NotArray),
     }
+}
+
+// How many elements stand in an array of indefinite length: as many as are in front of its break.
+fn count_open(s: &[u8], from: usize, n: usize, first: usize) -> u64
+    requires { ⌜ (from ≤ length (now s)) × (n ≤ length (now s)) ⌝ }
+    ensures { λ r. ⌜ r ≡ countFrom (around (now (s .entry)) from n) Extent.Open first ⌝ }
+{
+    let elements = elements::walk(s, from, n, IN_MESSAGE, Element::Item, Extent::Open, first);
+    match elements {
+        Number::Is(k, _) => k,
+        Number::Not => 0,
+    }
+}
+
+// How many elements the array has.
+fn count_from(s: &[u8], from: usize, n: usize, x: Extent, first: usize) -> u64
+    requires { ⌜ (from ≤ length (now s)) × (n ≤ length (now s)) ⌝ }
+    ensures { λ r. ⌜ r ≡ countFrom (around (now (s .entry)) from n) x first ⌝ }
+{
+    match x {
+        Extent::Counted(count) => count,
+        Extent::Open => count_open(s, from, n, first),
+        Extent::Rest => 0,
+    }
+}
+
+// The message whose array is of this extent, its first element at a place.
+fn opened(p: Protocol, s: &[u8], from: usize, n: usize, x: Extent, first: usize) -> Answer
+    requires { ⌜ (from ≤ length (now s)) × (n ≤ length (now s)) × (verdict (around (now s) from n) ≡ Whole n) ⌝ }
+    requires { ⌜ opensAt (around (now s) from n) array 0 ≡ Opening.At x first ⌝ }
+    ensures { λ r. ⌜ r ≡ numberedOf p (around (now (s .entry)) from n) (countFrom (around (now (s .entry)) from n) x first) first ⌝ }
+{
+    let count = count_from(s, from, n, x, first);
+    numbered(p, s, from, n, count, first, elements::before_of(x, n))
 }
 
 // Reads the n bytes from the place `from` on of a slice seen as a ring, which are exactly one item within the nesting.
@@ -242,8 +309,8 @@ pub fn read(p: Protocol, s: &[u8], from: usize, n: usize) -> Answer
 {
     let array = elements::opens_at(s, from, n, ARRAY, 0);
     match array {
-        Number::Is(count, first) => numbered(p, s, from, n, count, first),
-        Number::Not => fail(Reading::NotArray),
+        Opening::At(x, first) => opened(p, s, from, n, x, first),
+        Opening::Not => fail(Reading::NotArray),
     }
 }
 

@@ -63,7 +63,7 @@ abbrev accept : List ℕ
 accept = 0x83 ∷ 0x01 ∷ 0x00 ∷ 0x00 ∷ []
 
 abbrev find-intersect : Parts
-find-intersect = record { kind = 4; numbers = []; runs = 1; one = 0x58 ∷ 0x1c ∷ replicate 28 0; two = [] }
+find-intersect = record { kind = 4; asked = false; numbers = []; runs = 1; one = 0x58 ∷ 0x1c ∷ replicate 28 0; two = [] }
 
 abbrev message : List ℕ
 message = 0x82 ∷ 0x04 ∷ 0x81 ∷ find-intersect .one

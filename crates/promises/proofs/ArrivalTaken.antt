@@ -162,7 +162,7 @@ unfolding runsAt
 built-is-taken bundle i p bs b w j same k lent room =
     let q : Protocol = speaks (w .connection .settings .party .bundle) j in
     let r = buildWith bundle i p (b .lent) in
-    let back = build.reads-back bundle i (p .kind) (p .numbers) (p .runs) (p .one) (p .two) (b .lent) (r .answer) (r .buffer) (b .slices .0)
+    let back = build.reads-back bundle i (p .kind) (p .asked) (p .numbers) (p .runs) (p .one) (p .two) (b .lent) (r .answer) (r .buffer) (b .slices .0)
     (b .slices .1) refl (b .done) in
     let xs : List Value = back .0 in
     let m : Matches q bs (p .kind) xs =

@@ -24,7 +24,7 @@ use Rattle.promises.proofs.HistoryTalks.{talks-first, talks-next}
 use Rattle.promises.proofs.HistoryReceives.{Held, held-first, held-after, receives}
 use Rattle.promises.proofs.HistoryCloses.{closes-first, closes-after}
 use Rattle.promises.proofs.HistorySends.{Waits, waits-first, waits-after, sends, segmented}
-use Rattle.promises.proofs.HistoryItems.{Spelled, spelled-next, spelled-first}
+use Rattle.promises.proofs.HistoryItems.{AllSpelled, spelled-next, spelled-first}
 
 -- all that each call keeps
 record Ties (s : Settings) (past : Past) (w : World) : Type 0 where
@@ -32,7 +32,7 @@ record Ties (s : Settings) (past : Past) (w : World) : Type 0 where
   waits : Waits s past w
   talks : Talks s past w
   closes : Closes s past w
-  spelled : Spelled s past
+  spelled : AllSpelled s past
 
 ties-next : (s : Settings) (past : Past) (w : World) (c : Call) → Real c → Reached s w → Reached s (step w c .world) → Ties s past w
     → Ties s (past ++ (event step w c ∷ [])) (step w c .world)

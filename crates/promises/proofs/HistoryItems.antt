@@ -28,7 +28,7 @@ use Rattle.promises.specs.Trace.{All, event}
 use Rattle.promises.specs.Calls as calls
 use Rattle.promises.specs.Calls.{Call, World, step}
 use Rattle.promises.specs.Reached.{Reached, numberOf}
-use Rattle.promises.specs.History.{Past, Act, gave, got, actsBy, acts, handedBy, handed, handedFor, Spells, Messages}
+use Rattle.promises.specs.History.{Past, Act, gave, got, actsBy, acts, handedBy, handed, handedFor, Spelled, Messages}
 use Rattle.promises.proofs.Ways.{Takes, refuses, faults, hands}
 use Rattle.promises.proofs.HistoryCalls.{Good, good, takes, afterTake}
 use Rattle.promises.proofs.HistoryLaws.{all-append, no-act, front, acts-next}
@@ -42,7 +42,7 @@ message-item p bs m e = let (kind, xs, k, q) = reads-forms p bs m .0 e in messag
 -- ---- as the answers spelled them
 
 spelled-take : (w : World) (i j : ℕ) (buf : List ℕ) {x : taking.Told} → Takes (w .connection) (w .receive) j buf x
-    → All (Spells (speaks (w .connection .settings .party .bundle) i)) (actsBy i (calls.take j buf) (afterTake w x .answer))
+    → All (Spelled (speaks (w .connection .settings .party .bundle) i)) (actsBy i (calls.take j buf) (afterTake w x .answer))
 spelled-take w i j buf (refuses n z y f) = rw (no-act (eqb j i) n (got _ _ _) z) tt
 spelled-take w i j buf (faults n low high h) = rw (no-act (eqb j i) n (got _ _ _) (λ z. omega arith)) tt
 spelled-take w i j buf (hands n m to h e l b r q) =
@@ -55,12 +55,12 @@ spelled-take w i j buf (hands n m to h e l b r q) =
     rw (t, at-front, ← same) ((rw length-sets b, message-item (p j) xs m r, r), tt))
     (λ t. rw t tt)
 
-spelled-put : (p : Protocol) (xs : List ℕ) (mine : Bool) → All (Spells p) (cond mine (gave xs ∷ []) [])
+spelled-put : (p : Protocol) (xs : List ℕ) (mine : Bool) → All (Spelled p) (cond mine (gave xs ∷ []) [])
 spelled-put p xs true = (tt, tt)
 spelled-put p xs false = tt
 
 spelled-call : (w : World) → Good w → (i : ℕ) (c : Call)
-    → All (Spells (speaks (w .connection .settings .party .bundle) i)) (actsBy i c (step w c .answer))
+    → All (Spelled (speaks (w .connection .settings .party .bundle) i)) (actsBy i c (step w c .answer))
 unfolding step
 spelled-call w g i (calls.feed xs) = tt
 spelled-call w g i (calls.take j buf) = spelled-take w i j buf (takes w g j buf)
@@ -70,16 +70,16 @@ spelled-call w g i (calls.next time buf) = tt
 spelled-call w g i calls.status = tt
 
 -- every message of every instance
-abbrev pub Spelled : Settings → Past → Type 0
-Spelled s past = (i : ℕ) → All (Spells (speaks (s .party .bundle) i)) (acts i past)
+abbrev pub AllSpelled : Settings → Past → Type 0
+AllSpelled s past = (i : ℕ) → All (Spelled (speaks (s .party .bundle) i)) (acts i past)
 
-pub spelled-next : (s : Settings) (past : Past) (w : World) (c : Call) → Reached s w → Spelled s past → Spelled s (past ++ (event step w c ∷ []))
+pub spelled-next : (s : Settings) (past : Past) (w : World) (c : Call) → Reached s w → AllSpelled s past → AllSpelled s (past ++ (event step w c ∷ []))
 spelled-next s past w c k t i =
     rw (acts-next past (event step w c) i)
-    (all-append (Spells (speaks (s .party .bundle) i)) (acts i past) (actsBy i c (step w c .answer)) (t i)
-    (subst (λ (u : Settings). All (Spells (speaks (u .party .bundle) i)) (actsBy i c (step w c .answer))) (k .settings) (spelled-call w (good k) i c)))
+    (all-append (Spelled (speaks (s .party .bundle) i)) (acts i past) (actsBy i c (step w c .answer)) (t i)
+    (subst (λ (u : Settings). All (Spelled (speaks (u .party .bundle) i)) (actsBy i c (step w c .answer))) (k .settings) (spelled-call w (good k) i c)))
 
-pub spelled-first : (s : Settings) → Spelled s []
+pub spelled-first : (s : Settings) → AllSpelled s []
 unfolding acts flatMap
 spelled-first s i = tt
 
@@ -107,13 +107,13 @@ split-once (a ∷ ms) (b ∷ ns) xs ys (g, i) (h, k) n e =
     let r = split-once ms ns xs ys i k (omega arith) (q .1) in
     (rw (q .0, r .0), r .1)
 
-items : (p : Protocol) (done : List Act) → All (Spells p) done → All (Item nesting) (flatMap handedBy done)
+items : (p : Protocol) (done : List Act) → All (Spelled p) done → All (Item nesting) (flatMap handedBy done)
 unfolding flatMap
 items p [] s = tt
 items p (gave xs ∷ done) (h, s) = items p done s
 items p (got len m buf ∷ done) (h, s) = (h .1, items p done s)
 
-pub messages : (p : Protocol) (past : Past) (i : ℕ) (received held : List ℕ) → All (Spells p) (acts i past) → received ≡ handedFor i past ++ held
+pub messages : (p : Protocol) (past : Past) (i : ℕ) (received held : List ℕ) → All (Spelled p) (acts i past) → received ≡ handedFor i past ++ held
     → Messages p past i received held
 unfolding handedFor handed
 messages p past i received held s e =

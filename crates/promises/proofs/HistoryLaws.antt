@@ -8,7 +8,7 @@ use Prim.Native.Nat.{ℕ, _+_, _≤_}
 use native.Mathlib.Omega.{arith}
 use borrow.Author.Tests.{ne-eqb}
 use lib.Dec.{eqb}
-use lib.ListN.{length, take, drop, length-append}
+use lib.ListN.{length, take, drop}
 use lib.Seq.{sets, sets-eq, take-at}
 use Rattle.wire.specs.declared.instances.Party.{Party}
 use Rattle.promises.specs.Trace.{All, Event}
@@ -37,10 +37,6 @@ flatten-append (x ∷ xs) ys = rw (flatten-append xs ys, append-assoc)
 pub all-append : {A : Type 0} (P : A → Type 0) (xs ys : List A) → All P xs → All P ys → All P (xs ++ ys)
 all-append P [] ys m n = n
 all-append P (x ∷ xs) ys (h, m) n = (h, all-append P xs ys m n)
-
--- how many there are, of which the first are gone
-pub counted : {all : List ℕ} (gone rest : List ℕ) {n : ℕ} → all ≡ gone ++ rest → length rest ≡ n → length all ≡ length gone + n
-counted gone rest e q = ap length e ∙ length-append gone rest ∙ ap (λ (m : ℕ). length gone + m) q
 
 -- ---- one event
 

@@ -12,7 +12,7 @@ use lib.ListN.{length, getD, length-set, getD-replicate}
 use lib.Seq.{sets}
 use Rattle.ring.specs.Ring.{baseOf, stream}
 use Rattle.ring.proofs.Stores.{stream-length}
-use Rattle.ring.proofs.Streams.{stream-place, queue-freed, starts-freed}
+use Rattle.ring.proofs.Streams.{stream-count, stream-place, queue-freed, starts-freed}
 use Rattle.wire.specs.declared.instances.Party.{Party}
 use Rattle.wire.specs.Segments.{decoded, in-header}
 use Rattle.wire.specs.Instances.{instances, most}
@@ -43,8 +43,8 @@ use Rattle.promises.proofs.Ways.{Takes, refuses, faults, hands, Puts, q
 use Rattle.promises.proofs.ReachedFeed.{Feeds, shut, bytes}
 use Rattle.promises.proofs.Reached.{opens-fresh}
 use Rattle.promises.proofs.HistoryCalls.{Good, good, feeds, takes, puts, makes, afterFeed, afterTake, afterPut, afterNext}
-use Rattle.promises.proofs.HistoryLaws.{no-act-adds, act-adds, act-unseen, front, counted, bytes-next, handed-more, handed-still}
-use Rattle.promises.proofs.HistoryItems.{Spelled, messages}
+use Rattle.promises.proofs.HistoryLaws.{no-act-adds, act-adds, act-unseen, front, bytes-next, handed-more, handed-still}
+use Rattle.promises.proofs.HistoryItems.{AllSpelled, messages}
 use Rattle.promises.proofs.HistoryLayout.{none-for}
 use Rattle.promises.proofs.HistoryBytes.{heldIn, Reading, in-head, in-pay, Tied, tied-fed}
 
@@ -201,7 +201,7 @@ held-first {s} {receive} {send} o =
 -- ---- T11 (a) and (d)
 
 module _ (past : Past) (w : World) (t : Held (w .connection .settings) past w)
-    (spelled : Spelled (w .connection .settings) past) where
+    (spelled : AllSpelled (w .connection .settings) past) where
   abbrev caps : List ℕ
   caps = w .connection .settings .receive
 
@@ -216,12 +216,14 @@ module _ (past : Past) (w : World) (t : Held (w .connection .settings) past w)
         messages = λ i l.
             messages (speaks (w .connection .settings .party .bundle) i) past i (came i) (heldOf (w .connection) (w .receive) i) (spelled i)
             (t .tied .received i l);
-        held = λ i l. counted (handedFor i past) (heldOf (w .connection) (w .receive) i) (t .tied .received i l) (stream-length (w .receive) _ _ _ (getD (r .held) i 0));
+        held = λ i l.
+            stream-count (w .receive) (baseOf caps i) (getD caps i 0) (getD (r .starts) i 0) (getD (r .held) i 0) (came i) (handedFor i past)
+            (t .tied .received i l);
         starts = t .starts;
         places = λ i n l.
             stream-place (w .receive) (baseOf caps i) (getD caps i 0) (getD (r .starts) i 0) (getD (r .held) i 0) (came i) (handedFor i past)
             (t .tied .received i l) (t .starts i l) n;
       }
 
-pub receives : (s : Settings) (past : Past) (w : World) → Reached s w → Held s past w → Spelled s past → Receives s past w
-receives s past w k = subst (λ (u : Settings). Held u past w → Spelled u past → Receives u past w) (k .settings) (receives-of past w)
+pub receives : (s : Settings) (past : Past) (w : World) → Reached s w → Held s past w → AllSpelled s past → Receives s past w
+receives s past w k = subst (λ (u : Settings). Held u past w → AllSpelled u past → Receives u past w) (k .settings) (receives-of past w)

@@ -12,7 +12,7 @@ use lib.ListN.{length, getD, getD-replicate}
 use Rattle.base.proofs.Conds.{by-test}
 use Rattle.ring.specs.Ring.{baseOf, stream}
 use Rattle.ring.proofs.Stores.{stream-length}
-use Rattle.ring.proofs.Streams.{stream-place, queue-freed, starts-freed, queue-laid}
+use Rattle.ring.proofs.Streams.{stream-count, stream-place, queue-freed, starts-freed, queue-laid}
 use Rattle.wire.specs.declared.segment.Segment.{Segment}
 use Rattle.wire.specs.Instances.{instances, most, protocolOf, modeOf}
 use Rattle.wire.proofs.InstanceLaws.{at-most}
@@ -35,7 +35,7 @@ use Rattle.promises.proofs.ReachedFeed.{Feeds, shut, bytes}
 use Rattle.promises.proofs.Reached.{opens-fresh}
 use Rattle.promises.proofs.SegmentMade.{Made, made-of}
 use Rattle.promises.proofs.HistoryCalls.{Good, good, feeds, takes, puts, makes, afterFeed, afterTake, afterPut, afterNext}
-use Rattle.promises.proofs.HistoryLaws.{no-act-adds, act-adds, act-unseen, counted, put-next, sent-next}
+use Rattle.promises.proofs.HistoryLaws.{no-act-adds, act-adds, act-unseen, put-next, sent-next}
 
 -- ---- whose segment it is
 
@@ -179,7 +179,8 @@ sends-of past w t =
     let sent : ℕ → List ℕ = λ i. sentFor (w .connection .settings .party) i past in
     record {
       put = t .put;
-      waiting = λ i l. counted (sent i) (queue w i) (t .put i l) (stream-length (w .send) _ _ _ (waits w i));
+      waiting = λ i l.
+          stream-count (w .send) (baseOf caps i) (getD caps i 0) (getD (q .starts) i 0) (getD (q .waiting) i 0) (putFor i past) (sent i) (t .put i l);
       starts = t .starts;
       places = λ i n l.
           stream-place (w .send) (baseOf caps i) (getD caps i 0) (getD (q .starts) i 0) (getD (q .waiting) i 0) (putFor i past) (sent i)

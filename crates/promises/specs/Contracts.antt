@@ -55,8 +55,8 @@ pub record Tied : Type 0 where
       → step (world c (now store) send) (calls.take instance (now buf))
       ≡ record { world = world (r .connection) (now store) send; answer = calls.taken (r .number) (r .len) (r .message) after })
   pub build : Ends build.ended build-says.Post
-      (λ _ (bundle, (instance, (kind, (numbers, (runs, (first, (second, (buf, _)))))))) r (_, (_, (_, (_, (_, (_, (_, (after, _)))))))).
-      buildOf bundle instance kind (now numbers) runs (now first) (now second) (now buf) ≡ told r after)
+      (λ _ (bundle, (instance, (kind, (asked, (numbers, (runs, (first, (second, (buf, _))))))))) r (_, (_, (_, (_, (_, (_, (_, (_, (after, _))))))))).
+      buildOf bundle instance kind asked (now numbers) runs (now first) (now second) (now buf) ≡ told r after)
   pub put : Ends put.ended put-says.Post (λ _ (c, (store, (instance, (message, _)))) r (_, (after, _)). (receive : List ℕ)
       → step (world c receive (now store)) (calls.put instance (now message))
       ≡ record { world = world (r .connection) receive after; answer = calls.queued (r .number) })

@@ -123,14 +123,14 @@ receivedIn us i cs left =
     ++ payloadFor us i (decoded (take headerLength left)) (drop headerLength left)
 
 -- What a take handed out is one item, as long as it answered, and reads as it answered: kind, numbers and places.
-abbrev pub Spells : Protocol → Act → Type 0
-Spells p (gave xs) = Unit {0}
-Spells p (got len m buf) = (len ≤ length buf) × Item nesting (take len buf) × (messageOf p (take len buf) ≡ read m)
+abbrev pub Spelled : Protocol → Act → Type 0
+Spelled p (gave xs) = Unit {0}
+Spelled p (got len m buf) = (len ≤ length buf) × Item nesting (take len buf) × (messageOf p (take len buf) ≡ read m)
 
 -- Demand 2, of instance i: what was received of it is the messages handed out, end to end, each as its take answered, and then what is held; and into
 -- as many items and a rest it is split in no other way.
 pub record Messages (p : Protocol) (past : Past) (i : ℕ) (received held : List ℕ) : Type 0 where
-  pub spelled : All (Spells p) (acts i past)
+  pub spelled : All (Spelled p) (acts i past)
   pub split : received ≡ handedFor i past ++ held
   pub only : (ms : List (List ℕ)) (rest : List ℕ) → All (Item nesting) ms → length ms ≡ length (handed i past) → received ≡ flatten ms ++ rest
       → (ms ≡ handed i past) × (rest ≡ held)

@@ -1,79 +1,81 @@
-// The line that answers each call of a script, as docs/REPLAY.md fixes it: a name, numbers, and then lists or runs.
+// The line that answers each call of a script, as docs/REPLAY.md fixes it: a name, numbers, and then lists or runs. Each
+// function answers whether the line could be written.
 use base::smaller;
 use connection::Closing;
 use connection::Gate;
 use messages::MOST_PLACES;
 use messages::Message;
+use output::Pen;
 use telling::Report;
 
 // How much of a line is written at once.
 const OUT: usize = 4096;
 
 // A name, and numbers.
-fn numbers(name: &[u8], numbers: &[u64]) {
+fn numbers(name: &[u8], numbers: &[u64]) -> bool {
     let mut space = [0u8; OUT];
     let out: &mut [u8] = &mut space;
-    let end = begun(out, name, numbers);
-    output::end(out, end);
+    let p = begun(out, name, numbers);
+    output::end(out, p)
 }
 
-fn begun(out: &mut [u8], name: &[u8], numbers: &[u64]) -> usize {
-    let at = output::words(out, 0, name);
-    output::numbers(out, at, numbers)
+fn begun(out: &mut [u8], name: &[u8], numbers: &[u64]) -> Pen {
+    let p = output::words(out, output::begin(), name);
+    output::numbers(out, p, numbers)
 }
 
 // The name of a call alone, with its number, and with its number and a count.
-pub fn name(name: &[u8]) {
-    numbers(name, &[]);
+pub fn name(name: &[u8]) -> bool {
+    numbers(name, &[])
 }
 
-pub fn number(name: &[u8], n: u64) {
-    numbers(name, &[n]);
+pub fn number(name: &[u8], n: u64) -> bool {
+    numbers(name, &[n])
 }
 
-pub fn counted(name: &[u8], n: u64, count: usize) {
-    numbers(name, &[n, count as u64]);
+pub fn counted(name: &[u8], n: u64, count: usize) -> bool {
+    numbers(name, &[n, count as u64])
 }
 
 // What a line that is no call is answered: its number, counted from 1.
-pub fn bad(line: u64) {
-    numbers(b"bad line", &[line]);
+pub fn bad(line: u64) -> bool {
+    numbers(b"bad line", &[line])
 }
 
 // A number and a count, with the lent buffer.
-pub fn filled(name: &[u8], n: u64, count: usize, buf: &[u8]) {
+pub fn filled(name: &[u8], n: u64, count: usize, buf: &[u8]) -> bool {
     let mut space = [0u8; OUT];
     let out: &mut [u8] = &mut space;
-    let at = begun(out, name, &[n, count as u64]);
-    let end = output::run(out, at, buf);
-    output::end(out, end);
+    let mut p = begun(out, name, &[n, count as u64]);
+    p = output::run(out, p, buf);
+    output::end(out, p)
 }
 
 // What a message says, its length, and the lent buffer.
-pub fn taken(number: u64, len: usize, m: Message, buf: &[u8]) {
+pub fn taken(number: u64, len: usize, m: Message, buf: &[u8]) -> bool {
     let mut space = [0u8; OUT];
     let out: &mut [u8] = &mut space;
-    let at = message(out, number, len, m);
-    let end = output::run(out, at, buf);
-    output::end(out, end);
+    let mut p = message(out, number, len, m);
+    p = output::run(out, p, buf);
+    output::end(out, p)
 }
 
 // The numbers and the places of a message.
-fn message(out: &mut [u8], number: u64, len: usize, m: Message) -> usize {
-    let at = begun(out, b"take", &[number, m.kind, len as u64]);
+fn message(out: &mut [u8], number: u64, len: usize, m: Message) -> Pen {
+    let mut p = begun(out, b"take", &[number, m.kind, len as u64]);
     let numbers = m.numbers;
-    let next = listed(out, at, &numbers, m.count);
+    p = listed(out, p, &numbers, m.count);
     let places = places_of(m);
     let parts = smaller(m.parts, MOST_PLACES);
-    listed(out, next, &places, parts + parts)
+    listed(out, p, &places, parts + parts)
 }
 
 // The first n of some numbers, of which there are so many.
-fn listed(out: &mut [u8], at: usize, numbers: &[u64], n: usize) -> usize {
+fn listed(out: &mut [u8], p: Pen, numbers: &[u64], n: usize) -> Pen {
     if numbers.len() < n {
-        return at;
+        return p;
     }
-    output::list(out, at, &numbers[0..n])
+    output::list(out, p, &numbers[0..n])
 }
 
 // Starts and lengths.
@@ -83,16 +85,16 @@ fn places_of(m: Message) -> [u64; 2 * MOST_PLACES] {
 }
 
 // What status tells, with so many counts.
-pub fn told(r: Report, n: usize) {
+pub fn told(r: Report, n: usize) -> bool {
     let mut space = [0u8; OUT];
     let out: &mut [u8] = &mut space;
     let numbers = numbers_of(r);
     let held = r.held;
     let waiting = r.waiting;
-    let at = begun(out, b"status", &numbers);
-    let next = listed(out, at, &held, n);
-    let end = listed(out, next, &waiting, n);
-    output::end(out, end);
+    let mut p = begun(out, b"status", &numbers);
+    p = listed(out, p, &held, n);
+    p = listed(out, p, &waiting, n);
+    output::end(out, p)
 }
 
 fn numbers_of(r: Report) -> [u64; 7] {
@@ -126,11 +128,11 @@ fn closed(why: Closing) -> [u64; 3] {
 }
 
 // The lent parts of both stores.
-pub fn stores(receive: &[u8], send: &[u8]) {
+pub fn stores(receive: &[u8], send: &[u8]) -> bool {
     let mut space = [0u8; OUT];
     let out: &mut [u8] = &mut space;
-    let at = output::words(out, 0, b"stores");
-    let next = output::run(out, at, receive);
-    let end = output::run(out, next, send);
-    output::end(out, end);
+    let mut p = output::words(out, output::begin(), b"stores");
+    p = output::run(out, p, receive);
+    p = output::run(out, p, send);
+    output::end(out, p)
 }

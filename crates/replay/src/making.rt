@@ -5,6 +5,7 @@
 use crate::Desk;
 use crate::FILL;
 use crate::Given;
+use crate::Made;
 use crate::answering;
 use crate::lent;
 use base::smaller;
@@ -63,7 +64,7 @@ fn called(line: &mut [u8], long: bool, words: &mut [u64; WORDS]) -> usize {
         return NOTHING;
     }
     calls::said(
-        b"bundle n open snm lend kk feed r take nb build nnlpb put nr next tb status . stores .",
+        b"bundle n open snm lend kk feed r take nb build nnlpbi put nr next tb status . stores .",
         BAD,
         line,
         words,
@@ -101,10 +102,11 @@ pub fn line(
     let before = d.given;
     let call = fitting(called(line, long, &mut words), before.bundle, words);
     let given = chosen(counted(before), call, words);
-    let c = d.connection;
+    let m = d.made;
+    let c = m.connection;
     let mut buf = [FILL; LENT];
-    let connection = made(c, given, receive, send, line, &mut buf, call, words);
-    Desk { connection, given }
+    let made = made(c, given, receive, send, line, &mut buf, call, words);
+    Desk { made, given }
 }
 
 // One line more.
@@ -208,7 +210,7 @@ fn side(n: u64) -> Side {
     Side::Accepter
 }
 
-// Makes a call, prints its answer, and hands back the record.
+// Makes a call, prints its answer, and hands back the record and whether the answer could be written.
 fn made(
     c: Connection,
     g: Given,
@@ -218,7 +220,7 @@ fn made(
     buf: &mut [u8; LENT],
     call: usize,
     words: [u64; WORDS],
-) -> Connection {
+) -> Made {
     match call {
         OPEN => open(g, receive, send, words),
         FEED => feed(c, g, receive, line, words),
@@ -232,82 +234,83 @@ fn made(
 }
 
 // The calls that are lent nothing, and a line that is no call.
-fn plain(c: Connection, g: Given, call: usize) -> Connection {
-    match call {
+fn plain(c: Connection, g: Given, call: usize) -> Made {
+    let written = match call {
         BUNDLE => answering::name(b"bundle"),
         LEND => answering::name(b"lend"),
         STATUS => status(c),
         BAD => answering::bad(g.lines),
-        _ => {}
+        _ => true,
+    };
+    Made {
+        connection: c,
+        written,
     }
-    c
 }
 
 // status, with as many counts as the record's bundle has instances
-fn status(c: Connection) {
+fn status(c: Connection) -> bool {
     let s = c.settings;
     let party = s.party;
     let r = telling::status(c);
     if r.number == 0 {
-        answering::told(r, count(party.bundle));
-        return;
+        return answering::told(r, count(party.bundle));
     }
-    answering::told(r, NINE);
+    answering::told(r, NINE)
 }
 
 // open SIDE S R.. W..
-fn open(g: Given, receive: &[u8], send: &[u8], words: [u64; WORDS]) -> Connection {
+fn open(g: Given, receive: &[u8], send: &[u8], words: [u64; WORDS]) -> Made {
     let r = lent(g.receive, receive);
     let s = lent(g.send, send);
     let o = opening::open(settings(g.bundle, words), &receive[..r], &send[..s]);
-    answering::number(b"open", o.number);
-    o.connection
+    let connection = o.connection;
+    Made {
+        connection,
+        written: answering::number(b"open", o.number),
+    }
 }
 
 // feed RUN
-fn feed(
-    c: Connection,
-    g: Given,
-    receive: &mut [u8],
-    line: &[u8],
-    words: [u64; WORDS],
-) -> Connection {
+fn feed(c: Connection, g: Given, receive: &mut [u8], line: &[u8], words: [u64; WORDS]) -> Made {
     let r = lent(g.receive, receive);
     let f = feeding::feed(c, &mut receive[..r], calls::bytes(line, words, 0));
-    answering::counted(b"feed", f.number, f.used);
-    f.connection
+    let connection = f.connection;
+    Made {
+        connection,
+        written: answering::counted(b"feed", f.number, f.used),
+    }
 }
 
 // take I LEN
-fn take(
-    c: Connection,
-    g: Given,
-    receive: &[u8],
-    words: [u64; WORDS],
-    buf: &mut [u8],
-) -> Connection {
+fn take(c: Connection, g: Given, receive: &[u8], words: [u64; WORDS], buf: &mut [u8]) -> Made {
     let n = lent(words[1] as usize, buf);
     taken(c, g, receive, words[0], &mut buf[..n])
 }
 
-fn taken(c: Connection, g: Given, receive: &[u8], i: u64, buf: &mut [u8]) -> Connection {
+fn taken(c: Connection, g: Given, receive: &[u8], i: u64, buf: &mut [u8]) -> Made {
     let r = lent(g.receive, receive);
     let t = taking::take(c, &receive[..r], i, buf);
     let m = t.message;
-    answering::taken(t.number, t.len, m, buf);
-    t.connection
+    let connection = t.connection;
+    Made {
+        connection,
+        written: answering::taken(t.number, t.len, m, buf),
+    }
 }
 
-// build I KIND NUMS PARTS LEN
-fn build(c: Connection, g: Given, line: &[u8], words: [u64; WORDS], buf: &mut [u8]) -> Connection {
+// build I KIND NUMS PARTS LEN, build I KIND NUMS PARTS LEN indefinite
+fn build(c: Connection, g: Given, line: &[u8], words: [u64; WORDS], buf: &mut [u8]) -> Made {
     let n = lent(words[14] as usize, buf);
-    built(g.bundle, line, words, &mut buf[..n]);
-    c
+    Made {
+        connection: c,
+        written: built(g.bundle, line, words, &mut buf[..n]),
+    }
 }
 
-fn built(bundle: u64, line: &[u8], words: [u64; WORDS], buf: &mut [u8]) {
+fn built(bundle: u64, line: &[u8], words: [u64; WORDS], buf: &mut [u8]) -> bool {
     let b = message(bundle, line, words, buf);
-    answering::filled(b"build", b.number, b.len, buf);
+    answering::filled(b"build", b.number, b.len, buf)
 }
 
 // Of three runs the last is counted, and not handed over.
@@ -317,6 +320,7 @@ fn message(bundle: u64, line: &[u8], words: [u64; WORDS], buf: &mut [u8]) -> Bui
         bundle,
         words[0],
         words[1],
+        words[15] == 1,
         calls::listed(&all, 2),
         words[7],
         calls::bytes(line, words, 8),
@@ -326,31 +330,39 @@ fn message(bundle: u64, line: &[u8], words: [u64; WORDS], buf: &mut [u8]) -> Bui
 }
 
 // put I RUN
-fn put(c: Connection, g: Given, send: &mut [u8], line: &[u8], words: [u64; WORDS]) -> Connection {
+fn put(c: Connection, g: Given, send: &mut [u8], line: &[u8], words: [u64; WORDS]) -> Made {
     let s = lent(g.send, send);
     let q = putting::put(c, &mut send[..s], words[0], calls::bytes(line, words, 1));
-    answering::number(b"put", q.number);
-    q.connection
+    let connection = q.connection;
+    Made {
+        connection,
+        written: answering::number(b"put", q.number),
+    }
 }
 
 // next TIME LEN
-fn next(c: Connection, g: Given, send: &[u8], words: [u64; WORDS], buf: &mut [u8]) -> Connection {
+fn next(c: Connection, g: Given, send: &[u8], words: [u64; WORDS], buf: &mut [u8]) -> Made {
     let n = lent(words[1] as usize, buf);
     segment(c, g, send, words[0], &mut buf[..n])
 }
 
-fn segment(c: Connection, g: Given, send: &[u8], time: u64, buf: &mut [u8]) -> Connection {
+fn segment(c: Connection, g: Given, send: &[u8], time: u64, buf: &mut [u8]) -> Made {
     let s = lent(g.send, send);
     let t = (time % 4294967296) as u32;
     let m = sending::next_segment(c, &send[..s], t, buf);
-    answering::filled(b"next", m.number, m.len, buf);
-    m.connection
+    let connection = m.connection;
+    Made {
+        connection,
+        written: answering::filled(b"next", m.number, m.len, buf),
+    }
 }
 
 // stores
-fn show(c: Connection, g: Given, receive: &[u8], send: &[u8]) -> Connection {
+fn show(c: Connection, g: Given, receive: &[u8], send: &[u8]) -> Made {
     let r = lent(g.receive, receive);
     let s = lent(g.send, send);
-    answering::stores(&receive[..r], &send[..s]);
-    c
+    Made {
+        connection: c,
+        written: answering::stores(&receive[..r], &send[..s]),
+    }
 }

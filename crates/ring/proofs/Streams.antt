@@ -30,12 +30,9 @@ module _ (store : List ℕ) (base cap start count : ℕ) where
       (stream-same store base cap (start + n) ((start + n) % cap) (count - n) (sym (mod-mod (start + n) cap)))
 
   module _ (all gone : List ℕ) (e : all ≡ gone ++ stream store base cap start count) where
-    all-long : length all ≡ length gone + count
-    all-long = ap length e ∙ length-append gone (stream store base cap start count) ∙ rw stream-length
-
     -- how many there are
-    pub stream-count : count ≡ length all - length gone
-    stream-count = omega (arith, all-long)
+    pub stream-count : length all ≡ length gone + count
+    stream-count = ap length e ∙ length-append gone (stream store base cap start count) ∙ rw stream-length
 
     -- byte n lies at place n mod capacity
     pub stream-place : start ≡ length gone % cap → (n : ℕ) → length gone ≤ n → n < length all → getD store (place base cap n) 0 ≡ getD all n 0
@@ -47,7 +44,7 @@ module _ (store : List ℕ) (base cap start count : ℕ) where
         (ap (λ (xs : List ℕ). getD xs n 0) e
         ∙ ap (λ (m : ℕ). getD (gone ++ stream store base cap start count) m 0) (sym q)
         ∙ getD-append-add gone (stream store base cap start count) k 0
-        ∙ stream-at store base cap start count k (omega (arith, all-long))
+        ∙ stream-at store base cap start count k (omega (arith, stream-count))
         ∙ ap (λ (m : ℕ). getD store (base + m) 0) here)
 
 -- ---- of every instance

@@ -8,9 +8,9 @@
 // Appendix A has 81 examples, appendix F 94. Both lists are those of the RFC's text, as Debian's package doc-rfc-std
 // 20230121-1 has it, complete and in its order: taken out of that text and compared, hex for hex. All of A are whole; of
 // F, the 42 of too little data are incomplete, the 52 of a syntax error bad.
+use input::Lines;
 use item::Verdict;
-use libc::STDIN_FILENO;
-use libc::STDOUT_FILENO;
+use output::Pen;
 use script::Word;
 use script::runs;
 use script::runs::Run;
@@ -20,85 +20,106 @@ ghost use lib.ListN.{length};
 // No vector is longer than the ring.
 const ROOM: usize = 32;
 
-// No line is longer.
+// No line that is read or printed is longer.
 const LINE: usize = 128;
 
+// Space for what is read.
+const SPACE: usize = 4096;
+
 fn main() {
-    let mut space = io::large_buffer();
+    let mut space = [0; SPACE];
     run(&mut space);
 }
 
-// The vectors are read to their end, and then measured.
-fn run(space: &mut [u8]) {
-    let n = io::read_full(STDIN_FILENO, space);
-    each(&mut space[..n]);
-}
-
-// Line by line.
-fn each(lines: &mut [u8]) {
-    let mut from: usize = 0;
-    while from < lines.len() {
-        let to = script::end(lines, from, b'\n');
-        line(&mut lines[from..to]);
-        if to == lines.len() {
+// Runs line by line to the end of the input.
+//
+// A proved loop has to end, and nothing says that the input does. So the loop counts its turns down, from a number that
+// no run uses up.
+fn run(space: &mut [u8; SPACE]) {
+    let mut lines = input::begin();
+    let mut turns = u64::MAX;
+    while 0 < turns {
+        turns -= 1;
+        if !step(space, lines) {
+            unwritten();
             return;
         }
-        from = to + 1;
+        lines = input::on(space, LINE, lines);
+        if lines.over {
+            ended(lines.failed);
+            return;
+        }
     }
+}
+
+// Why nothing more is run: an answer could not be written, or the input has ended, or could not be read.
+fn unwritten() {
+    output::stop(b"vectors: cannot write to standard output\n");
+}
+
+fn ended(failed: bool) {
+    if failed {
+        output::stop(b"vectors: cannot read standard input\n");
+    }
+}
+
+// Runs the line at the front, if it is whole, and answers whether its answer was written.
+fn step(space: &mut [u8], l: Lines) -> bool {
+    if !input::whole(l) {
+        return true;
+    }
+    if l.long {
+        return output::line(b"too long");
+    }
+    let w = input::line(space, l);
+    let from = w.from;
+    let to = w.to;
+    line(&mut space[from..to])
 }
 
 // A title, a remark, or a vector.
-fn line(line: &mut [u8]) {
+fn line(line: &mut [u8]) -> bool {
     let first = script::first(line);
     if script::is(line, first, b":") {
-        title(script::text(
-            line,
-            Word {
-                from: 2,
-                to: line.len(),
-            },
-        ));
-        return;
+        let title = Word {
+            from: 2,
+            to: line.len(),
+        };
+        return output::line(script::text(line, title));
     }
-    if !script::is(line, first, b"#") {
-        vector(line);
+    if script::is(line, first, b"#") {
+        return true;
     }
-}
-
-fn title(words: &[u8]) {
-    io::write_all(STDOUT_FILENO, words);
-    io::write_all(STDOUT_FILENO, b"\n");
+    vector(line)
 }
 
 // One vector, in hex, which is made bytes.
-fn vector(word: &mut [u8]) {
+fn vector(word: &mut [u8]) -> bool {
     let Run::Is(n) = runs::read(word) else {
-        title(b"no vector");
-        return;
+        return output::line(b"no vector");
     };
-    measure(script::text(word, script::within(word, 0, n)));
+    measure(script::text(word, script::within(word, 0, n)))
 }
 
-fn measure(bytes: &[u8]) {
+fn measure(bytes: &[u8]) -> bool {
     if ROOM < bytes.len() {
-        title(b"too long");
-        return;
+        return output::line(b"too long");
     }
-    show(bytes);
+    show(bytes)
 }
 
 // The line of one vector.
-fn show(bytes: &[u8])
+fn show(bytes: &[u8]) -> bool
     requires { ⌜ length (now bytes) ≤ 32 ⌝ }
 {
     let v = cbor::measure_slice(bytes);
     let mut space = [0u8; LINE];
     let out: &mut [u8] = &mut space;
-    let mut at = output::hex(out, 0, bytes);
-    at = verdict(out, at, v);
-    at = count(out, at, b", prefixes", prefixes(bytes));
-    at = count(out, at, b", rings", rings(bytes, v));
-    output::end(out, at);
+    let mut p = output::hex(out, output::begin(), bytes);
+    p = verdict(out, p, v);
+    p = count(out, p, b", prefixes", prefixes(bytes));
+    p = count(out, p, b", rings", rings(bytes, v));
+    output::end(out, p)
 }
 
 // How many proper prefixes are incomplete.
@@ -188,16 +209,16 @@ fn one(so: bool) -> usize
 }
 
 // A verdict in words, with its number.
-fn verdict(out: &mut [u8], at: usize, v: Verdict) -> usize {
+fn verdict(out: &mut [u8], p: Pen, v: Verdict) -> Pen {
     match v {
-        Verdict::Whole(n) => count(out, at, b" whole", n),
-        Verdict::Bad(n) => count(out, at, b" bad", n),
-        Verdict::Incomplete => output::words(out, at, b" incomplete"),
+        Verdict::Whole(n) => count(out, p, b" whole", n),
+        Verdict::Bad(n) => count(out, p, b" bad", n),
+        Verdict::Incomplete => output::words(out, p, b" incomplete"),
     }
 }
 
 // Words and a number.
-fn count(out: &mut [u8], at: usize, words: &[u8], n: usize) -> usize {
-    let next = output::words(out, at, words);
-    output::number(out, next, n as u64)
+fn count(out: &mut [u8], p: Pen, words: &[u8], n: usize) -> Pen {
+    let q = output::words(out, p, words);
+    output::number(out, q, n as u64)
 }

@@ -35,9 +35,9 @@ returns-3 : tie.Need-returns-3
 returns-3 c =
     let a = c .before .before .before .before .before .before .before .before .before .before .before .before .before .args in
     c .before .before .build-kind .ensures
-    ∙ ap (λ (p : Protocol). handed (a .buf .now) (bytesOf p (a .kind) (a .numbers .now) (a .runs) (a .first .now) (a .second .now)))
+    ∙ ap (λ (p : Protocol). handed (a .buf .now) (bytesOf p (a .kind) (a .asked) (a .numbers .now) (a .runs) (a .first .now) (a .second .now)))
     (c .before .before .before .before .protocol .ensures)
-    ∙ build-spoken (a .bundle) (a .instance) (a .kind) (a .numbers .now) (a .runs) (a .first .now) (a .second .now) (a .buf .now)
+    ∙ build-spoken (a .bundle) (a .instance) (a .kind) (a .asked) (a .numbers .now) (a .runs) (a .first .now) (a .second .now) (a .buf .now)
     (sym (c .before .before .before .before .before .before .before .before .known .ensures) ∙ not-false _ (c .before .before .before .before .before .before .before .if1 .left))
     (omega (arith, c .before .before .before .before .before .before .count .ensures .0))
 

@@ -15,7 +15,7 @@ returns c =
     let j = c .before .before .before .judge in
     rw (
       c .refused .ensures,
-      unplanned (a .numbers .now) (a .runs) (a .first .now) (a .second .now) (a .kind) (formAt (a .row) .fields) (j .result) (j .ensures)
+      unplanned (a .asked) (a .numbers .now) (a .runs) (a .first .now) (a .second .now) (a .kind) (formAt (a .row) .fields) (j .result) (j .ensures)
           (not-true _ (c .before .if1 .taken)),
     )
 
@@ -25,9 +25,9 @@ hand-requires c κs =
     let a = s .args in
     let j = c .before .before .before .before .judge in (
       s .pre .0,
-      heads-and-runs (a .numbers .now) (a .runs) (a .first .now) (a .second .now) (a .kind) (formAt (a .row) .fields) (j .result .arguments)
+      heads-and-runs (a .asked) (a .numbers .now) (a .runs) (a .first .now) (a .second .now) (a .kind) (formAt (a .row) .fields) (j .result .arguments)
           (s .pre .1)
-          (plan-is (a .numbers .now) (a .runs) (a .first .now) (a .second .now) (a .kind) (formAt (a .row) .fields) (j .result) (j .ensures)
+          (plan-is (a .asked) (a .numbers .now) (a .runs) (a .first .now) (a .second .now) (a .kind) (formAt (a .row) .fields) (j .result) (j .ensures)
           (not-false _ (c .before .before .if1 .left))),
     )
 
@@ -37,7 +37,7 @@ returns-2 c =
     let j = c .before .before .before .before .before .before .before .judge in
     c .before .before .hand .ensures
     ∙ ap (handed (a .buf .now))
-    (planned-so (a .numbers .now) (a .runs) (a .first .now) (a .second .now) (a .kind) (formAt (a .row) .fields) (j .result) (j .ensures)
+    (planned-so (a .asked) (a .numbers .now) (a .runs) (a .first .now) (a .second .now) (a .kind) (formAt (a .row) .fields) (j .result) (j .ensures)
     (not-false _ (c .before .before .before .before .before .if1 .left)))
 
 pub build-form-spec : {M : Type 1} → statement M

@@ -14,7 +14,7 @@ returns c =
     let a = c .before .before .before .before .before .before .before .args in
     rw (
       c .refused .ensures,
-      kind-not-given (a .p) (a .kind) (a .numbers .now) (a .runs) (a .first .now) (a .second .now)
+      kind-not-given (a .p) (a .kind) (a .asked) (a .numbers .now) (a .runs) (a .first .now) (a .second .now)
           (sym (c .before .before .are-given .ensures) ∙ not-true _ (c .before .if1 .taken)),
     )
 
@@ -30,7 +30,7 @@ returns-2 c =
     let a = c .before .before .before .before .before .before .before .before .before .before .before .before .before .before .args in
     c .before .before .build-form .ensures
     ∙ ap (handed (a .buf .now))
-    (kind-known (a .p) (a .kind) (a .numbers .now) (a .runs) (a .first .now) (a .second .now)
+    (kind-known (a .p) (a .kind) (a .asked) (a .numbers .now) (a .runs) (a .first .now) (a .second .now)
     (sym (c .before .before .before .before .before .before .before .before .before .are-given .ensures) ∙ not-false _ (c .before .before .before .before .before .before .before .before .if1 .left))
     (c .before .before .before .before .before .before .before .find .ensures) _ (c .before .before .before .before .before .form .given .1))
 
@@ -39,7 +39,7 @@ returns-3 c =
     let a = c .before .before .before .before .before .before .before .before .before .before .args in
     rw (
       c .refused2 .ensures,
-      kind-unknown (a .p) (a .kind) (a .numbers .now) (a .runs) (a .first .now) (a .second .now)
+      kind-unknown (a .p) (a .kind) (a .asked) (a .numbers .now) (a .runs) (a .first .now) (a .second .now)
           (sym (c .before .before .before .before .before .are-given .ensures) ∙ not-false _ (c .before .before .before .before .if1 .left))
           (c .before .before .before .find .ensures) (c .before .enum-told .given .1),
     )

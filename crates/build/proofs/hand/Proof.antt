@@ -16,7 +16,7 @@ returns c =
     let s = c .before .before .before .before .before .before .before in
     let a = s .args in
     rw (c .refused .ensures)
-    (hand-short (a .first .now) (a .second .now) (formAt (a .row) .fields) (a .kind) (a .arguments) (a .buf .now) (s .pre .1)
+    (hand-short (a .asked) (a .first .now) (a .second .now) (formAt (a .row) .fields) (a .kind) (a .arguments) (a .buf .now) (s .pre .1)
     (c .before .before .before .heads .ensures .0)
     (c .before .before .fits2 .ensures) (not-true _ (c .before .if1 .taken)))
 
@@ -25,13 +25,13 @@ put-requires c κs =
     let s = c .before .before .before .before .before .before .before in
     let a = s .args in (
       s .pre .0,
-      hand-fits (a .first .now) (a .second .now) (formAt (a .row) .fields) (a .kind) (a .arguments) (a .buf .now) (s .pre .1)
+      hand-fits (a .asked) (a .first .now) (a .second .now) (formAt (a .row) .fields) (a .kind) (a .arguments) (a .buf .now) (s .pre .1)
           (c .before .before .before .heads .ensures .0)
           (c .before .before .fits2 .ensures) (not-false _ (c .before .if1 .left)),
     )
 
-add-t10 : tie.Need-add-t10
-add-t10 c =
+add-t11 : tie.Need-add-t11
+add-t11 c =
     let a = c .before .before .before .before .before .before .before .before .before .before .args in
     let h = c .before .before .before .before .before .before .heads .result in
     let room : h + (length (a .first .now) + length (a .second .now)) ≤ length (a .buf .now) =
@@ -39,8 +39,8 @@ add-t10 c =
     (sym (c .before .before .before .before .before .fits2 .ensures) ∙ not-false _ (c .before .before .before .before .if1 .left)) in
     record { fits = omega arith }
 
-add-t16 : tie.Need-add-t16
-add-t16 c =
+add-t17 : tie.Need-add-t17
+add-t17 c =
     let a = c .before .before .before .before .before .before .before .before .before .before .args in
     let h = c .before .before .before .before .before .before .heads .result in
     let room : h + (length (a .first .now) + length (a .second .now)) ≤ length (a .buf .now) =
@@ -52,7 +52,7 @@ returns-2 : tie.Need-returns-2
 returns-2 c =
     let s = c .before .before .before .before .before .before .before .before .before .before in
     let a = s .args in
-    hand-over (a .first .now) (a .second .now) (formAt (a .row) .fields) (a .kind) (a .arguments) (a .buf .now) (s .pre .1)
+    hand-over (a .asked) (a .first .now) (a .second .now) (formAt (a .row) .fields) (a .kind) (a .arguments) (a .buf .now) (s .pre .1)
     (c .before .before .before .before .before .before .heads .ensures .0)
     (c .before .before .before .before .before .fits2 .ensures) (not-false _ (c .before .before .before .before .if1 .left)) (omega arith)
     (c .before .before .put .ensures)
@@ -66,7 +66,7 @@ hand-spec =
     (λ c κs. search needs)
     returns
     put-requires
-    add-t10
-    add-t16
+    add-t11
+    add-t17
     (λ c. search needs)
     returns-2)

@@ -32,8 +32,7 @@ returns : tie.Need-returns Inv-loop μ-loop
 returns c =
     let a = c .before .before .before .before .before .before .before .args in
     let l = c .before .before .before .before .before .loop in
-    let long = around-length (now (a .s)) (a .from) (a .n) (omega arith) in
-    walk-stop (around (now (a .s)) (a .from) (a .n)) (a .d) (a .e) (a .x) long (l .k) (l .low) (l .at)
+    walk-stop (around (now (a .s)) (a .from) (a .n)) (a .d) (a .e) (a .x) (l .k) (l .low) (l .at)
     (c .before .before .before .before .is-closed .ensures) (not-true _ (c .before .before .before .if1 .taken)) (c .before .before .element-at .ensures)
     (c .enum-told .given .1)
     ∙ l .inv .1
@@ -43,7 +42,7 @@ add-k c =
     let a = c .before .before .before .before .before .before .before .before .args in
     let l = c .before .before .before .before .before .before .loop in
     let long = around-length (now (a .s)) (a .from) (a .n) (omega arith) in
-    let on = walk-forward (around (now (a .s)) (a .from) (a .n)) (a .d) (a .e) (a .x) long (l .k) (l .low) (l .at)
+    let on = walk-forward (around (now (a .s)) (a .from) (a .n)) (a .d) (a .e) (a .x) (l .k) (l .low) (l .at)
     (c .before .before .before .before .before .is-closed .ensures) (not-true _ (c .before .before .before .before .if1 .taken))
     (c .before .before .before .element-at .ensures) (c .before .next .given .1) in
     record { fits = omega (arith, on) }
@@ -53,7 +52,7 @@ loop-less c =
     let a = c .before .before .before .before .before .before .before .before .args in
     let l = c .before .before .before .before .before .before .loop in
     let long = around-length (now (a .s)) (a .from) (a .n) (omega arith) in
-    let on = walk-forward (around (now (a .s)) (a .from) (a .n)) (a .d) (a .e) (a .x) long (l .k) (l .low) (l .at)
+    let on = walk-forward (around (now (a .s)) (a .from) (a .n)) (a .d) (a .e) (a .x) (l .k) (l .low) (l .at)
     (c .before .before .before .before .before .is-closed .ensures) (not-true _ (c .before .before .before .before .if1 .taken))
     (c .before .before .before .element-at .ensures) (c .before .next .given .1) in
     omega (arith, on)
@@ -63,11 +62,11 @@ loop-again c =
     let a = c .before .before .before .before .before .before .before .before .args in
     let l = c .before .before .before .before .before .before .loop in
     let long = around-length (now (a .s)) (a .from) (a .n) (omega arith) in
-    let on = walk-forward (around (now (a .s)) (a .from) (a .n)) (a .d) (a .e) (a .x) long (l .k) (l .low) (l .at)
+    let on = walk-forward (around (now (a .s)) (a .from) (a .n)) (a .d) (a .e) (a .x) (l .k) (l .low) (l .at)
     (c .before .before .before .before .before .is-closed .ensures) (not-true _ (c .before .before .before .before .if1 .taken))
     (c .before .before .before .element-at .ensures) (c .before .next .given .1) in (
       omega (arith, on, l .inv .0),
-      walk-on (around (now (a .s)) (a .from) (a .n)) (a .d) (a .e) (a .x) long (l .k) (l .low) (l .at)
+      walk-on (around (now (a .s)) (a .from) (a .n)) (a .d) (a .e) (a .x) (l .k) (l .low) (l .at)
           (c .before .before .before .before .before .is-closed .ensures) (not-true _ (c .before .before .before .before .if1 .taken))
           (c .before .before .before .element-at .ensures) (c .before .next .given .1) (l .inv .0)
           ∙ l .inv .1,
@@ -77,8 +76,7 @@ returns-2 : tie.Need-returns-2 Inv-loop μ-loop
 returns-2 c =
     let a = c .before .before .before .before .args in
     let l = c .before .before .loop in
-    let long = around-length (now (a .s)) (a .from) (a .n) (omega arith) in
-    walk-end (around (now (a .s)) (a .from) (a .n)) (a .d) (a .e) (a .x) long (l .k) (l .low) (l .at) (c .before .is-closed .ensures) (not-false _ (c .if1 .left))
+    walk-end (around (now (a .s)) (a .from) (a .n)) (a .d) (a .e) (a .x) (l .k) (l .low) (l .at) (c .before .is-closed .ensures) (not-false _ (c .if1 .left))
     ∙ l .inv .1
 
 pub walk-spec : {M : Type 1} → statement M

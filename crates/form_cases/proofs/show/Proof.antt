@@ -20,8 +20,11 @@ show-spec =
     (λ c κs. search needs)
     (λ c. search needs)
     (λ c. search needs)
+    (λ c. search needs)
     (λ c κs. search needs)
+    (λ c. search needs)
     (λ c. search needs)
     read-requires
     (λ c κs. search needs)
+    (λ c. search needs)
     (λ c. search needs))

@@ -20,7 +20,7 @@ write-head-requires c κs =
     let s = c .before .before .before .before .before in
     let a = s .args in
     let e = ap (λ (k : ℕ). lengthOf (k + 1)) (c .before .fields .ensures .0) in
-    (omega arith, omega (arith, e, s .pre .1, whole-long (a .first .now) (a .second .now) (formAt (a .row) .fields) (a .kind) (a .arguments)))
+    (omega arith, omega (arith, e, s .pre .1, whole-long (a .asked) (a .first .now) (a .second .now) (formAt (a .row) .fields) (a .kind) (a .arguments)))
 
 write-head-requires-2 : tie.Need-write-head-requires-2
 write-head-requires-2 c κs =
@@ -33,7 +33,7 @@ write-head-requires-2 c κs =
         e,
         s .pre .1,
         c .before .before .before .write-head .ensures .0,
-        whole-long (a .first .now) (a .second .now)
+        whole-long (a .asked) (a .first .now) (a .second .now)
             (formAt (a .row) .fields) (a .kind) (a .arguments),
       ),
     )
@@ -50,7 +50,7 @@ put-fields-requires c κs =
         s .pre .1,
         c .before .before .before .before .before .before .before .write-head .ensures .0,
         c .before .before .before .write-head2 .ensures .0,
-        whole-long (a .first .now) (a .second .now) (formAt (a .row) .fields) (a .kind) (a .arguments),
+        whole-long (a .asked) (a .first .now) (a .second .now) (formAt (a .row) .fields) (a .kind) (a .arguments),
       ),
     )
 
@@ -58,7 +58,7 @@ returns : tie.Need-returns
 returns c =
     let a = c .before .before .before .before .before .before .before .before .before .before .before .before .before .before .before .before .args in
     let n = c .before .before .before .before .before .before .before .before .before .before .before .before .fields in
-    let body = bodyOf (a .first .now) (a .second .now) (formAt (a .row) .fields) (a .arguments) 0 0 in
+    let body = bodyOf (a .asked) (a .first .now) (a .second .now) (formAt (a .row) .fields) (a .arguments) 0 0 in
     whole-there (a .buf .now) body (n .result + 1) (a .kind)
     (c .before .before .before .before .before .before .before .before .before .before .write-head .ensures)
     (c .before .before .before .before .before .before .write-head2 .ensures) (c .before .before .put-fields .ensures)

@@ -15,13 +15,13 @@ use Rattle.layout.proofs.put_fields.Statement.{statement}
 use Rattle.layout.proofs.put_fields.Tie as tie
 
 abbrev Inv-loop : tie.InvT-loop
-Inv-loop buf₀ start row first second arguments count at₀ r₀ i₀ buf at r i =
-    (i ≤ count) × (r ≤ i) × (length buf ≡ length buf₀) × (at + length (bodyOf first second (drop i (formAt row .fields)) arguments i r) ≤ length buf₀)
-    × (sets buf at (bodyOf first second (drop i (formAt row .fields)) arguments i r) ≡ sets buf₀ start
-    (bodyOf first second (formAt row .fields) arguments 0 0))
+Inv-loop buf₀ start row asked first second arguments count at₀ r₀ i₀ buf at r i =
+    (i ≤ count) × (r ≤ i) × (length buf ≡ length buf₀) × (at + length (bodyOf asked first second (drop i (formAt row .fields)) arguments i r) ≤ length buf₀)
+    × (sets buf at (bodyOf asked first second (drop i (formAt row .fields)) arguments i r) ≡ sets buf₀ start
+    (bodyOf asked first second (formAt row .fields) arguments 0 0))
 
 abbrev μ-loop : tie.MeasureT-loop
-μ-loop buf₀ start row first second arguments count at₀ r₀ i₀ buf at r i = count - i
+μ-loop buf₀ start row asked first second arguments count at₀ r₀ i₀ buf at r i = count - i
 
 loop-holds : tie.Need-loop-holds Inv-loop μ-loop
 loop-holds c = (omega arith, omega arith, refl, omega arith, refl)
@@ -34,14 +34,14 @@ put-field-requires c κs =
     let a = c .before .before .before .before .before .before .before .before .args in
     let l = c .before .before .before .loop in
     let f = c .before .field-at in
-    let on = body-on (formAt (a .row) .fields) (a .t4) (l .i) (now (a .first)) (now (a .second)) (l .r)
+    let on = body-on (a .asked) (formAt (a .row) .fields) (a .t5) (l .i) (now (a .first)) (now (a .second)) (l .r)
     (omega (arith, c .before .before .before .before .fields .ensures .0)) (f .ensures) in
     omega (
       arith,
       l .inv .2,
       l .inv .3,
-      put-long (l .buf) (l .at) (pieceOf (f .result) (getD (a .t4) (l .i) 0) (runAt (now (a .first)) (now (a .second)) (l .r)))
-          (bodyOf (now (a .first)) (now (a .second)) (drop (l .i + 1) (formAt (a .row) .fields)) (a .t4) (l .i + 1) (runAfter (f .result) (l .r))) on,
+      put-long (l .buf) (l .at) (pieceOf (a .asked) (f .result) (getD (a .t5) (l .i) 0) (runAt (now (a .first)) (now (a .second)) (l .r)))
+          (bodyOf (a .asked) (now (a .first)) (now (a .second)) (drop (l .i + 1) (formAt (a .row) .fields)) (a .t5) (l .i + 1) (runAfter (f .result) (l .r))) on,
     )
 
 after-run-requires : tie.Need-after-run-requires Inv-loop μ-loop
@@ -53,11 +53,11 @@ loop-again c =
     let l = c .before .before .before .before .before .before .before .loop in
     let f = c .before .before .before .before .before .field-at in
     let p = c .before .before .before .put-field in
-    let piece = pieceOf (f .result) (getD (a .t4) (l .i) 0) (runAt (now (a .first)) (now (a .second)) (l .r)) in
+    let piece = pieceOf (a .asked) (f .result) (getD (a .t5) (l .i) 0) (runAt (now (a .first)) (now (a .second)) (l .r)) in
     let after = runAfter (f .result) (l .r) in
-    let on = body-on (formAt (a .row) .fields) (a .t4) (l .i) (now (a .first)) (now (a .second)) (l .r)
+    let on = body-on (a .asked) (formAt (a .row) .fields) (a .t5) (l .i) (now (a .first)) (now (a .second)) (l .r)
     (omega (arith, c .before .before .before .before .before .before .before .before .fields .ensures .0)) (f .ensures) in
-    let rest = bodyOf (now (a .first)) (now (a .second)) (drop (l .i + 1) (formAt (a .row) .fields)) (a .t4) (l .i + 1) after in
+    let rest = bodyOf (a .asked) (now (a .first)) (now (a .second)) (drop (l .i + 1) (formAt (a .row) .fields)) (a .t5) (l .i + 1) after in
     rw (c .after-run .ensures .0) (
       omega arith,
       omega (arith, c .after-run .ensures),
@@ -73,7 +73,7 @@ returns : tie.Need-returns Inv-loop μ-loop
 returns c =
     let a = c .before .before .before .before .before .before .args in
     let l = c .before .loop in
-    let end = body-end (formAt (a .row) .fields) (a .t4) (l .i) (now (a .first)) (now (a .second)) (l .r)
+    let end = body-end (a .asked) (formAt (a .row) .fields) (a .t5) (l .i) (now (a .first)) (now (a .second)) (l .r)
     (omega (arith, c .before .before .fields .ensures .0)) in
     rw end at (l .inv .4)
 

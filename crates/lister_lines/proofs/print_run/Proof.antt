@@ -12,11 +12,11 @@ use Rattle.lister_lines.proofs.print_run.Statement.{statement}
 use Rattle.lister_lines.proofs.print_run.Tie as tie
 
 abbrev Inv-loop : tie.InvT-loop
-Inv-loop run known₀ from₀ known from =
+Inv-loop run known₀ written₀ from₀ known written from =
     (from ≤ length run) × (fed known (drop from run) .listing ≡ fed known₀ run .listing)
 
 abbrev μ-loop : tie.MeasureT-loop
-μ-loop run known₀ from₀ known from = length run - from
+μ-loop run known₀ written₀ from₀ known written from = length run - from
 
 loop-holds : tie.Need-loop-holds Inv-loop μ-loop
 loop-holds c = (search needs, refl)

@@ -18,7 +18,7 @@ fields-requires-2 : tie.Need-fields-requires-2
 fields-requires-2 c κs =
     let a = c .before .before .before .args in
     let e : a .count - 1 ≡ length (formAt (a .row) .fields) = omega (arith, c .if1 .taken, c .before .fields .ensures .0) in
-    ((search needs, search needs, c .before .before .before .pre .0 .2), subst (λ (k : ℕ). ItemsAt (around (now (a .s)) (a .from) (a .n)) inMessage k (a .next) (a .n)) e (c .before .before .before .pre .1))
+    ((search needs, search needs, c .before .before .before .pre .0 .2), subst (λ (k : ℕ). ItemsAt (around (now (a .s)) (a .from) (a .n)) inMessage k (a .next) (a .end)) e (c .before .before .before .pre .1))
 
 returns : tie.Need-returns
 returns c = count-right _ _ _ _ _ (c .before .if1 .taken ∙ ap (λ (k : ℕ). k + 1) (c .before .before .fields .ensures .0)) (c .fields2 .ensures)

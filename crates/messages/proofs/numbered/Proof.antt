@@ -3,18 +3,19 @@
 use mathlib.Core.Path.{sym, _∙_}
 use denote.Ref.{now}
 use Rattle.ring.specs.Inside.{around}
-use Rattle.ring.proofs.Around.{around-length}
-use native.Mathlib.Omega.{arith}
 use Rattle.messages.proofs.FieldLaws.{kind-left, kind-named, kind-none}
 use borrow.Author.Needs.{needs}
 use Rattle.messages.proofs.numbered.Statement.{statement}
 use Rattle.messages.proofs.numbered.Tie as tie
 
 formed-requires : tie.Need-formed-requires
-formed-requires c κs = let a = c .before .before .before .before .before .args in
+formed-requires c κs =
+    let s = c .before .before .before .before .before in
+    let a = s .args in
     let bs = around (now (a .s)) (a .from) (a .n) in
-    let long = around-length (now (a .s)) (a .from) (a .n) (omega arith) in
-    ((search needs, search needs), kind-left bs (a .first) (c .before .before .before .unsigned-at .ensures) (c .before .kind .given .1) (sym long) (c .before .before .before .before .before .pre .1))
+    let found = c .before .before .before .unsigned-at .ensures in
+    let is = c .before .kind .given .1 in
+    ((search needs, search needs), kind-left bs (a .first) found is (s .pre .1 .1 _ _ (sym found ∙ is)) (s .pre .1 .0))
 
 returns : tie.Need-returns
 returns c = kind-named _ _ _ _ (c .before .before .before .before .unsigned-at .ensures) (c .before .before .kind .given .1) (c .formed .ensures)

@@ -5,9 +5,10 @@ use mathlib.Core.Path.{_≡_}
 use mathlib.Core.List.{List, [], _∷_}
 use mathlib.Core.Option.{some}
 use lib.ListN.{length}
+use Rattle.elements.specs.declared.Extent.{Extent}
 use Rattle.elements.specs.declared.Field.{Field}
-use Rattle.elements.specs.Besides.Matching.{Value, number, place, UnsignedAt, Opens, FieldAt}
-use Rattle.elements.specs.Matching.{array}
+use Rattle.elements.specs.Besides.Matching.{Value, number, place, UnsignedAt, Opens, Closes, FieldAt}
+use Rattle.elements.specs.Matching.{past, array}
 use Rattle.rows.specs.declared.Protocol.{Protocol}
 use Rattle.messages.specs.declared.Message.{Message}
 use Rattle.messages.specs.Forms.{formOf}
@@ -19,16 +20,20 @@ pub data FieldsAt (bs : List ℕ) : List Field → ℕ → List Value → ℕ �
   a-field : {f : Field} {fs : List Field} {p q r : ℕ} {x : Value} {xs : List Value} → FieldAt bs f p x q → FieldsAt bs fs q xs r
       → FieldsAt bs (f ∷ fs) p (x ∷ xs) r
 
--- The bytes are the protocol's message of this kind, whose fields say xs: an array of the kind and the form's fields,
--- with nothing behind.
+-- The bytes are the protocol's message of this kind, whose fields say xs: an array of the kind and the form's fields, of definite or of
+-- indefinite length, with nothing behind.
 pub record Matches (p : Protocol) (bs : List ℕ) (kind : ℕ) (xs : List Value) : Type 0 where
   pub fields : List Field
+  pub extent : Extent
   pub first : ℕ
   pub second : ℕ
+  pub last : ℕ
   pub form : formOf p kind ≡ some fields
-  pub opens : Opens bs array 0 (length fields + 1) first
+  pub opens : Opens bs array 0 extent first
   pub named : UnsignedAt bs first kind second
-  pub matched : FieldsAt bs fields second xs (length bs)
+  pub matched : FieldsAt bs fields second xs last
+  pub closes : Closes bs extent (length fields + 1) last
+  pub whole : past extent last ≡ length bs
 
 abbrev pub saying : Message → Value → Message
 saying m (number v) = withNumber m v

@@ -8,10 +8,10 @@ use Rattle.output.proofs.hex.Statement.{statement}
 use Rattle.output.proofs.hex.Tie as tie
 
 abbrev Inv-loop : tie.InvT-loop
-Inv-loop out₀ at bytes next₀ i₀ out next i = (i ≤ length bytes) × (length out ≡ length out₀)
+Inv-loop out₀ bytes q₀ i₀ out q i = (i ≤ length bytes) × (length out ≡ length out₀)
 
 abbrev μ-loop : tie.MeasureT-loop
-μ-loop out₀ at bytes next₀ i₀ out next i = length bytes - i
+μ-loop out₀ bytes q₀ i₀ out q i = length bytes - i
 
 pub hex-spec : {M : Type 1} → statement M
 hex-spec =

@@ -8,10 +8,10 @@ use Rattle.output.proofs.words.Statement.{statement}
 use Rattle.output.proofs.words.Tie as tie
 
 abbrev Inv-loop : tie.InvT-loop
-Inv-loop out₀ at name next₀ i₀ out next i = (i ≤ length name) × (length out ≡ length out₀)
+Inv-loop out₀ words q₀ i₀ out q i = (i ≤ length words) × (length out ≡ length out₀)
 
 abbrev μ-loop : tie.MeasureT-loop
-μ-loop out₀ at name next₀ i₀ out next i = length name - i
+μ-loop out₀ words q₀ i₀ out q i = length words - i
 
 pub words-spec : {M : Type 1} → statement M
 words-spec =

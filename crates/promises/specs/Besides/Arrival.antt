@@ -1,6 +1,7 @@
 -- T9 (c): what one end builds and puts is what the other end takes, in whatever segments it was sent and in whatever runs it was fed.
 use Prim.Native.Nat.{ℕ, zero, suc, _+_, _*_, _^_, _≤_, _<_}
 use mathlib.Core.Path.{_≡_}
+use mathlib.Core.Bool.{Bool}
 use mathlib.Core.List.{List, [], _∷_, _++_, flatMap, flatten}
 use mathlib.Core.Option.{some}
 use lib.ListN.{length, getD, take, drop}
@@ -78,9 +79,11 @@ AllThere =
 
 -- ---- a built message is taken
 
--- the parts of a message, as build is given them: its kind, its numbers, and so many runs, of which there are two at the most
+-- the parts of a message, as build is given them: its kind, whether its list is asked to be of indefinite length, its numbers, and so many runs, of
+-- which there are two at the most
 pub record Parts : Type 0 where
   pub kind : ℕ
+  pub asked : Bool
   pub numbers : List ℕ
   pub runs : ℕ
   pub one : List ℕ
@@ -88,7 +91,7 @@ pub record Parts : Type 0 where
 
 -- build of these parts for instance i of a bundle, with this buffer lent
 abbrev pub buildWith : ℕ → ℕ → Parts → List ℕ → Told
-buildWith b i p lent = buildOf b i (p .kind) (p .numbers) (p .runs) (p .one) (p .two) lent
+buildWith b i p lent = buildOf b i (p .kind) (p .asked) (p .numbers) (p .runs) (p .one) (p .two) lent
 
 -- Build of these parts for instance i answered 0, and the message bs was at the front of its buffer. Runs are slices: their lengths are numbers of
 -- 64 bits.
