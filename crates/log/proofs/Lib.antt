@@ -1,0 +1,7 @@
+pub mod SearchLaws
+pub mod LookLaws
+pub mod RecordLaws
+pub mod CallLaws
+pub mod NumberLaws
+pub mod HistoryLaws
+pub mod Once

@@ -1,0 +1,4 @@
+pub mod Log
+pub mod Parallel
+pub mod Inside
+pub mod Besides

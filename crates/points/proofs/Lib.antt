@@ -1,0 +1,4 @@
+pub mod Steps
+pub mod StandingLaws
+pub mod BackLaws
+pub mod Once
