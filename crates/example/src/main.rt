@@ -1,6 +1,7 @@
 // A first connection by the calls of `front`: we dial, propose version 7, send the proposal, and take the other end's Accept.
 //
-// The other end's bytes stand here, where a program would read them from the network. What is printed is run and compared.
+// The other end's bytes stand here, where a program would read them from the network. Each answer's number is printed, where a
+// program would act on it. What is printed is run and compared.
 use base::smaller;
 use front::Connection;
 use front::INSTANCES;
@@ -10,7 +11,7 @@ use front::Side;
 use output::Pen;
 ghost use Rattle.io.specs.Counts.{Counts};
 
-// Every capacity. Nine instances have a store of 144 bytes.
+// Every capacity, in bytes. A store is as long as its nine capacities together.
 const CAPACITY: u64 = 16;
 
 const STORE: usize = 144;
@@ -58,7 +59,7 @@ fn among(n: usize, buf: &[u8]) -> usize
     smaller(n, buf.len())
 }
 
-// Node to node, as the one that dialled.
+// Node to node (bundle 0), as the one that dialled.
 fn settings() -> Settings {
     let party = Party {
         bundle: 0,
@@ -72,8 +73,8 @@ fn settings() -> Settings {
     }
 }
 
-// Proposes version 7 with parameters 0: a map's run, key and value. `false`: a list of indefinite length is not asked for, and
-// Propose has none.
+// Proposes version 7 with parameters 0. Behind the kind, build is given: whether a list is to be of indefinite length (Propose
+// has no list); no numbers; one run of bytes, the map's key and value; and an empty second run.
 fn propose(c: Connection, send: &mut [u8]) -> Step {
     let mut message = [0; ROOM];
     let built = front::build(
@@ -97,7 +98,7 @@ fn propose(c: Connection, send: &mut [u8]) -> Step {
     }
 }
 
-// What is to be sent, as one segment.
+// What is to be sent, as one segment. The time in its header is the caller's, here 5.
 fn send_out(s: Step, send: &[u8]) -> Step {
     let mut segment = [0; ROOM];
     let made = front::next_segment(s.connection, send, 5, &mut segment);
