@@ -5,3 +5,4 @@ pub mod CallLaws
 pub mod NumberLaws
 pub mod HistoryLaws
 pub mod Once
+pub mod Examples

@@ -1,3 +1,4 @@
 pub mod Numbers
 pub mod History
 pub mod Looks
+pub mod Examples

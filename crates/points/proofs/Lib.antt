@@ -1,4 +1,5 @@
 pub mod Steps
 pub mod StandingLaws
 pub mod BackLaws
+pub mod Examples
 pub mod Once

@@ -43,7 +43,8 @@ module _ {M : Type 1} (𝓤 : URA M) (H : Heap 𝓤) (A : Atoms 𝓤) (W : Given
   pub lends : ent 𝓤 (sep 𝓤 (sem 𝓤 H A (Owner κ b o γ ys)) (A .lft κ q)) (H .⇛ (ex 𝓤 Lent))
   lends =
       qed W (‵ (Owner κ b o γ ys) ∷ ‵ (flft κ q) ∷ []) ∵ updating ! $ fsplit ! $ fsplit ! $ drop ! $ fjoin ! $
-      use2 W (later (some (λ (g : GName). ‵ (O.ShrSlice erased κ′ R .own (slice b o ys g)) ⊛ ‵ (Kept κ q κ′ b o γ ys)))) (sl-reshare 𝓤 H A W R κ q κ′ b o γ ys) $ await ! tt $ pick ! (λ g. split ! $
+      use2 W (later (some (λ (g : GName). ‵ (O.ShrSlice erased κ′ R .own (slice b o ys g)) ⊛ ‵ (Kept κ q κ′ b o γ ys)))) (sl-reshare 𝓤 H A W R κ q κ′ b o γ ys) $
+      await ! tt $ pick ! (λ g. split ! $
       fsplit ! $ feqI ! (List Val) (value b o ys) (value b o ys) refl $ fjoin ! $ fjoin ! $ at-once ! $ show ! Lent g $ done !)
 
   pub comes-back : ent 𝓤 (sep 𝓤 (A .dead κ′) (sem 𝓤 H A (Kept κ q κ′ b o γ ys))) (H .⇛ (sep 𝓤 (sem 𝓤 H A (Owner κ b o γ ys)) (A .lft κ q)))

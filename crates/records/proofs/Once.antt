@@ -43,19 +43,22 @@ module _ {M : Type 1} (𝓤 : URA M) (H : Heap 𝓤) (A : Atoms 𝓤) (mem : Mem
   pub find-asks : (lives : Lfts 1) (x : Args f.signature lives) → f.clauses 𝓤 H A mem run lives x .requires tt ≡ emp 𝓤
   find-asks lives x = refl
 
-  pub find-says : (lives : Lfts 1) (x : Args f.signature lives) (r : Res f.signature lives) (e : AtExit f.ended lives) → f.clauses 𝓤 H A mem run lives x .ensures tt r e ≡ fact 𝓤 (FindPost lives x r e)
+  pub find-says : (lives : Lfts 1) (x : Args f.signature lives) (r : Res f.signature lives) (e : AtExit f.ended lives)
+      → f.clauses 𝓤 H A mem run lives x .ensures tt r e ≡ fact 𝓤 (FindPost lives x r e)
   find-says lives x r e = refl
 
   pub back-asks : (lives : Lfts 2) (x : Args b.signature lives) → b.clauses 𝓤 H A mem run lives x .requires tt ≡ emp 𝓤
   back-asks lives x = refl
 
-  pub back-says : (lives : Lfts 2) (x : Args b.signature lives) (r : Res b.signature lives) (e : AtExit b.ended lives) → b.clauses 𝓤 H A mem run lives x .ensures tt r e ≡ fact 𝓤 (BackPost lives x r e)
+  pub back-says : (lives : Lfts 2) (x : Args b.signature lives) (r : Res b.signature lives) (e : AtExit b.ended lives)
+      → b.clauses 𝓤 H A mem run lives x .ensures tt r e ≡ fact 𝓤 (BackPost lives x r e)
   back-says lives x r e = refl
 
   pub add-asks : (lives : Lfts 2) (x : Args a.signature lives) → a.clauses 𝓤 H A mem run lives x .requires tt ≡ emp 𝓤
   add-asks lives x = refl
 
-  pub add-says : (lives : Lfts 2) (x : Args a.signature lives) (r : Res a.signature lives) (e : AtExit a.ended lives) → a.clauses 𝓤 H A mem run lives x .ensures tt r e ≡ fact 𝓤 (AddPost lives x r e)
+  pub add-says : (lives : Lfts 2) (x : Args a.signature lives) (r : Res a.signature lives) (e : AtExit a.ended lives)
+      → a.clauses 𝓤 H A mem run lives x .ensures tt r e ≡ fact 𝓤 (AddPost lives x r e)
   add-says lives x r e = refl
 
 pub once-find : Once f.ended FindPre FindPost

@@ -1,4 +1,5 @@
--- `records::back` meets its contract: a walk of its MIR, by hand. It is four calls, one behind the other: what each is passed (`to-`), that it may be called so (`goes-`),
+-- `records::back` meets its contract: a walk of its MIR, by hand. It is four calls, one behind the other: what each is passed (`to-`), that it may be called
+-- so (`goes-`),
 -- and what its result is known to be (`-said`). What they mean together is a law of `log`.
 -- Assumes nothing.
 use mathlib.Core.Path.{_≡_, refl, ap, _∙_}
@@ -89,7 +90,8 @@ module _ {M : Type 1} (𝓤 : URA M) (H : Heap 𝓤) (A : Atoms 𝓤) (mem : Mem
   abbrev CutC : Contract 𝓤
   CutC = tripleOf 𝓤 H A cut.signature (cut.spec 𝓤 H A mem run)
 
-module _ {M : Type 1} (𝓤 : URA M) (H : Heap 𝓤) (A : Atoms 𝓤) (W : Given 𝓤 H A) (mem : Memory → SProp 𝓤) (run : Routine → Fun 𝓤) (κ κ₂ : Lft) (q q₂ : Share) (b o : ℕ) (γ : GName) (ys : List Point) (n : ℕ) (b₂ o₂ : ℕ) (γ₂ : GName) (bs : List ℕ) (gn : Room R (length ys)) (gi : n < 2 ^ 64) (gb : Room u8 (length bs)) where
+module _ {M : Type 1} (𝓤 : URA M) (H : Heap 𝓤) (A : Atoms 𝓤) (W : Given 𝓤 H A) (mem : Memory → SProp 𝓤) (run : Routine → Fun 𝓤) (κ κ₂ : Lft) (q q₂ : Share) (b o : ℕ)
+    (γ : GName) (ys : List Point) (n : ℕ) (b₂ o₂ : ℕ) (γ₂ : GName) (bs : List ℕ) (gn : Room R (length ys)) (gi : n < 2 ^ 64) (gb : Room u8 (length bs)) where
   abbrev s : RefT (List Point)
   s = record { ptr = (b, o); name = γ; now = ys }
 
@@ -146,7 +148,8 @@ module _ {M : Type 1} (𝓤 : URA M) (H : Heap 𝓤) (A : Atoms 𝓤) (W : Given
     to-slot = ((tt, tt, tt, (r, tt), (u ∷ [], tt)), tt)
 
     goes-slot : ent 𝓤 (sem 𝓤 H A ftrue) (SlotC 𝓤 H A mem run .pre to-slot)
-    goes-slot = qed W (‵ ftrue ∷ []) ∵ owned ! P.the-row (Is P.the-row) (LL.makes P.the-type P′.the-plain 𝓤 H A) r _ is $ fjoin ! $ nothing ! $ join ! $ frame ! $ done !
+    goes-slot = qed W (‵ ftrue ∷ []) ∵ owned ! P.the-row (Is P.the-row) (LL.makes P.the-type P′.the-plain 𝓤 H A) r _ is $ fjoin ! $ nothing ! $ join ! $ frame ! $
+        done !
 
     slot-said : (x : ℕ) → ent 𝓤 (ensured 𝓤 H A slot.ended (slot.clauses 𝓤 H A mem run) tt (r, tt) tt x) (fact 𝓤 (x ≡ slotOf (r .place)))
     slot-said x = exE 𝓤 _ (λ ws. snd∗ 𝓤 (sem 𝓤 H A (lasts slot.ended tt (r, tt) ws)) (fact 𝓤 (x ≡ slotOf (r .place))))
@@ -157,7 +160,8 @@ module _ {M : Type 1} (𝓤 : URA M) (H : Heap 𝓤) (A : Atoms 𝓤) (W : Given
 
       goes-cut : ent 𝓤 (sem 𝓤 H A ftrue) (CutC 𝓤 H A mem run .pre to-cut)
       goes-cut =
-          qed W (‵ ftrue ∷ []) ∵ owned ! F.the-row (Is F.the-row) (LL.makes F.the-type F′.the-plain 𝓤 H A) f _ isf $ fjoin ! $ owned ! P.the-row (Is P.the-row) (LL.makes P.the-type P′.the-plain 𝓤 H A) r _ is $ fjoin ! $
+          qed W (‵ ftrue ∷ []) ∵ owned ! F.the-row (Is F.the-row) (LL.makes F.the-type F′.the-plain 𝓤 H A) f _ isf $ fjoin ! $
+          owned ! P.the-row (Is P.the-row) (LL.makes P.the-type P′.the-plain 𝓤 H A) r _ is $ fjoin ! $
           owned ! usize (Is usize) (uint-makes 𝓤 H A W w64) n _ (refl, gi) $ fjoin ! $ nothing ! $ join ! $ frame ! $ done !
 
       cut-said : (d : Done) → ent 𝓤 (ensured 𝓤 H A cut.ended (cut.clauses 𝓤 H A mem run) tt (n, (r, (f, tt))) tt d) (fact 𝓤 (d ≡ cutOf n r f))
@@ -169,7 +173,8 @@ module _ {M : Type 1} (𝓤 : URA M) (H : Heap 𝓤) (A : Atoms 𝓤) (W : Given
 
     goes-find : ent 𝓤 (⋆ 𝓤 H A (‵ Own ∷ Token ∷ [])) (FindC 𝓤 H A mem run .pre to-find)
     goes-find =
-        qed W (‵ Own ∷ Token ∷ []) ∵ nothing ! $ owned ! u64 (Is u64) (uint-makes 𝓤 H A W w64) x _ is $ fjoin ! $ owned ! usize (Is usize) (uint-makes 𝓤 H A W w64) n _ (refl, gi) $ fjoin ! $
+        qed W (‵ Own ∷ Token ∷ []) ∵ nothing ! $ owned ! u64 (Is u64) (uint-makes 𝓤 H A W w64) x _ is $ fjoin ! $
+        owned ! usize (Is usize) (uint-makes 𝓤 H A W w64) n _ (refl, gi) $ fjoin ! $
         move ! (1 ∷ 0 ∷ []) $ fjoin ! $ move ! (1 ∷ 0 ∷ []) $ join ! $ frame ! $ done !
 
     find-said : (f : Found) → ent 𝓤 (ensured 𝓤 H A find.ended (find.clauses 𝓤 H A mem run) (κ, tt) (s, (n, (x, tt))) tt f) (fact 𝓤 (f ≡ findOf ys n x))
@@ -178,65 +183,87 @@ module _ {M : Type 1} (𝓤 : URA M) (H : Heap 𝓤) (A : Atoms 𝓤) (W : Given
   exits : (d : Done) (u : Val) → d ≡ backOf ys n bs → ent 𝓤 (⋆ 𝓤 H A (‵ (D.the-row .own d (u ∷ [])) ∷ Token ∷ ‵ Own ∷ Token₂ ∷ ‵ Own₂ ∷ ‵ Count ∷ [])) (Post u)
   exits d u f =
       qed W (‵ (D.the-row .own d (u ∷ [])) ∷ Token ∷ ‵ Own ∷ Token₂ ∷ ‵ Own₂ ∷ ‵ Count ∷ []) ∵
-      suffices ! _ (ends-at 𝓤 H A back.ended stayed (back.clauses 𝓤 H A mem run) W (((κ, (κ₂, tt)), (q, (q₂, tt)), tt, a, at), tt) u d (tt, (tt, (tt, tt))) (tt, (tt, (tt, tt)))) $ says ! f $
+      suffices ! _ (ends-at 𝓤 H A back.ended stayed (back.clauses 𝓤 H A mem run) W (((κ, (κ₂, tt)), (q, (q₂, tt)), tt, a, at), tt) u d (tt, (tt, (tt, tt))) (tt, (tt, (tt, tt)))) $
+      says ! f $
       move ! (1 ∷ []) $ split ! $ move ! (0 ∷ 4 ∷ []) $ join ! $ frame ! $
       move ! (3 ∷ 0 ∷ []) $ fjoin ! $ move ! (3 ∷ 0 ∷ []) $ fjoin ! $ move ! (2 ∷ 0 ∷ []) $ fjoin ! $ frame ! $ done !
 
   -- ---- the walk
-  module _ (C : Calls 𝓤 H) (Λ : Loops 𝓤 H) (fm : FmC 𝓤 H (W .laws) C) (known-read : Triple 𝓤 (C #points·read-point) (ReadC 𝓤 H A mem run)) (known-slot : Triple 𝓤 (C #log·decide·slot-of) (SlotC 𝓤 H A mem run)) (known-find : Triple 𝓤 (C #records·find) (FindC 𝓤 H A mem run)) (known-cut : Triple 𝓤 (C #log·decide·cut) (CutC 𝓤 H A mem run)) where
+  module _ (C : Calls 𝓤 H) (Λ : Loops 𝓤 H) (fm : FmC 𝓤 H (W .laws) C) (known-read : Triple 𝓤 (C #points·read-point) (ReadC 𝓤 H A mem run))
+      (known-slot : Triple 𝓤 (C #log·decide·slot-of) (SlotC 𝓤 H A mem run)) (known-find : Triple 𝓤 (C #records·find) (FindC 𝓤 H A mem run))
+      (known-cut : Triple 𝓤 (C #log·decide·cut) (CutC 𝓤 H A mem run)) where
     walk : ent 𝓤 (onEntry 𝓤 H A back.signature (κ, (κ₂, tt)) (q, (q₂, tt)) a at) (WpFn 𝓤 H C Λ code.function (v ∷ vint w64 n ∷ w ∷ []) Post)
     walk =
         qed W ((‵ (flft κ q) ⊛ Token₂) ∷ ‵ (owns (ShrSlice (named 0) κ R ∷ usize ∷ ShrSlice (named 1) κ₂ u8 ∷ []) a at) ∷ []) ∵ enter ! C Λ code.function (v ∷ vint w64 n ∷ w ∷ []) _ $
         alloc1 ! (λ l₀. alloc1 ! (λ l₁. alloc1 ! (λ l₂. alloc1 ! (λ l₃. alloc1 ! (λ l₄. alloc1 ! (λ l₅. alloc1 ! (λ l₆. alloc0 ! $ params1 ! $
-        pass1 ! (init ! 10 refl (tt, (tt, (record { fits = gn .0 }, tt)))) $ pass1 ! (init ! 8 refl (tt, record { fits = gi })) $ pass1 ! (init ! 6 refl (tt, (tt, (record { fits = gb .0 }, tt)))) $ pass0 ! $
+        pass1 ! (init ! 10 refl (tt, (tt, (record { fits = gn .0 }, tt)))) $ pass1 ! (init ! 8 refl (tt, record { fits = gi })) $
+        pass1 ! (init ! 6 refl (tt, (tt, (record { fits = gb .0 }, tt)))) $ pass0 ! $
         move ! (15 ∷ []) $ fsplit ! $ move ! (1 ∷ []) $ fsplit ! $ move ! (1 ∷ []) $ fsplit ! $ move ! (18 ∷ []) $ split ! $
         -- [run's token; the item's; what the item owns; true; count's; what run owns; _6; …; _5; …; and so on to _0; …]
         move ! (2 ∷ []) $ use1 W (‵ Own₂ ⊛ ‵ Own₂) (shr-slice-copy 𝓤 H A W (named 1) κ₂ u8 .twice item (w ∷ [])) $ split ! $ move ! (0 ∷ 3 ∷ []) $
         use2 W (raw (ReadC 𝓤 H A mem run .pre to-read)) goes-read $
         calls-at ! fm (ReadC 𝓤 H A mem run) known-read to-read (and-then ! (load ! (from ! (stop !)) (look ! 12 refl)) (no-more !)) (λ u₁.
-        use1 W (later (some (λ (r : Read). (Token₂ ⊛ ‵ (P.the-row .own r (u₁ ∷ []))) ⊛ raw (ensured 𝓤 H A read.ended (read.clauses 𝓤 H A mem run) (κ₂, tt) (item, tt) tt r)))) (id⊢ 𝓤 _) $ await ! tt $ pick ! (λ r.
+        use1 W (later (some (λ (r : Read). (Token₂ ⊛ ‵ (P.the-row .own r (u₁ ∷ [])))
+        ⊛ raw (ensured 𝓤 H A read.ended (read.clauses 𝓤 H A mem run) (κ₂, tt) (item, tt) tt r)))) (id⊢ 𝓤 _) $
+        await ! tt $ pick ! (λ r.
         split ! $ move ! (1 ∷ []) $ use1 W (raw (fact 𝓤 (r ≡ pointOf bs))) (read-said r) $ heard ! (r ≡ pointOf bs) (λ e₁. split ! $ move ! (1 ∷ []) $
         peeks ! P.the-row (Is P.the-row) (shows 𝓤 H A P.the-row) r (u₁ ∷ []) (λ is₁.
         land ! (from ! (stop !)) (init ! 11 refl (LL.lawful P.the-type P′.the-laws 𝓤 H A W .typed r _ is₁ .0)) $ drop ! $
         -- [the item's token; what the item owns; run's token; true; count's; what run owns; _6; …; and so on]
         nothing ! $ use1 W (raw (SlotC 𝓤 H A mem run .pre (to-slot r u₁ is₁))) (goes-slot r u₁ is₁) $
         calls-at ! fm (SlotC 𝓤 H A mem run) known-slot (to-slot r u₁ is₁) (and-then ! (load ! (from ! (stop !)) (look ! 11 refl)) (no-more !)) (λ u₂.
-        use1 W (later (some (λ (x : ℕ). (‵ ftrue ⊛ ‵ (u64 .own x (u₂ ∷ []))) ⊛ raw (ensured 𝓤 H A slot.ended (slot.clauses 𝓤 H A mem run) tt (r, tt) tt x)))) (id⊢ 𝓤 _) $ await ! tt $ pick ! (λ x.
+        use1 W (later (some (λ (x : ℕ). (‵ ftrue ⊛ ‵ (u64 .own x (u₂ ∷ [])))
+        ⊛ raw (ensured 𝓤 H A slot.ended (slot.clauses 𝓤 H A mem run) tt (r, tt) tt x)))) (id⊢ 𝓤 _) $
+        await ! tt $ pick ! (λ x.
         split ! $ move ! (1 ∷ []) $ use1 W (raw (fact 𝓤 (x ≡ slotOf (r .place)))) (slot-said r u₁ is₁ x) $ heard ! (x ≡ slotOf (r .place)) (λ e₂. split ! $ drop ! $
         peeks ! u64 (Is u64) (shows 𝓤 H A u64) x (u₂ ∷ []) (λ is₂.
         land ! (from ! (stop !)) (init ! 9 refl (uint-lawful 𝓤 H A W w64 .typed x _ is₂ .0)) $ drop ! $
-        move ! (5 ∷ []) $ use1 W (‵ Own ⊛ ‵ Own) (shr-slice-copy 𝓤 H A W (named 0) κ R .twice s (v ∷ [])) $ split ! $ move ! (4 ∷ 5 ∷ []) $ join ! $ move ! (1 ∷ 0 ∷ []) $
+        move ! (5 ∷ []) $ use1 W (‵ Own ⊛ ‵ Own) (shr-slice-copy 𝓤 H A W (named 0) κ R .twice s (v ∷ [])) $ split ! $ move ! (4 ∷ 5 ∷ []) $ join ! $
+        move ! (1 ∷ 0 ∷ []) $
         use2 W (raw (FindC 𝓤 H A mem run .pre (to-find x u₂ is₂))) (goes-find x u₂ is₂) $
-        calls-at ! fm (FindC 𝓤 H A mem run) known-find (to-find x u₂ is₂) (and-then ! (load ! (from ! (stop !)) (look ! 15 refl)) (and-then ! (load ! (from ! (stop !)) (look ! 13 refl)) (and-then ! (load ! (from ! (stop !)) (look ! 7 refl)) (no-more !)))) (λ u₃.
-        use1 W (later (some (λ (f : Found). (Token ⊛ ‵ (F.the-row .own f (u₃ ∷ []))) ⊛ raw (ensured 𝓤 H A find.ended (find.clauses 𝓤 H A mem run) (κ, tt) (s, (n, (x, tt))) tt f)))) (id⊢ 𝓤 _) $ await ! tt $ pick ! (λ f.
+        calls-at ! fm (FindC 𝓤 H A mem run) known-find (to-find x u₂ is₂)
+        (and-then ! (load ! (from ! (stop !)) (look ! 15 refl)) (and-then ! (load ! (from ! (stop !)) (look ! 13 refl)) (and-then ! (load ! (from ! (stop !)) (look ! 7 refl)) (no-more !)))) (λ u₃.
+        use1 W (later (some (λ (f : Found). (Token ⊛ ‵ (F.the-row .own f (u₃ ∷ [])))
+        ⊛ raw (ensured 𝓤 H A find.ended (find.clauses 𝓤 H A mem run) (κ, tt) (s, (n, (x, tt))) tt f)))) (id⊢ 𝓤 _) $
+        await ! tt $ pick ! (λ f.
         split ! $ move ! (1 ∷ []) $ use1 W (raw (fact 𝓤 (f ≡ findOf ys n x))) (find-said x u₂ is₂ f) $ heard ! (f ≡ findOf ys n x) (λ e₃. split ! $ move ! (1 ∷ []) $
         peeks ! F.the-row (Is F.the-row) (shows 𝓤 H A F.the-row) f (u₃ ∷ []) (λ is₃.
         land ! (from ! (stop !)) (init ! 6 refl (LL.lawful F.the-type F′.the-laws 𝓤 H A W .typed f _ is₃ .0)) $ drop ! $
         -- [run's token; what run owns; the item's token; what the item owns; count's; _6; …; and so on]
         nothing ! $ use1 W (raw (CutC 𝓤 H A mem run .pre (to-cut r u₁ is₁ f u₃ is₃))) (goes-cut r u₁ is₁ f u₃ is₃) $
-        calls-at ! fm (CutC 𝓤 H A mem run) known-cut (to-cut r u₁ is₁ f u₃ is₃) (and-then ! (load ! (from ! (stop !)) (look ! 14 refl)) (and-then ! (load ! (from ! (stop !)) (look ! 10 refl)) (and-then ! (load ! (from ! (stop !)) (look ! 6 refl)) (no-more !)))) (λ u₄.
-        use1 W (later (some (λ (d : Done). (‵ ftrue ⊛ ‵ (D.the-row .own d (u₄ ∷ []))) ⊛ raw (ensured 𝓤 H A cut.ended (cut.clauses 𝓤 H A mem run) tt (n, (r, (f, tt))) tt d)))) (id⊢ 𝓤 _) $ await ! tt $ pick ! (λ d.
+        calls-at ! fm (CutC 𝓤 H A mem run) known-cut (to-cut r u₁ is₁ f u₃ is₃)
+        (and-then ! (load ! (from ! (stop !)) (look ! 14 refl)) (and-then ! (load ! (from ! (stop !)) (look ! 10 refl)) (and-then ! (load ! (from ! (stop !)) (look ! 6 refl)) (no-more !)))) (λ u₄.
+        use1 W (later (some (λ (d : Done). (‵ ftrue ⊛ ‵ (D.the-row .own d (u₄ ∷ [])))
+        ⊛ raw (ensured 𝓤 H A cut.ended (cut.clauses 𝓤 H A mem run) tt (n, (r, (f, tt))) tt d)))) (id⊢ 𝓤 _) $
+        await ! tt $ pick ! (λ d.
         split ! $ move ! (1 ∷ []) $ use1 W (raw (fact 𝓤 (d ≡ cutOf n r f))) (cut-said r u₁ is₁ f u₃ is₃ d) $ heard ! (d ≡ cutOf n r f) (λ e₄. split ! $ drop ! $
         peeks ! D.the-row (Is D.the-row) (shows 𝓤 H A D.the-row) d (u₄ ∷ []) (λ is₄.
         land ! (from ! (stop !)) (init ! 18 refl (LL.lawful D.the-type D′.the-laws 𝓤 H A W .typed d _ is₄ .0)) $
         returns ! (look ! 18 refl) $ forget ! 6 refl $ forget ! 8 refl $ forget ! 10 refl $ forget ! 12 refl $ forget ! 14 refl $ forget ! 16 refl $ forget ! 18 refl $
-        move ! (18 ∷ 19 ∷ []) $ free1 ! $ move ! (16 ∷ 17 ∷ []) $ free1 ! $ move ! (14 ∷ 15 ∷ []) $ free1 ! $ move ! (12 ∷ 13 ∷ []) $ free1 ! $ move ! (10 ∷ 11 ∷ []) $ free1 ! $ move ! (8 ∷ 9 ∷ []) $ free1 ! $ move ! (6 ∷ 7 ∷ []) $ free1 ! $ free0 ! $
+        move ! (18 ∷ 19 ∷ []) $ free1 ! $ move ! (16 ∷ 17 ∷ []) $ free1 ! $ move ! (14 ∷ 15 ∷ []) $ free1 ! $ move ! (12 ∷ 13 ∷ []) $ free1 ! $ move ! (10 ∷ 11 ∷ []) $
+        free1 ! $ move ! (8 ∷ 9 ∷ []) $ free1 ! $ move ! (6 ∷ 7 ∷ []) $ free1 ! $ free0 ! $
         by ! (exits d u₄ (backs ys n bs e₁ (e₃ ∙ ap (findOf ys n) e₂) e₄)))))))))))))))))))))))))
 
 module _ {M : Type 1} (𝓤 : URA M) (H : Heap 𝓤) (A : Atoms 𝓤) (W : Given 𝓤 H A) (mem : Memory → SProp 𝓤) (run : Routine → Fun 𝓤) where
-  back-walks : (C : Calls 𝓤 H) (Λ : Loops 𝓤 H) → FmC 𝓤 H (W .laws) C → Triple 𝓤 (C #points·read-point) (ReadC 𝓤 H A mem run) → Triple 𝓤 (C #log·decide·slot-of) (SlotC 𝓤 H A mem run) → Triple 𝓤 (C #records·find) (FindC 𝓤 H A mem run) → Triple 𝓤 (C #log·decide·cut) (CutC 𝓤 H A mem run)
+  back-walks : (C : Calls 𝓤 H) (Λ : Loops 𝓤 H) → FmC 𝓤 H (W .laws) C → Triple 𝓤 (C #points·read-point) (ReadC 𝓤 H A mem run)
+      → Triple 𝓤 (C #log·decide·slot-of) (SlotC 𝓤 H A mem run) → Triple 𝓤 (C #records·find) (FindC 𝓤 H A mem run) → Triple 𝓤 (C #log·decide·cut) (CutC 𝓤 H A mem run)
       → Walks 𝓤 H A back.ended stayed (WpFn 𝓤 H C Λ code.function) (back.clauses 𝓤 H A mem run)
   back-walks C Λ fm known-read known-slot known-find known-cut = walked 𝓤 H A back.ended stayed (back.clauses 𝓤 H A mem run) (WpFn 𝓤 H C Λ code.function)
       (λ κs. (slice-vals, (uint-vals w64, (slice-vals, tt)))) (λ κs. (shr-slice-tells (named 0) (κs .0) R, (uint-tells w64, (shr-slice-tells (named 1) (κs .1 .0) u8, tt))))
       (λ κs qs bounds a g are. via 𝓤 _ (fst∗ 𝓤 _ (emp 𝓤))
-      (walk 𝓤 H A W mem run (κs .0) (κs .1 .0) (qs .0) (qs .1 .0) (a .0 .ptr .0) (a .0 .ptr .1) (a .0 .name) (a .0 .now) (a .1 .0) (a .1 .1 .0 .ptr .0) (a .1 .1 .0 .ptr .1) (a .1 .1 .0 .name) (a .1 .1 .0 .now) (are .0 .0 .1) (are .1 .0 .1) (are .1 .1 .0 .0 .1) C Λ fm known-read known-slot known-find known-cut))
+      (walk 𝓤 H A W mem run (κs .0) (κs .1 .0) (qs .0) (qs .1 .0) (a .0 .ptr .0) (a .0 .ptr .1) (a .0 .name) (a .0 .now) (a .1 .0) (a .1 .1 .0 .ptr .0) (a .1 .1 .0 .ptr .1) (a .1 .1 .0 .name) (a .1 .1 .0 .now)
+      (are .0 .0 .1) (are .1 .0 .1) (are .1 .1 .0 .0 .1) C Λ fm known-read known-slot known-find known-cut))
 
 back-meets : {M : Type 1} (𝓤 : URA M) (H : Heap 𝓤) (A : Atoms 𝓤) (W : Given 𝓤 H A) (mem : Memory → SProp 𝓤) (run : Routine → Fun 𝓤) (𝓣 : Tables 𝓤 H)
-    → Triple 𝓤 (𝓣 .C #points·read-point) (ReadC 𝓤 H A mem run) → Triple 𝓤 (𝓣 .C #log·decide·slot-of) (SlotC 𝓤 H A mem run) → Triple 𝓤 (𝓣 .C #records·find) (FindC 𝓤 H A mem run) → Triple 𝓤 (𝓣 .C #log·decide·cut) (CutC 𝓤 H A mem run)
+    → Triple 𝓤 (𝓣 .C #points·read-point) (ReadC 𝓤 H A mem run) → Triple 𝓤 (𝓣 .C #log·decide·slot-of) (SlotC 𝓤 H A mem run)
+    → Triple 𝓤 (𝓣 .C #records·find) (FindC 𝓤 H A mem run) → Triple 𝓤 (𝓣 .C #log·decide·cut) (CutC 𝓤 H A mem run)
     → Meets 𝓤 H A back.signature (WpFn 𝓤 H (𝓣 .C) (𝓣 .Λ) code.function) (back.spec 𝓤 H A mem run)
 back-meets 𝓤 H A W mem run 𝓣 known-read known-slot known-find known-cut =
-    walk-meets 𝓤 H A back.ended stayed W (goes-none-slice 𝓤 H A W 2 (0 ∷ []) tt (plain (λ _. R)) yes, (goes-none 𝓤 H A W 2 (λ _. usize) yes (λ κs x f. refl), (goes-none-slice 𝓤 H A W 2 (1 ∷ []) tt (plain (λ _. u8)) yes, tt))) (back.clauses 𝓤 H A mem run)
-    (WpFn 𝓤 H (𝓣 .C) (𝓣 .Λ) code.function) (WpFn-mono 𝓤 H (W .laws) 𝓣 code.function) (back-walks 𝓤 H A W mem run (𝓣 .C) (𝓣 .Λ) (fmOf 𝓤 H (W .laws) 𝓣) known-read known-slot known-find known-cut)
+    walk-meets 𝓤 H A back.ended stayed W
+    (goes-none-slice 𝓤 H A W 2 (0 ∷ []) tt (plain (λ _. R)) yes, (goes-none 𝓤 H A W 2 (λ _. usize) yes (λ κs x f. refl), (goes-none-slice 𝓤 H A W 2 (1 ∷ []) tt (plain (λ _. u8)) yes, tt)))
+    (back.clauses 𝓤 H A mem run)
+    (WpFn 𝓤 H (𝓣 .C) (𝓣 .Λ) code.function) (WpFn-mono 𝓤 H (W .laws) 𝓣 code.function)
+    (back-walks 𝓤 H A W mem run (𝓣 .C) (𝓣 .Λ) (fmOf 𝓤 H (W .laws) 𝓣) known-read known-slot known-find known-cut)
 
 pub back-spec : {M : Type 1} → stated.statement M
 unfolding code.routine tablesOf

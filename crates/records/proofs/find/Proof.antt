@@ -1,4 +1,5 @@
--- `records::find` meets its contract: a walk of its MIR, by hand. It is five calls, one behind the other: what each is passed (`to-`), that it may be called so (`goes-`),
+-- `records::find` meets its contract: a walk of its MIR, by hand. It is five calls, one behind the other: what each is passed (`to-`), that it may be called
+-- so (`goes-`),
 -- and what its result is known to be (`-said`). What they mean together is a law of `log`.
 -- Assumes nothing.
 use mathlib.Core.Path.{_≡_, refl}
@@ -94,7 +95,8 @@ module _ {M : Type 1} (𝓤 : URA M) (H : Heap 𝓤) (A : Atoms 𝓤) (mem : Mem
   abbrev Finding : Contract 𝓤
   Finding = tripleOf 𝓤 H A finding.signature (finding.spec 𝓤 H A mem run)
 
-module _ {M : Type 1} (𝓤 : URA M) (H : Heap 𝓤) (A : Atoms 𝓤) (W : Given 𝓤 H A) (mem : Memory → SProp 𝓤) (run : Routine → Fun 𝓤) (κ : Lft) (q : Share) (b o : ℕ) (γ : GName) (ys : List Point) (n x : ℕ) (gn : Room R (length ys)) (gi : n < 2 ^ 64) (gx : x < 2 ^ 64) where
+module _ {M : Type 1} (𝓤 : URA M) (H : Heap 𝓤) (A : Atoms 𝓤) (W : Given 𝓤 H A) (mem : Memory → SProp 𝓤) (run : Routine → Fun 𝓤) (κ : Lft) (q : Share) (b o : ℕ)
+    (γ : GName) (ys : List Point) (n x : ℕ) (gn : Room R (length ys)) (gi : n < 2 ^ 64) (gx : x < 2 ^ 64) where
   abbrev s : RefT (List Point)
   s = record { ptr = (b, o); name = γ; now = ys }
 
@@ -132,7 +134,8 @@ module _ {M : Type 1} (𝓤 : URA M) (H : Heap 𝓤) (A : Atoms 𝓤) (W : Given
 
   goes-usable : ent 𝓤 (sem 𝓤 H A ftrue) (Usable 𝓤 H A mem run .pre to-usable)
   goes-usable =
-      qed W (‵ ftrue ∷ []) ∵ owned ! usize (Is usize) (uint-makes 𝓤 H A W w64) n _ (refl, gi) $ fjoin ! $ owned ! usize (Is usize) (uint-makes 𝓤 H A W w64) len _ (refl, gn .0) $ fjoin ! $
+      qed W (‵ ftrue ∷ []) ∵ owned ! usize (Is usize) (uint-makes 𝓤 H A W w64) n _ (refl, gi) $ fjoin ! $
+      owned ! usize (Is usize) (uint-makes 𝓤 H A W w64) len _ (refl, gn .0) $ fjoin ! $
       nothing ! $ join ! $ frame ! $ done !
 
   usable-said : (m : ℕ) → ent 𝓤 (ensured 𝓤 H A usable.ended (usable.clauses 𝓤 H A mem run) tt (len, (n, tt)) tt m) (fact 𝓤 (m ≡ usableOf len n))
@@ -144,7 +147,8 @@ module _ {M : Type 1} (𝓤 : URA M) (H : Heap 𝓤) (A : Atoms 𝓤) (W : Given
 
     goes-rises : m ≤ len → ent 𝓤 (⋆ 𝓤 H A (‵ Own ∷ Token ∷ [])) (Rises 𝓤 H A mem run .pre to-rises)
     goes-rises within =
-        qed W (‵ Own ∷ Token ∷ []) ∵ says ! within $ move ! (1 ∷ []) $ frame ! $ nothing ! $ owned ! usize (Is usize) (uint-makes 𝓤 H A W w64) m _ is $ fjoin ! $ move ! (1 ∷ 0 ∷ []) $ fjoin ! $ done !
+        qed W (‵ Own ∷ Token ∷ []) ∵ says ! within $ move ! (1 ∷ []) $ frame ! $ nothing ! $ owned ! usize (Is usize) (uint-makes 𝓤 H A W w64) m _ is $ fjoin ! $
+        move ! (1 ∷ 0 ∷ []) $ fjoin ! $ done !
 
     rises-said : (r : Bool) → ent 𝓤 (ensured 𝓤 H A rises.ended (rises.clauses 𝓤 H A mem run) (κ, tt) (s, (m, tt)) tt r) (fact 𝓤 (r ≡ risesTo (slotsOf ys) m))
     rises-said r = exE 𝓤 _ (λ ws. snd∗ 𝓤 (sem 𝓤 H A (lasts rises.ended (κ, tt) (s, (m, tt)) ws)) (fact 𝓤 (r ≡ risesTo (slotsOf ys) m)))
@@ -166,7 +170,8 @@ module _ {M : Type 1} (𝓤 : URA M) (H : Heap 𝓤) (A : Atoms 𝓤) (W : Given
 
     goes-last : k ≤ len → ent 𝓤 (⋆ 𝓤 H A (‵ Own ∷ Token ∷ [])) (Last 𝓤 H A mem run .pre to-last)
     goes-last within =
-        qed W (‵ Own ∷ Token ∷ []) ∵ says ! within $ move ! (1 ∷ []) $ frame ! $ nothing ! $ owned ! usize (Is usize) (uint-makes 𝓤 H A W w64) k _ is $ fjoin ! $ move ! (1 ∷ 0 ∷ []) $ fjoin ! $ done !
+        qed W (‵ Own ∷ Token ∷ []) ∵ says ! within $ move ! (1 ∷ []) $ frame ! $ nothing ! $ owned ! usize (Is usize) (uint-makes 𝓤 H A W w64) k _ is $ fjoin ! $
+        move ! (1 ∷ 0 ∷ []) $ fjoin ! $ done !
 
     last-said : (p : Point) → ent 𝓤 (ensured 𝓤 H A last-of.ended (last-of.clauses 𝓤 H A mem run) (κ, tt) (s, (k, tt)) tt p) (fact 𝓤 (p ≡ lastOf ys k))
     last-said p = exE 𝓤 _ (λ ws. snd∗ 𝓤 (sem 𝓤 H A (lasts last-of.ended (κ, tt) (s, (k, tt)) ws)) (fact 𝓤 (p ≡ lastOf ys k)))
@@ -177,30 +182,40 @@ module _ {M : Type 1} (𝓤 : URA M) (H : Heap 𝓤) (A : Atoms 𝓤) (W : Given
 
       goes-finding : ent 𝓤 (sem 𝓤 H A ftrue) (Finding 𝓤 H A mem run .pre to-finding)
       goes-finding =
-          qed W (‵ ftrue ∷ []) ∵ owned ! R (Is R) (LL.makes T.the-type T′.the-plain 𝓤 H A) p _ isp $ fjoin ! $ owned ! usize (Is usize) (uint-makes 𝓤 H A W w64) k _ is $ fjoin ! $
+          qed W (‵ ftrue ∷ []) ∵ owned ! R (Is R) (LL.makes T.the-type T′.the-plain 𝓤 H A) p _ isp $ fjoin ! $
+          owned ! usize (Is usize) (uint-makes 𝓤 H A W w64) k _ is $ fjoin ! $
           owned ! Boolean (Is Boolean) (bool-makes 𝓤 H A W) good _ isb $ fjoin ! $ owned ! usize (Is usize) (uint-makes 𝓤 H A W w64) n _ (refl, gi) $ fjoin ! $
           owned ! usize (Is usize) (uint-makes 𝓤 H A W w64) len _ (refl, gn .0) $ fjoin ! $ nothing ! $ join ! $ frame ! $ done !
 
-      finding-said : (r : Found) → ent 𝓤 (ensured 𝓤 H A finding.ended (finding.clauses 𝓤 H A mem run) tt (len, (n, (good, (k, (p, tt))))) tt r) (fact 𝓤 (r ≡ foundOf len n good k p))
+      finding-said : (r : Found)
+          → ent 𝓤 (ensured 𝓤 H A finding.ended (finding.clauses 𝓤 H A mem run) tt (len, (n, (good, (k, (p, tt))))) tt r) (fact 𝓤 (r ≡ foundOf len n good k p))
       finding-said r = exE 𝓤 _ (λ ws. snd∗ 𝓤 (sem 𝓤 H A (lasts finding.ended tt (len, (n, (good, (k, (p, tt))))) ws)) (fact 𝓤 (r ≡ foundOf len n good k p)))
 
   exits : (r : Found) (u : Val) → r ≡ findOf ys n x → ent 𝓤 (⋆ 𝓤 H A (‵ (F.the-row .own r (u ∷ [])) ∷ Token ∷ ‵ Own ∷ ‵ Numbers ∷ [])) (Post u)
   exits r u f =
       qed W (‵ (F.the-row .own r (u ∷ [])) ∷ Token ∷ ‵ Own ∷ ‵ Numbers ∷ []) ∵
-      suffices ! _ (ends-at 𝓤 H A find.ended stayed (find.clauses 𝓤 H A mem run) W (((κ, tt), (q, tt), tt, a, at), tt) u r (tt, (tt, (tt, tt))) (tt, (tt, (tt, tt)))) $ says ! f $
+      suffices ! _ (ends-at 𝓤 H A find.ended stayed (find.clauses 𝓤 H A mem run) W (((κ, tt), (q, tt), tt, a, at), tt) u r (tt, (tt, (tt, tt))) (tt, (tt, (tt, tt)))) $
+      says ! f $
       move ! (1 ∷ []) $ frame ! $ move ! (1 ∷ 2 ∷ []) $ fjoin ! $ frame ! $ done !
 
   -- ---- the walk
-  module _ (C : Calls 𝓤 H) (Λ : Loops 𝓤 H) (fm : FmC 𝓤 H (W .laws) C) (known-usable : Triple 𝓤 (C #log·decide·usable) (Usable 𝓤 H A mem run)) (known-rises : Triple 𝓤 (C #records·rises) (Rises 𝓤 H A mem run)) (known-upto : Triple 𝓤 (C #records·upto) (Upto 𝓤 H A mem run)) (known-last-of : Triple 𝓤 (C #records·last-of) (Last 𝓤 H A mem run)) (known-finding : Triple 𝓤 (C #log·decide·finding) (Finding 𝓤 H A mem run)) where
+  module _ (C : Calls 𝓤 H) (Λ : Loops 𝓤 H) (fm : FmC 𝓤 H (W .laws) C) (known-usable : Triple 𝓤 (C #log·decide·usable) (Usable 𝓤 H A mem run))
+      (known-rises : Triple 𝓤 (C #records·rises) (Rises 𝓤 H A mem run)) (known-upto : Triple 𝓤 (C #records·upto) (Upto 𝓤 H A mem run))
+      (known-last-of : Triple 𝓤 (C #records·last-of) (Last 𝓤 H A mem run)) (known-finding : Triple 𝓤 (C #log·decide·finding) (Finding 𝓤 H A mem run)) where
     walk : ent 𝓤 (onEntry 𝓤 H A find.signature (κ, tt) (q, tt) a at) (WpFn 𝓤 H C Λ code.function (v ∷ vint w64 n ∷ vint w64 x ∷ []) Post)
     walk =
         qed W (Token ∷ ‵ (owns (ShrSlice (named 0) κ R ∷ usize ∷ u64 ∷ []) a at) ∷ []) ∵ enter ! C Λ code.function (v ∷ vint w64 n ∷ vint w64 x ∷ []) _ $
-        alloc1 ! (λ l₀. alloc1 ! (λ l₁. alloc1 ! (λ l₂. alloc1 ! (λ l₃. alloc1 ! (λ l₄. alloc1 ! (λ l₅. alloc1 ! (λ l₆. alloc1 ! (λ l₇. alloc1 ! (λ l₈. alloc0 ! $ params1 ! $
-        pass1 ! (init ! 14 refl (tt, (tt, (record { fits = gn .0 }, tt)))) $ pass1 ! (init ! 12 refl (tt, record { fits = gi })) $ pass1 ! (init ! 10 refl (tt, record { fits = gx })) $ pass0 ! $
+        alloc1 ! (λ l₀. alloc1 ! (λ l₁. alloc1 ! (λ l₂. alloc1 ! (λ l₃. alloc1 ! (λ l₄. alloc1 ! (λ l₅. alloc1 ! (λ l₆. alloc1 ! (λ l₇. alloc1 ! (λ l₈. alloc0 ! $
+        params1 ! $
+        pass1 ! (init ! 14 refl (tt, (tt, (record { fits = gn .0 }, tt)))) $ pass1 ! (init ! 12 refl (tt, record { fits = gi })) $
+        pass1 ! (init ! 10 refl (tt, record { fits = gx })) $ pass0 ! $
         assigns ! (of-opd ! (load ! (from ! (fld ! refl (stop !))) (look-in ! 14 (sub ! 1 refl (whole !))))) (from ! (stop !)) (init ! 8 refl (tt, record { fits = gn .0 })) $
         nothing ! $ use1 W (raw (Usable 𝓤 H A mem run .pre to-usable)) goes-usable $
-        calls-at ! fm (Usable 𝓤 H A mem run) known-usable to-usable (and-then ! (load ! (from ! (stop !)) (look ! 9 refl)) (and-then ! (load ! (from ! (stop !)) (look ! 13 refl)) (no-more !))) (λ u₁.
-        use1 W (later (some (λ (m : ℕ). (‵ ftrue ⊛ ‵ (usize .own m (u₁ ∷ []))) ⊛ raw (ensured 𝓤 H A usable.ended (usable.clauses 𝓤 H A mem run) tt (len, (n, tt)) tt m)))) (id⊢ 𝓤 _) $ await ! tt $ pick ! (λ m.
+        calls-at ! fm (Usable 𝓤 H A mem run) known-usable to-usable
+        (and-then ! (load ! (from ! (stop !)) (look ! 9 refl)) (and-then ! (load ! (from ! (stop !)) (look ! 13 refl)) (no-more !))) (λ u₁.
+        use1 W (later (some (λ (m : ℕ). (‵ ftrue ⊛ ‵ (usize .own m (u₁ ∷ [])))
+        ⊛ raw (ensured 𝓤 H A usable.ended (usable.clauses 𝓤 H A mem run) tt (len, (n, tt)) tt m)))) (id⊢ 𝓤 _) $
+        await ! tt $ pick ! (λ m.
         split ! $ move ! (1 ∷ []) $ use1 W (raw (fact 𝓤 (m ≡ usableOf len n))) (usable-said m) $ heard ! (m ≡ usableOf len n) (λ e₁. split ! $ drop ! $
         peeks ! usize (Is usize) (shows 𝓤 H A usize) m (u₁ ∷ []) (λ is₁. let within = usable-within len n e₁ in
         land ! (from ! (stop !)) (init ! 7 refl (uint-lawful 𝓤 H A W w64 .typed m _ is₁ .0)) $ drop ! $
@@ -208,49 +223,76 @@ module _ {M : Type 1} (𝓤 : URA M) (H : Heap 𝓤) (A : Atoms 𝓤) (W : Given
         move ! (19 ∷ []) $ fsplit ! $ move ! (20 ∷ []) $
         move ! (1 ∷ []) $ use1 W (‵ Own ⊛ ‵ Own) (shr-slice-copy 𝓤 H A W (named 0) κ R .twice s (v ∷ [])) $ split ! $ move ! (0 ∷ 2 ∷ []) $
         use2 W (raw (Rises 𝓤 H A mem run .pre (to-rises m u₁ is₁))) (goes-rises m u₁ is₁ within) $
-        calls-at ! fm (Rises 𝓤 H A mem run) known-rises (to-rises m u₁ is₁) (and-then ! (load ! (from ! (stop !)) (look ! 17 refl)) (and-then ! (load ! (from ! (stop !)) (look ! 9 refl)) (no-more !))) (λ u₂.
-        use1 W (later (some (λ (good : Bool). (Token ⊛ ‵ (Boolean .own good (u₂ ∷ []))) ⊛ raw (ensured 𝓤 H A rises.ended (rises.clauses 𝓤 H A mem run) (κ, tt) (s, (m, tt)) tt good)))) (id⊢ 𝓤 _) $ await ! tt $ pick ! (λ good.
-        split ! $ move ! (1 ∷ []) $ use1 W (raw (fact 𝓤 (good ≡ risesTo (slotsOf ys) m))) (rises-said m u₁ is₁ good) $ heard ! (good ≡ risesTo (slotsOf ys) m) (λ e₂. split ! $ move ! (1 ∷ []) $
+        calls-at ! fm (Rises 𝓤 H A mem run) known-rises (to-rises m u₁ is₁)
+        (and-then ! (load ! (from ! (stop !)) (look ! 17 refl)) (and-then ! (load ! (from ! (stop !)) (look ! 9 refl)) (no-more !))) (λ u₂.
+        use1 W (later (some (λ (good : Bool). (Token ⊛ ‵ (Boolean .own good (u₂ ∷ [])))
+        ⊛ raw (ensured 𝓤 H A rises.ended (rises.clauses 𝓤 H A mem run) (κ, tt) (s, (m, tt)) tt good)))) (id⊢ 𝓤 _) $
+        await ! tt $ pick ! (λ good.
+        split ! $ move ! (1 ∷ []) $ use1 W (raw (fact 𝓤 (good ≡ risesTo (slotsOf ys) m))) (rises-said m u₁ is₁ good) $
+        heard ! (good ≡ risesTo (slotsOf ys) m) (λ e₂. split ! $ move ! (1 ∷ []) $
         peeks ! Boolean (Is Boolean) (shows 𝓤 H A Boolean) good (u₂ ∷ []) (λ is₂.
         land ! (from ! (stop !)) (init ! 8 refl (bool-lawful 𝓤 H A W .typed good _ is₂ .0)) $ drop ! $
         move ! (1 ∷ []) $ use1 W (‵ Own ⊛ ‵ Own) (shr-slice-copy 𝓤 H A W (named 0) κ R .twice s (v ∷ [])) $ split ! $ move ! (0 ∷ 2 ∷ []) $
         use2 W (raw (Upto 𝓤 H A mem run .pre (to-upto m u₁ is₁))) (goes-upto m u₁ is₁ within) $
-        calls-at ! fm (Upto 𝓤 H A mem run) known-upto (to-upto m u₁ is₁) (and-then ! (load ! (from ! (stop !)) (look ! 17 refl)) (and-then ! (load ! (from ! (stop !)) (look ! 9 refl)) (and-then ! (load ! (from ! (stop !)) (look ! 13 refl)) (no-more !)))) (λ u₃.
-        use1 W (later (some (λ (k : ℕ). (Token ⊛ ‵ (usize .own k (u₃ ∷ []))) ⊛ raw (ensured 𝓤 H A upto.ended (upto.clauses 𝓤 H A mem run) (κ, tt) (s, (m, (x, tt))) tt k)))) (id⊢ 𝓤 _) $ await ! tt $ pick ! (λ k.
-        split ! $ move ! (1 ∷ []) $ use1 W (raw (fact 𝓤 (Between (slotsOf ys) m x k k))) (upto-said m u₁ is₁ k) $ heard ! (Between (slotsOf ys) m x k k) (λ e₃. split ! $ move ! (1 ∷ []) $
+        calls-at ! fm (Upto 𝓤 H A mem run) known-upto (to-upto m u₁ is₁)
+        (and-then ! (load ! (from ! (stop !)) (look ! 17 refl)) (and-then ! (load ! (from ! (stop !)) (look ! 9 refl)) (and-then ! (load ! (from ! (stop !)) (look ! 13 refl)) (no-more !)))) (λ u₃.
+        use1 W (later (some (λ (k : ℕ). (Token ⊛ ‵ (usize .own k (u₃ ∷ [])))
+        ⊛ raw (ensured 𝓤 H A upto.ended (upto.clauses 𝓤 H A mem run) (κ, tt) (s, (m, (x, tt))) tt k)))) (id⊢ 𝓤 _) $
+        await ! tt $ pick ! (λ k.
+        split ! $ move ! (1 ∷ []) $ use1 W (raw (fact 𝓤 (Between (slotsOf ys) m x k k))) (upto-said m u₁ is₁ k) $
+        heard ! (Between (slotsOf ys) m x k k) (λ e₃. split ! $ move ! (1 ∷ []) $
         peeks ! usize (Is usize) (shows 𝓤 H A usize) k (u₃ ∷ []) (λ is₃.
         land ! (from ! (stop !)) (init ! 6 refl (uint-lawful 𝓤 H A W w64 .typed k _ is₃ .0)) $ drop ! $
         move ! (1 ∷ []) $ use1 W (‵ Own ⊛ ‵ Own) (shr-slice-copy 𝓤 H A W (named 0) κ R .twice s (v ∷ [])) $ split ! $ move ! (0 ∷ 2 ∷ []) $
         use2 W (raw (Last 𝓤 H A mem run .pre (to-last k u₃ is₃))) (goes-last k u₃ is₃ (le-trans (e₃ .high-le) within)) $
-        calls-at ! fm (Last 𝓤 H A mem run) known-last-of (to-last k u₃ is₃) (and-then ! (load ! (from ! (stop !)) (look ! 17 refl)) (and-then ! (load ! (from ! (stop !)) (look ! 5 refl)) (no-more !))) (λ u₄.
-        use1 W (later (some (λ (p : Point). (Token ⊛ ‵ (R .own p (u₄ ∷ []))) ⊛ raw (ensured 𝓤 H A last-of.ended (last-of.clauses 𝓤 H A mem run) (κ, tt) (s, (k, tt)) tt p)))) (id⊢ 𝓤 _) $ await ! tt $ pick ! (λ p.
+        calls-at ! fm (Last 𝓤 H A mem run) known-last-of (to-last k u₃ is₃)
+        (and-then ! (load ! (from ! (stop !)) (look ! 17 refl)) (and-then ! (load ! (from ! (stop !)) (look ! 5 refl)) (no-more !))) (λ u₄.
+        use1 W (later (some (λ (p : Point). (Token ⊛ ‵ (R .own p (u₄ ∷ [])))
+        ⊛ raw (ensured 𝓤 H A last-of.ended (last-of.clauses 𝓤 H A mem run) (κ, tt) (s, (k, tt)) tt p)))) (id⊢ 𝓤 _) $
+        await ! tt $ pick ! (λ p.
         split ! $ move ! (1 ∷ []) $ use1 W (raw (fact 𝓤 (p ≡ lastOf ys k))) (last-said k u₃ is₃ p) $ heard ! (p ≡ lastOf ys k) (λ e₄. split ! $ move ! (1 ∷ []) $
         peeks ! R (Is R) (shows 𝓤 H A R) p (u₄ ∷ []) (λ is₄.
         land ! (from ! (stop !)) (init ! 4 refl (LL.lawful T.the-type T′.the-laws 𝓤 H A W .typed p _ is₄ .0)) $ drop ! $
         nothing ! $ use1 W (raw (Finding 𝓤 H A mem run .pre (to-finding k u₃ is₃ good u₂ is₂ p u₄ is₄))) (goes-finding k u₃ is₃ good u₂ is₂ p u₄ is₄) $
-        calls-at ! fm (Finding 𝓤 H A mem run) known-finding (to-finding k u₃ is₃ good u₂ is₂ p u₄ is₄) (and-then ! (load ! (from ! (stop !)) (look ! 12 refl)) (and-then ! (load ! (from ! (stop !)) (look ! 16 refl)) (and-then ! (load ! (from ! (stop !)) (look ! 8 refl)) (and-then ! (load ! (from ! (stop !)) (look ! 6 refl)) (and-then ! (load ! (from ! (stop !)) (look ! 4 refl)) (no-more !)))))) (λ u₅.
-        use1 W (later (some (λ (r : Found). (‵ ftrue ⊛ ‵ (F.the-row .own r (u₅ ∷ []))) ⊛ raw (ensured 𝓤 H A finding.ended (finding.clauses 𝓤 H A mem run) tt (len, (n, (good, (k, (p, tt))))) tt r)))) (id⊢ 𝓤 _) $ await ! tt $ pick ! (λ r.
-        split ! $ move ! (1 ∷ []) $ use1 W (raw (fact 𝓤 (r ≡ foundOf len n good k p))) (finding-said k u₃ is₃ good u₂ is₂ p u₄ is₄ r) $ heard ! (r ≡ foundOf len n good k p) (λ e₅. split ! $ drop ! $
+        calls-at ! fm (Finding 𝓤 H A mem run) known-finding (to-finding k u₃ is₃ good u₂ is₂ p u₄ is₄)
+        (and-then ! (load ! (from ! (stop !)) (look ! 12 refl)) (and-then ! (load ! (from ! (stop !)) (look ! 16 refl))
+        (and-then ! (load ! (from ! (stop !)) (look ! 8 refl)) (and-then ! (load ! (from ! (stop !)) (look ! 6 refl))
+        (and-then ! (load ! (from ! (stop !)) (look ! 4 refl)) (no-more !)))))) (λ u₅.
+        use1 W (later (some (λ (r : Found). (‵ ftrue ⊛ ‵ (F.the-row .own r (u₅ ∷ [])))
+        ⊛ raw (ensured 𝓤 H A finding.ended (finding.clauses 𝓤 H A mem run) tt (len, (n, (good, (k, (p, tt))))) tt r)))) (id⊢ 𝓤 _) $
+        await ! tt $ pick ! (λ r.
+        split ! $ move ! (1 ∷ []) $ use1 W (raw (fact 𝓤 (r ≡ foundOf len n good k p))) (finding-said k u₃ is₃ good u₂ is₂ p u₄ is₄ r) $
+        heard ! (r ≡ foundOf len n good k p) (λ e₅. split ! $ drop ! $
         peeks ! F.the-row (Is F.the-row) (shows 𝓤 H A F.the-row) r (u₅ ∷ []) (λ is₅.
         land ! (from ! (stop !)) (init ! 20 refl (LL.lawful F.the-type F′.the-laws 𝓤 H A W .typed r _ is₅ .0)) $
-        returns ! (look ! 20 refl) $ forget ! 4 refl $ forget ! 6 refl $ forget ! 8 refl $ forget ! 10 refl $ forget ! 12 refl $ forget ! 14 refl $ forget ! 16 refl $ forget ! 18 refl $ forget ! 20 refl $
-        move ! (20 ∷ 21 ∷ []) $ free1 ! $ move ! (18 ∷ 19 ∷ []) $ free1 ! $ move ! (16 ∷ 17 ∷ []) $ free1 ! $ move ! (14 ∷ 15 ∷ []) $ free1 ! $ move ! (12 ∷ 13 ∷ []) $ free1 ! $ move ! (10 ∷ 11 ∷ []) $ free1 ! $ move ! (8 ∷ 9 ∷ []) $ free1 ! $ move ! (6 ∷ 7 ∷ []) $ free1 ! $ move ! (4 ∷ 5 ∷ []) $ free1 ! $ free0 ! $
+        returns ! (look ! 20 refl) $ forget ! 4 refl $ forget ! 6 refl $ forget ! 8 refl $ forget ! 10 refl $ forget ! 12 refl $ forget ! 14 refl $ forget ! 16 refl $
+        forget ! 18 refl $ forget ! 20 refl $
+        move ! (20 ∷ 21 ∷ []) $ free1 ! $ move ! (18 ∷ 19 ∷ []) $ free1 ! $ move ! (16 ∷ 17 ∷ []) $ free1 ! $ move ! (14 ∷ 15 ∷ []) $ free1 ! $ move ! (12 ∷ 13 ∷ []) $
+        free1 ! $ move ! (10 ∷ 11 ∷ []) $ free1 ! $ move ! (8 ∷ 9 ∷ []) $ free1 ! $ move ! (6 ∷ 7 ∷ []) $ free1 ! $ move ! (4 ∷ 5 ∷ []) $ free1 ! $ free0 ! $
         by ! (exits r u₅ (finds ys n x refl e₁ e₂ e₃ e₄ e₅)))))))))))))))))))))))))))))))
 
 module _ {M : Type 1} (𝓤 : URA M) (H : Heap 𝓤) (A : Atoms 𝓤) (W : Given 𝓤 H A) (mem : Memory → SProp 𝓤) (run : Routine → Fun 𝓤) where
-  find-walks : (C : Calls 𝓤 H) (Λ : Loops 𝓤 H) → FmC 𝓤 H (W .laws) C → Triple 𝓤 (C #log·decide·usable) (Usable 𝓤 H A mem run) → Triple 𝓤 (C #records·rises) (Rises 𝓤 H A mem run) → Triple 𝓤 (C #records·upto) (Upto 𝓤 H A mem run) → Triple 𝓤 (C #records·last-of) (Last 𝓤 H A mem run) → Triple 𝓤 (C #log·decide·finding) (Finding 𝓤 H A mem run)
+  find-walks : (C : Calls 𝓤 H) (Λ : Loops 𝓤 H) → FmC 𝓤 H (W .laws) C → Triple 𝓤 (C #log·decide·usable) (Usable 𝓤 H A mem run)
+      → Triple 𝓤 (C #records·rises) (Rises 𝓤 H A mem run) → Triple 𝓤 (C #records·upto) (Upto 𝓤 H A mem run) → Triple 𝓤 (C #records·last-of) (Last 𝓤 H A mem run)
+      → Triple 𝓤 (C #log·decide·finding) (Finding 𝓤 H A mem run)
       → Walks 𝓤 H A find.ended stayed (WpFn 𝓤 H C Λ code.function) (find.clauses 𝓤 H A mem run)
   find-walks C Λ fm known-usable known-rises known-upto known-last-of known-finding = walked 𝓤 H A find.ended stayed (find.clauses 𝓤 H A mem run) (WpFn 𝓤 H C Λ code.function)
       (λ κs. (slice-vals, (uint-vals w64, (uint-vals w64, tt)))) (λ κs. (shr-slice-tells (named 0) (κs .0) R, (uint-tells w64, (uint-tells w64, tt))))
       (λ κs qs bounds a g are. via 𝓤 _ (fst∗ 𝓤 _ (emp 𝓤))
-      (walk 𝓤 H A W mem run (κs .0) (qs .0) (a .0 .ptr .0) (a .0 .ptr .1) (a .0 .name) (a .0 .now) (a .1 .0) (a .1 .1 .0) (are .0 .0 .1) (are .1 .0 .1) (are .1 .1 .0 .1) C Λ fm known-usable known-rises known-upto known-last-of known-finding))
+      (walk 𝓤 H A W mem run (κs .0) (qs .0) (a .0 .ptr .0) (a .0 .ptr .1) (a .0 .name) (a .0 .now) (a .1 .0) (a .1 .1 .0)
+      (are .0 .0 .1) (are .1 .0 .1) (are .1 .1 .0 .1) C Λ fm known-usable known-rises known-upto known-last-of known-finding))
 
 find-meets : {M : Type 1} (𝓤 : URA M) (H : Heap 𝓤) (A : Atoms 𝓤) (W : Given 𝓤 H A) (mem : Memory → SProp 𝓤) (run : Routine → Fun 𝓤) (𝓣 : Tables 𝓤 H)
-    → Triple 𝓤 (𝓣 .C #log·decide·usable) (Usable 𝓤 H A mem run) → Triple 𝓤 (𝓣 .C #records·rises) (Rises 𝓤 H A mem run) → Triple 𝓤 (𝓣 .C #records·upto) (Upto 𝓤 H A mem run) → Triple 𝓤 (𝓣 .C #records·last-of) (Last 𝓤 H A mem run) → Triple 𝓤 (𝓣 .C #log·decide·finding) (Finding 𝓤 H A mem run)
+    → Triple 𝓤 (𝓣 .C #log·decide·usable) (Usable 𝓤 H A mem run) → Triple 𝓤 (𝓣 .C #records·rises) (Rises 𝓤 H A mem run)
+    → Triple 𝓤 (𝓣 .C #records·upto) (Upto 𝓤 H A mem run) → Triple 𝓤 (𝓣 .C #records·last-of) (Last 𝓤 H A mem run)
+    → Triple 𝓤 (𝓣 .C #log·decide·finding) (Finding 𝓤 H A mem run)
     → Meets 𝓤 H A find.signature (WpFn 𝓤 H (𝓣 .C) (𝓣 .Λ) code.function) (find.spec 𝓤 H A mem run)
 find-meets 𝓤 H A W mem run 𝓣 known-usable known-rises known-upto known-last-of known-finding =
-    walk-meets 𝓤 H A find.ended stayed W (goes-none-slice 𝓤 H A W 1 (0 ∷ []) tt (plain (λ _. R)) yes, (goes-none 𝓤 H A W 1 (λ _. usize) yes (λ κs x f. refl), (goes-none 𝓤 H A W 1 (λ _. u64) yes (λ κs x f. refl), tt))) (find.clauses 𝓤 H A mem run)
-    (WpFn 𝓤 H (𝓣 .C) (𝓣 .Λ) code.function) (WpFn-mono 𝓤 H (W .laws) 𝓣 code.function) (find-walks 𝓤 H A W mem run (𝓣 .C) (𝓣 .Λ) (fmOf 𝓤 H (W .laws) 𝓣) known-usable known-rises known-upto known-last-of known-finding)
+    walk-meets 𝓤 H A find.ended stayed W
+    (goes-none-slice 𝓤 H A W 1 (0 ∷ []) tt (plain (λ _. R)) yes, (goes-none 𝓤 H A W 1 (λ _. usize) yes (λ κs x f. refl), (goes-none 𝓤 H A W 1 (λ _. u64) yes (λ κs x f. refl), tt)))
+    (find.clauses 𝓤 H A mem run)
+    (WpFn 𝓤 H (𝓣 .C) (𝓣 .Λ) code.function) (WpFn-mono 𝓤 H (W .laws) 𝓣 code.function)
+    (find-walks 𝓤 H A W mem run (𝓣 .C) (𝓣 .Λ) (fmOf 𝓤 H (W .laws) 𝓣) known-usable known-rises known-upto known-last-of known-finding)
 
 pub find-spec : {M : Type 1} → stated.statement M
 unfolding code.routine tablesOf

@@ -72,7 +72,8 @@ module _ {M : Type 1} (𝓤 : URA M) (H : Heap 𝓤) (A : Atoms 𝓤) (mem : Mem
   abbrev Nowhere : Contract 𝓤
   Nowhere = tripleOf 𝓤 H A nowhere.signature (nowhere.spec 𝓤 H A mem run)
 
-module _ {M : Type 1} (𝓤 : URA M) (H : Heap 𝓤) (A : Atoms 𝓤) (W : Given 𝓤 H A) (mem : Memory → SProp 𝓤) (run : Routine → Fun 𝓤) (κ : Lft) (q : Share) (b o : ℕ) (γ : GName) (ys : List Point) (k : ℕ) (gn : Room R (length ys)) (gk : k < 2 ^ 64) (within : k ≤ length ys) where
+module _ {M : Type 1} (𝓤 : URA M) (H : Heap 𝓤) (A : Atoms 𝓤) (W : Given 𝓤 H A) (mem : Memory → SProp 𝓤) (run : Routine → Fun 𝓤) (κ : Lft) (q : Share) (b o : ℕ)
+    (γ : GName) (ys : List Point) (k : ℕ) (gn : Room R (length ys)) (gk : k < 2 ^ 64) (within : k ≤ length ys) where
   abbrev s : RefT (List Point)
   s = record { ptr = (b, o); name = γ; now = ys }
 
@@ -91,7 +92,8 @@ module _ {M : Type 1} (𝓤 : URA M) (H : Heap 𝓤) (A : Atoms 𝓤) (W : Given
   abbrev Numbers : Fml
   Numbers = fsep (usize .own k (vint w64 k ∷ [])) ftrue
 
-  exits : (r : Point) (v : Val) → r ≡ lastOf ys k → ent 𝓤 (⋆ 𝓤 H A (‵ (flft κ q) ∷ ‵ (ShrSlice (named 0) κ R .own s (at .0)) ∷ ‵ Numbers ∷ ‵ (R .own r (v ∷ [])) ∷ [])) (Post v)
+  exits : (r : Point) (v : Val) → r ≡ lastOf ys k
+      → ent 𝓤 (⋆ 𝓤 H A (‵ (flft κ q) ∷ ‵ (ShrSlice (named 0) κ R .own s (at .0)) ∷ ‵ Numbers ∷ ‵ (R .own r (v ∷ [])) ∷ [])) (Post v)
   exits r v f =
       qed W (‵ (flft κ q) ∷ ‵ (ShrSlice (named 0) κ R .own s (at .0)) ∷ ‵ Numbers ∷ ‵ (R .own r (v ∷ [])) ∷ []) ∵
       suffices ! _ (ends-at 𝓤 H A last′.ended stayed (last′.clauses 𝓤 H A mem run) W (((κ, tt), (q, tt), tt, a, at), tt) v r (tt, (tt, tt)) (tt, (tt, tt))) $ says ! f $
@@ -119,21 +121,26 @@ module _ {M : Type 1} (𝓤 : URA M) (H : Heap 𝓤) (A : Atoms 𝓤) (W : Given
       abbrev En : Env 𝓤 H
       En = (T′.mir, l₀) ∷ (slice, l₁) ∷ (word, l₂) ∷ (T′.mir, l₃) ∷ (tyBool, l₄) ∷ (word, l₅) ∷ (word, l₆) ∷ (tyPtr, l₇) ∷ (T′.mir, l₈) ∷ []
 
-      -- [the row; what p owns; p; room for the test, an index, an offset, a place and a record; run; k; room for the result; the open borrow; the fractured one; res; run's fact; k's; and that each local dies]
+      -- [the row; what p owns; p; room for the test, an index, an offset, a place and a record; run; k; room for the result; the open borrow; the fractured
+      -- one; res; run's fact; k's; and that each local dies]
       abbrev At : Point → Val → List (Item 𝓤)
       At r v = ‵ (row R q′ ys b o) ∷ ‵ (R .own r (v ∷ [])) ∷ ‵ (fat fullShare T′.mir l₃ 0 v)
           ∷ ‵ (froom tyBool l₄ 0) ∷ ‵ (froom word l₅ 0) ∷ ‵ (froom word l₆ 0) ∷ ‵ (froom tyPtr l₇ 0) ∷ ‵ (froom T′.mir l₈ 0)
           ∷ ‵ (fat fullShare slice l₁ 0 (sliceVal (b, o) (length ys))) ∷ ‵ (fat fullShare word l₂ 0 (vint w64 k)) ∷ ‵ (froom T′.mir l₀ 0)
-          ∷ ‵ (fobor κ q (arr-parts (shares R) (length ys) .part q′ ys b o)) ∷ ‵ (fshr-bor κ (λ z. arr-parts (shares R) (length ys) .part z ys b o)) ∷ ‵ (fres γ (codedHoleys R .code (heres R ys))) ∷ ‵ (at-slice R s (at .0)) ∷ ‵ Numbers
-          ∷ ‵ (fdies T′.mir l₀) ∷ ‵ (fdies slice l₁) ∷ ‵ (fdies word l₂) ∷ ‵ (fdies T′.mir l₃) ∷ ‵ (fdies tyBool l₄) ∷ ‵ (fdies word l₅) ∷ ‵ (fdies word l₆) ∷ ‵ (fdies tyPtr l₇) ∷ ‵ (fdies T′.mir l₈) ∷ []
+          ∷ ‵ (fobor κ q (arr-parts (shares R) (length ys) .part q′ ys b o)) ∷ ‵ (fshr-bor κ (λ z. arr-parts (shares R) (length ys) .part z ys b o))
+          ∷ ‵ (fres γ (codedHoleys R .code (heres R ys))) ∷ ‵ (at-slice R s (at .0)) ∷ ‵ Numbers
+          ∷ ‵ (fdies T′.mir l₀) ∷ ‵ (fdies slice l₁) ∷ ‵ (fdies word l₂) ∷ ‵ (fdies T′.mir l₃) ∷ ‵ (fdies tyBool l₄) ∷ ‵ (fdies word l₅) ∷ ‵ (fdies word l₆)
+          ∷ ‵ (fdies tyPtr l₇) ∷ ‵ (fdies T′.mir l₈) ∷ []
 
       from-4 : (r : Point) (v : Val) → Holds (hasTy T′.mir v) × WT v → r ≡ lastOf ys k → Sq W (At r v) (runs C Λ En mir.t-4 (atRet En Post))
       from-4 r v typed f =
           assigns ! (of-opd ! (load ! (from ! (stop !)) (look ! 2 refl))) (from ! (stop !)) (init ! 10 refl typed) $
           move ! (0 ∷ 11 ∷ []) $ shuts-slice ! tt R q′ ys b o $
-          -- [the token; what p owns; p; the test; an index; an offset; a place; a record; run; k; the result; the fractured borrow; res; run's fact; k's; and that each local dies]
+          -- [the token; what p owns; p; the test; an index; an offset; a place; a record; run; k; the result; the fractured borrow; res; run's fact; k's; and
+          -- that each local dies]
           returns ! (look ! 10 refl) $ forget ! 2 refl $ forget ! 8 refl $ forget ! 9 refl $ forget ! 10 refl $
-          move ! (10 ∷ 15 ∷ []) $ free1 ! $ move ! (8 ∷ 14 ∷ []) $ free1 ! $ move ! (8 ∷ 13 ∷ []) $ free1 ! $ move ! (2 ∷ 12 ∷ []) $ free1 ! $ move ! (2 ∷ 11 ∷ []) $ free1 ! $ move ! (2 ∷ 10 ∷ []) $ free1 ! $ move ! (2 ∷ 9 ∷ []) $ free1 ! $ move ! (2 ∷ 8 ∷ []) $ free1 ! $ move ! (2 ∷ 7 ∷ []) $ free1 ! $ free0 ! $
+          move ! (10 ∷ 15 ∷ []) $ free1 ! $ move ! (8 ∷ 14 ∷ []) $ free1 ! $ move ! (8 ∷ 13 ∷ []) $ free1 ! $ move ! (2 ∷ 12 ∷ []) $ free1 ! $ move ! (2 ∷ 11 ∷ []) $
+          free1 ! $ move ! (2 ∷ 10 ∷ []) $ free1 ! $ move ! (2 ∷ 9 ∷ []) $ free1 ! $ move ! (2 ∷ 8 ∷ []) $ free1 ! $ move ! (2 ∷ 7 ∷ []) $ free1 ! $ free0 ! $
           move ! (3 ∷ 2 ∷ []) $ fjoin ! $ move ! (3 ∷ 0 ∷ []) $ fjoin ! $ keep ! (1 ∷ 0 ∷ 3 ∷ 2 ∷ []) $ by ! (exits r v f)
 
       from-2 : (r : Point) (v : Val) → Holds (hasTy T′.mir v) × WT v → r ≡ empty → Sq W (At r v) (runs C Λ En mir.t-2 (atRet En Post))
@@ -162,11 +169,14 @@ module _ {M : Type 1} (𝓤 : URA M) (H : Heap 𝓤) (A : Atoms 𝓤) (W : Given
     walk : ent 𝓤 (onEntry 𝓤 H A last′.signature (κ, tt) (q, tt) a at) (WpFn 𝓤 H C Λ code.function (sliceVal (b, o) (length ys) ∷ vint w64 k ∷ []) Post)
     walk =
         qed W ((‵ (flft κ q) ⊛ ‵ ftrue) ∷ ‵ (owns (ShrSlice (named 0) κ R ∷ usize ∷ []) a at) ∷ []) ∵ enter ! C Λ code.function (sliceVal (b, o) (length ys) ∷ vint w64 k ∷ []) _ $
-        alloc1 ! (λ l₀. alloc1 ! (λ l₁. alloc1 ! (λ l₂. alloc1 ! (λ l₃. alloc1 ! (λ l₄. alloc1 ! (λ l₅. alloc1 ! (λ l₆. alloc1 ! (λ l₇. alloc1 ! (λ l₈. alloc0 ! $ params1 ! $
+        alloc1 ! (λ l₀. alloc1 ! (λ l₁. alloc1 ! (λ l₂. alloc1 ! (λ l₃. alloc1 ! (λ l₄. alloc1 ! (λ l₅. alloc1 ! (λ l₆. alloc1 ! (λ l₇. alloc1 ! (λ l₈. alloc0 ! $
+        params1 ! $
         pass1 ! (init ! 14 refl (tt, (tt, (record { fits = gn .0 }, tt)))) $ pass1 ! (init ! 12 refl (tt, record { fits = gk })) $ pass0 ! $
         nothing ! $ use1 W (raw (Nowhere 𝓤 H A mem run .pre to-nowhere)) goes-nowhere $
         calls-at ! fm (Nowhere 𝓤 H A mem run) known to-nowhere (no-more !) (λ u.
-        use1 W (later (some (λ (p : Point). (‵ ftrue ⊛ ‵ (R .own p (u ∷ []))) ⊛ raw (ensured 𝓤 H A nowhere.ended (nowhere.clauses 𝓤 H A mem run) tt tt tt p)))) (id⊢ 𝓤 _) $ await ! tt $ pick ! (λ p.
+        use1 W (later (some (λ (p : Point). (‵ ftrue ⊛ ‵ (R .own p (u ∷ [])))
+        ⊛ raw (ensured 𝓤 H A nowhere.ended (nowhere.clauses 𝓤 H A mem run) tt tt tt p)))) (id⊢ 𝓤 _) $
+        await ! tt $ pick ! (λ p.
         split ! $ move ! (1 ∷ []) $ use1 W (raw (fact 𝓤 (p ≡ empty))) (nowhere-said p) $ heard ! (p ≡ empty) (λ e. split ! $ drop ! $
         peeks ! R (Is R) (shows 𝓤 H A R) p (u ∷ []) (λ is₁. let typed = LL.lawful T.the-type T′.the-laws 𝓤 H A W .typed p _ is₁ .0 in
         land ! (from ! (stop !)) (init ! 11 refl typed) $
@@ -177,7 +187,8 @@ module _ {M : Type 1} (𝓤 : URA M) (H : Heap 𝓤) (A : Atoms 𝓤) (W : Given
         from-2 q′ l₀ l₁ l₂ l₃ l₄ l₅ l₆ l₇ l₈ p u typed e))))))))))))))
 
 module _ {M : Type 1} (𝓤 : URA M) (H : Heap 𝓤) (A : Atoms 𝓤) (W : Given 𝓤 H A) (mem : Memory → SProp 𝓤) (run : Routine → Fun 𝓤) where
-  last-walks : (C : Calls 𝓤 H) (Λ : Loops 𝓤 H) → FmC 𝓤 H (W .laws) C → Triple 𝓤 (C #log·nowhere) (Nowhere 𝓤 H A mem run) → Walks 𝓤 H A last′.ended stayed (WpFn 𝓤 H C Λ code.function) (last′.clauses 𝓤 H A mem run)
+  last-walks : (C : Calls 𝓤 H) (Λ : Loops 𝓤 H) → FmC 𝓤 H (W .laws) C → Triple 𝓤 (C #log·nowhere) (Nowhere 𝓤 H A mem run)
+      → Walks 𝓤 H A last′.ended stayed (WpFn 𝓤 H C Λ code.function) (last′.clauses 𝓤 H A mem run)
   last-walks C Λ fm known = walked 𝓤 H A last′.ended stayed (last′.clauses 𝓤 H A mem run) (WpFn 𝓤 H C Λ code.function)
       (λ κs. (slice-vals, (uint-vals w64, tt))) (λ κs. (shr-slice-tells (named 0) (κs .0) R, (uint-tells w64, tt)))
       (λ κs qs bounds a g are. needs 𝓤 (a .1 .0 ≤ length (a .0 .now)) _
@@ -186,7 +197,8 @@ module _ {M : Type 1} (𝓤 : URA M) (H : Heap 𝓤) (A : Atoms 𝓤) (W : Given
 last-meets : {M : Type 1} (𝓤 : URA M) (H : Heap 𝓤) (A : Atoms 𝓤) (W : Given 𝓤 H A) (mem : Memory → SProp 𝓤) (run : Routine → Fun 𝓤) (𝓣 : Tables 𝓤 H)
     → Triple 𝓤 (𝓣 .C #log·nowhere) (Nowhere 𝓤 H A mem run) → Meets 𝓤 H A last′.signature (WpFn 𝓤 H (𝓣 .C) (𝓣 .Λ) code.function) (last′.spec 𝓤 H A mem run)
 last-meets 𝓤 H A W mem run 𝓣 known =
-    walk-meets 𝓤 H A last′.ended stayed W (goes-none-slice 𝓤 H A W 1 (0 ∷ []) tt (plain (λ _. R)) yes, (goes-none 𝓤 H A W 1 (λ _. usize) yes (λ κs x f. refl), tt)) (last′.clauses 𝓤 H A mem run)
+    walk-meets 𝓤 H A last′.ended stayed W (goes-none-slice 𝓤 H A W 1 (0 ∷ []) tt (plain (λ _. R)) yes, (goes-none 𝓤 H A W 1 (λ _. usize) yes (λ κs x f. refl), tt))
+    (last′.clauses 𝓤 H A mem run)
     (WpFn 𝓤 H (𝓣 .C) (𝓣 .Λ) code.function) (WpFn-mono 𝓤 H (W .laws) 𝓣 code.function) (last-walks 𝓤 H A W mem run (𝓣 .C) (𝓣 .Λ) (fmOf 𝓤 H (W .laws) 𝓣) known)
 
 pub last-of-spec : {M : Type 1} → stated.statement M

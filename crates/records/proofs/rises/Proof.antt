@@ -113,7 +113,8 @@ module _ (ys : List Point) (n : ℕ) where
     next-fits : Fits w64 (t .i + 1)
     next-fits = record { fits = omega arith }
 
-module _ {M : Type 1} (𝓤 : URA M) (H : Heap 𝓤) (A : Atoms 𝓤) (W : Given 𝓤 H A) (mem : Memory → SProp 𝓤) (run : Routine → Fun 𝓤) (κ : Lft) (q : Share) (b o : ℕ) (γ : GName) (ys : List Point) (n : ℕ) where
+module _ {M : Type 1} (𝓤 : URA M) (H : Heap 𝓤) (A : Atoms 𝓤) (W : Given 𝓤 H A) (mem : Memory → SProp 𝓤) (run : Routine → Fun 𝓤) (κ : Lft) (q : Share) (b o : ℕ)
+    (γ : GName) (ys : List Point) (n : ℕ) where
   abbrev s : RefT (List Point)
   s = record { ptr = (b, o); name = γ; now = ys }
 
@@ -135,7 +136,8 @@ module _ {M : Type 1} (𝓤 : URA M) (H : Heap 𝓤) (A : Atoms 𝓤) (W : Given
   exits : (r : Bool) → r ≡ risesTo (slotsOf ys) n → ent 𝓤 (⋆ 𝓤 H A (‵ (flft κ q) ∷ ‵ (ShrSlice (named 0) κ R .own s (at .0)) ∷ ‵ Numbers ∷ [])) (Post (vbool r))
   exits r f =
       qed W (‵ (flft κ q) ∷ ‵ (ShrSlice (named 0) κ R .own s (at .0)) ∷ ‵ Numbers ∷ []) ∵
-      suffices ! _ (ends-at 𝓤 H A rises′.ended stayed (rises′.clauses 𝓤 H A mem run) W (((κ, tt), (q, tt), tt, a, at), tt) (vbool r) r (tt, (tt, tt)) (tt, (tt, tt))) $ says ! f $
+      suffices ! _ (ends-at 𝓤 H A rises′.ended stayed (rises′.clauses 𝓤 H A mem run) W (((κ, tt), (q, tt), tt, a, at), tt) (vbool r) r (tt, (tt, tt)) (tt, (tt, tt))) $
+      says ! f $
       nothing ! $ move ! (1 ∷ 0 ∷ []) $ join ! $ move ! (1 ∷ 2 ∷ []) $ fjoin ! $ move ! (1 ∷ 0 ∷ []) $
       frame ! $ frame ! $ feqI ! (List Val) (vbool r ∷ []) (vbool r ∷ []) refl $ done !
 
@@ -147,15 +149,19 @@ module _ {M : Type 1} (𝓤 : URA M) (H : Heap 𝓤) (A : Atoms 𝓤) (W : Given
     Λ = 𝓣 .Λ
 
     abbrev En : Env 𝓤 H
-    En = (tyBool, l₀) ∷ (slice, l₁) ∷ (word, l₂) ∷ (tyBool, l₃) ∷ (word, l₄) ∷ (word, l₅) ∷ (word, l₆) ∷ (tyBool, l₇) ∷ (word, l₈) ∷ (word, l₉) ∷ (tyPtr, l₁₀) ∷ (tyPtr, l₁₁) ∷ []
+    En = (tyBool, l₀) ∷ (slice, l₁) ∷ (word, l₂) ∷ (tyBool, l₃) ∷ (word, l₄) ∷ (word, l₅) ∷ (word, l₆) ∷ (tyBool, l₇) ∷ (word, l₈) ∷ (word, l₉) ∷ (tyPtr, l₁₀)
+        ∷ (tyPtr, l₁₁) ∷ []
 
-    -- [the row; good; i; room for two slots, the test, an index, two offsets and two places; run; n; room for the result; the open borrow; the fractured one; res; run's fact; n's; and that each local dies]
+    -- [the row; good; i; room for two slots, the test, an index, two offsets and two places; run; n; room for the result; the open borrow; the fractured one;
+    -- res; run's fact; n's; and that each local dies]
     abbrev Inv : Turn ys n → List (Item 𝓤)
     Inv t = ‵ (row R q′ ys b o) ∷ ‵ (fat fullShare tyBool l₃ 0 (vbool (t .good))) ∷ ‵ (fat fullShare word l₄ 0 (vint w64 (t .i)))
         ∷ ‵ (froom word l₅ 0) ∷ ‵ (froom word l₆ 0) ∷ ‵ (froom tyBool l₇ 0) ∷ ‵ (froom word l₈ 0) ∷ ‵ (froom word l₉ 0) ∷ ‵ (froom tyPtr l₁₀ 0) ∷ ‵ (froom tyPtr l₁₁ 0)
         ∷ ‵ (fat fullShare slice l₁ 0 (sliceVal (b, o) (length ys))) ∷ ‵ (fat fullShare word l₂ 0 (vint w64 n)) ∷ ‵ (froom tyBool l₀ 0)
-        ∷ ‵ (fobor κ q (arr-parts (shares R) (length ys) .part q′ ys b o)) ∷ ‵ (fshr-bor κ (λ z. arr-parts (shares R) (length ys) .part z ys b o)) ∷ ‵ (fres γ (codedHoleys R .code (heres R ys))) ∷ ‵ (at-slice R s (at .0)) ∷ ‵ Numbers
-        ∷ ‵ (fdies tyBool l₀) ∷ ‵ (fdies slice l₁) ∷ ‵ (fdies word l₂) ∷ ‵ (fdies tyBool l₃) ∷ ‵ (fdies word l₄) ∷ ‵ (fdies word l₅) ∷ ‵ (fdies word l₆) ∷ ‵ (fdies tyBool l₇) ∷ ‵ (fdies word l₈) ∷ ‵ (fdies word l₉) ∷ ‵ (fdies tyPtr l₁₀) ∷ ‵ (fdies tyPtr l₁₁) ∷ []
+        ∷ ‵ (fobor κ q (arr-parts (shares R) (length ys) .part q′ ys b o)) ∷ ‵ (fshr-bor κ (λ z. arr-parts (shares R) (length ys) .part z ys b o))
+        ∷ ‵ (fres γ (codedHoleys R .code (heres R ys))) ∷ ‵ (at-slice R s (at .0)) ∷ ‵ Numbers
+        ∷ ‵ (fdies tyBool l₀) ∷ ‵ (fdies slice l₁) ∷ ‵ (fdies word l₂) ∷ ‵ (fdies tyBool l₃) ∷ ‵ (fdies word l₄) ∷ ‵ (fdies word l₅) ∷ ‵ (fdies word l₆)
+        ∷ ‵ (fdies tyBool l₇) ∷ ‵ (fdies word l₈) ∷ ‵ (fdies word l₉) ∷ ‵ (fdies tyPtr l₁₀) ∷ ‵ (fdies tyPtr l₁₁) ∷ []
 
     -- when the loop is left, the rest of the body runs
     abbrev Left : Out → SProp 𝓤
@@ -202,9 +208,12 @@ module _ {M : Type 1} (𝓤 : URA M) (H : Heap 𝓤) (A : Atoms 𝓤) (W : Given
         leaves-loop ! (load ! (from ! (stop !)) (look ! 5 refl)) $ exec ! C Λ En mir.t-4 (atRet En Post) $
         assigns ! (of-opd ! (load ! (from ! (stop !)) (look ! 1 refl))) (from ! (stop !)) (init ! 12 refl (tt, tt)) $
         move ! (0 ∷ 13 ∷ []) $ shuts-slice ! tt R q′ ys b o $
-        -- [the token; good; i; two slots; the test; an index; two offsets and two places; run; n; the result; the fractured borrow; res; run's fact; n's; and that each local dies]
+        -- [the token; good; i; two slots; the test; an index; two offsets and two places; run; n; the result; the fractured borrow; res; run's fact; n's; and
+        -- that each local dies]
         returns ! (look ! 12 refl) $ forget ! 1 refl $ forget ! 2 refl $ forget ! 5 refl $ forget ! 10 refl $ forget ! 11 refl $ forget ! 12 refl $
-        move ! (12 ∷ 17 ∷ []) $ free1 ! $ move ! (10 ∷ 16 ∷ []) $ free1 ! $ move ! (10 ∷ 15 ∷ []) $ free1 ! $ move ! (1 ∷ 14 ∷ []) $ free1 ! $ move ! (1 ∷ 13 ∷ []) $ free1 ! $ move ! (1 ∷ 12 ∷ []) $ free1 ! $ move ! (1 ∷ 11 ∷ []) $ free1 ! $ move ! (1 ∷ 10 ∷ []) $ free1 ! $ move ! (1 ∷ 9 ∷ []) $ free1 ! $ move ! (1 ∷ 8 ∷ []) $ free1 ! $ move ! (1 ∷ 7 ∷ []) $ free1 ! $ move ! (1 ∷ 6 ∷ []) $ free1 ! $ free0 ! $
+        move ! (12 ∷ 17 ∷ []) $ free1 ! $ move ! (10 ∷ 16 ∷ []) $ free1 ! $ move ! (10 ∷ 15 ∷ []) $ free1 ! $ move ! (1 ∷ 14 ∷ []) $ free1 ! $ move ! (1 ∷ 13 ∷ []) $
+        free1 ! $ move ! (1 ∷ 12 ∷ []) $ free1 ! $ move ! (1 ∷ 11 ∷ []) $ free1 ! $ move ! (1 ∷ 10 ∷ []) $ free1 ! $ move ! (1 ∷ 9 ∷ []) $ free1 ! $
+        move ! (1 ∷ 8 ∷ []) $ free1 ! $ move ! (1 ∷ 7 ∷ []) $ free1 ! $ move ! (1 ∷ 6 ∷ []) $ free1 ! $ free0 ! $
         move ! (2 ∷ 1 ∷ []) $ fjoin ! $ move ! (2 ∷ 0 ∷ []) $ fjoin ! $ keep ! (1 ∷ 0 ∷ 2 ∷ []) $
         by ! (exits (t .good) (t .told ∙ rises-end (slotsOf ys) n (t .i) (t .some) (t .inside) met))
 
@@ -215,11 +224,14 @@ module _ {M : Type 1} (𝓤 : URA M) (H : Heap 𝓤) (A : Atoms 𝓤) (W : Given
         by-test true e = more t (ltb-true _ _ e)
         by-test false e = ends t (ltb-false _ _ e)
 
-  walk : (𝓣 : Tables 𝓤 H) → Room R (length ys) → n < 2 ^ 64 → n ≤ length ys → ent 𝓤 (onEntry 𝓤 H A rises′.signature (κ, tt) (q, tt) a at) (WpFn 𝓤 H (𝓣 .C) (𝓣 .Λ) code.function (sliceVal (b, o) (length ys) ∷ vint w64 n ∷ []) Post)
+  walk : (𝓣 : Tables 𝓤 H) → Room R (length ys) → n < 2 ^ 64 → n ≤ length ys
+      → ent 𝓤 (onEntry 𝓤 H A rises′.signature (κ, tt) (q, tt) a at) (WpFn 𝓤 H (𝓣 .C) (𝓣 .Λ) code.function (sliceVal (b, o) (length ys) ∷ vint w64 n ∷ []) Post)
   unfolding begin
   walk 𝓣 gn gi within =
       qed W ((‵ (flft κ q) ⊛ ‵ ftrue) ∷ ‵ (owns (ShrSlice (named 0) κ R ∷ usize ∷ []) a at) ∷ []) ∵ enter ! (𝓣 .C) (𝓣 .Λ) code.function (sliceVal (b, o) (length ys) ∷ vint w64 n ∷ []) _ $
-      alloc1 ! (λ l₀. alloc1 ! (λ l₁. alloc1 ! (λ l₂. alloc1 ! (λ l₃. alloc1 ! (λ l₄. alloc1 ! (λ l₅. alloc1 ! (λ l₆. alloc1 ! (λ l₇. alloc1 ! (λ l₈. alloc1 ! (λ l₉. alloc1 ! (λ l₁₀. alloc1 ! (λ l₁₁. alloc0 ! $ params1 ! $
+      alloc1 ! (λ l₀. alloc1 ! (λ l₁. alloc1 ! (λ l₂. alloc1 ! (λ l₃. alloc1 ! (λ l₄. alloc1 ! (λ l₅. alloc1 ! (λ l₆. alloc1 ! (λ l₇. alloc1 ! (λ l₈. alloc1 ! (λ l₉.
+      alloc1 ! (λ l₁₀. alloc1 ! (λ l₁₁. alloc0 ! $
+      params1 ! $
       pass1 ! (init ! 20 refl (tt, (tt, (record { fits = gn .0 }, tt)))) $ pass1 ! (init ! 18 refl (tt, record { fits = gi })) $ pass0 ! $
       assigns ! (of-opd ! (true-lit !)) (from ! (stop !)) (init ! 16 refl (tt, tt)) $
       assigns ! (of-opd ! (lit ! tt)) (from ! (stop !)) (init ! 14 refl (tt, record { fits = lit< tt })) $
@@ -227,7 +239,8 @@ module _ {M : Type 1} (𝓤 : URA M) (H : Heap 𝓤) (A : Atoms 𝓤) (W : Given
       looks-slice ! tt R (Is R) (shows 𝓤 H A R) vals (LL.tells T.the-type T′.the-laws) (LL.copy T.the-type T′.the-copy 𝓤 H A W) ys b o (λ q′.
       -- [the row; the open borrow; the fractured one; true; res; run's fact; n's; _11; …; _10; …; and so on to _0; …]
       keep ! (0 ∷ 23 ∷ 21 ∷ 19 ∷ 17 ∷ 15 ∷ 13 ∷ 11 ∷ 9 ∷ 7 ∷ 27 ∷ 25 ∷ 29 ∷ 1 ∷ 2 ∷ 4 ∷ 5 ∷ 6 ∷ 30 ∷ 28 ∷ 26 ∷ 24 ∷ 22 ∷ 20 ∷ 18 ∷ 16 ∷ 14 ∷ 12 ∷ 10 ∷ 8 ∷ []) $
-      first ! $ blocks ! $ loops ! 𝓣 (Less ys n) (less-wf ys n) (Inv 𝓣 gn within q′ l₀ l₁ l₂ l₃ l₄ l₅ l₆ l₇ l₈ l₉ l₁₀ l₁₁) (turns 𝓣 gn within q′ l₀ l₁ l₂ l₃ l₄ l₅ l₆ l₇ l₈ l₉ l₁₀ l₁₁) (begin ys n))))))))))))))
+      first ! $ blocks ! $
+      loops ! 𝓣 (Less ys n) (less-wf ys n) (Inv 𝓣 gn within q′ l₀ l₁ l₂ l₃ l₄ l₅ l₆ l₇ l₈ l₉ l₁₀ l₁₁) (turns 𝓣 gn within q′ l₀ l₁ l₂ l₃ l₄ l₅ l₆ l₇ l₈ l₉ l₁₀ l₁₁) (begin ys n))))))))))))))
 
 module _ {M : Type 1} (𝓤 : URA M) (H : Heap 𝓤) (A : Atoms 𝓤) (W : Given 𝓤 H A) (mem : Memory → SProp 𝓤) (run : Routine → Fun 𝓤) where
   rises-walks : (𝓣 : Tables 𝓤 H) → Walks 𝓤 H A rises′.ended stayed (WpFn 𝓤 H (𝓣 .C) (𝓣 .Λ) code.function) (rises′.clauses 𝓤 H A mem run)
@@ -239,7 +252,8 @@ module _ {M : Type 1} (𝓤 : URA M) (H : Heap 𝓤) (A : Atoms 𝓤) (W : Given
 rises-meets : {M : Type 1} (𝓤 : URA M) (H : Heap 𝓤) (A : Atoms 𝓤) → Given 𝓤 H A → (mem : Memory → SProp 𝓤) (run : Routine → Fun 𝓤) (𝓣 : Tables 𝓤 H)
     → Meets 𝓤 H A rises′.signature (WpFn 𝓤 H (𝓣 .C) (𝓣 .Λ) code.function) (rises′.spec 𝓤 H A mem run)
 rises-meets 𝓤 H A W mem run 𝓣 =
-    walk-meets 𝓤 H A rises′.ended stayed W (goes-none-slice 𝓤 H A W 1 (0 ∷ []) tt (plain (λ _. R)) yes, (goes-none 𝓤 H A W 1 (λ _. usize) yes (λ κs x f. refl), tt)) (rises′.clauses 𝓤 H A mem run)
+    walk-meets 𝓤 H A rises′.ended stayed W (goes-none-slice 𝓤 H A W 1 (0 ∷ []) tt (plain (λ _. R)) yes, (goes-none 𝓤 H A W 1 (λ _. usize) yes (λ κs x f. refl), tt))
+    (rises′.clauses 𝓤 H A mem run)
     (WpFn 𝓤 H (𝓣 .C) (𝓣 .Λ) code.function) (WpFn-mono 𝓤 H (W .laws) 𝓣 code.function) (rises-walks 𝓤 H A W mem run 𝓣)
 
 pub rises-spec : {M : Type 1} → stated.statement M

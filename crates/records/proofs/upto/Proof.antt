@@ -117,7 +117,8 @@ module _ (ys : List Point) (n x : ℕ) where
     down-less : (l : x < getD ys (mid t) empty .slot) → Less (down l) t
     down-less l = fewer (t .hi - t .lo) (mid t - t .lo) (omega arith) (let q = hi-in in omega arith) (omega arith)
 
-module _ {M : Type 1} (𝓤 : URA M) (H : Heap 𝓤) (A : Atoms 𝓤) (W : Given 𝓤 H A) (mem : Memory → SProp 𝓤) (run : Routine → Fun 𝓤) (κ : Lft) (q : Share) (b o : ℕ) (γ : GName) (ys : List Point) (n x : ℕ) where
+module _ {M : Type 1} (𝓤 : URA M) (H : Heap 𝓤) (A : Atoms 𝓤) (W : Given 𝓤 H A) (mem : Memory → SProp 𝓤) (run : Routine → Fun 𝓤) (κ : Lft) (q : Share) (b o : ℕ)
+    (γ : GName) (ys : List Point) (n x : ℕ) where
   abbrev s : RefT (List Point)
   s = record { ptr = (b, o); name = γ; now = ys }
 
@@ -136,10 +137,12 @@ module _ {M : Type 1} (𝓤 : URA M) (H : Heap 𝓤) (A : Atoms 𝓤) (W : Given
   abbrev Numbers : Fml
   Numbers = fsep (usize .own n (vint w64 n ∷ [])) (fsep (u64 .own x (vint w64 x ∷ [])) ftrue)
 
-  exits : (r : ℕ) → r < 2 ^ 64 → Between (slotsOf ys) n x r r → ent 𝓤 (⋆ 𝓤 H A (‵ (flft κ q) ∷ ‵ (ShrSlice (named 0) κ R .own s (at .0)) ∷ ‵ Numbers ∷ [])) (Post (vint w64 r))
+  exits : (r : ℕ) → r < 2 ^ 64 → Between (slotsOf ys) n x r r
+      → ent 𝓤 (⋆ 𝓤 H A (‵ (flft κ q) ∷ ‵ (ShrSlice (named 0) κ R .own s (at .0)) ∷ ‵ Numbers ∷ [])) (Post (vint w64 r))
   exits r g f =
       qed W (‵ (flft κ q) ∷ ‵ (ShrSlice (named 0) κ R .own s (at .0)) ∷ ‵ Numbers ∷ []) ∵
-      suffices ! _ (ends-at 𝓤 H A upto′.ended stayed (upto′.clauses 𝓤 H A mem run) W (((κ, tt), (q, tt), tt, a, at), tt) (vint w64 r) r (tt, (tt, (tt, tt))) (tt, (tt, (tt, tt)))) $ says ! f $
+      suffices ! _ (ends-at 𝓤 H A upto′.ended stayed (upto′.clauses 𝓤 H A mem run) W (((κ, tt), (q, tt), tt, a, at), tt) (vint w64 r) r (tt, (tt, (tt, tt))) (tt, (tt, (tt, tt)))) $
+      says ! f $
       nothing ! $ move ! (1 ∷ 0 ∷ []) $ join ! $ move ! (1 ∷ 2 ∷ []) $ fjoin ! $ move ! (1 ∷ 0 ∷ []) $
       frame ! $ frame ! $ fltI ! r (2 ^ 64) g $ feqI ! (List Val) (vint w64 r ∷ []) (vint w64 r ∷ []) refl $ done !
 
@@ -153,13 +156,17 @@ module _ {M : Type 1} (𝓤 : URA M) (H : Heap 𝓤) (A : Atoms 𝓤) (W : Given
     abbrev En : Env 𝓤 H
     En = (word, l₀) ∷ (slice, l₁) ∷ (word, l₂) ∷ (word, l₃) ∷ (word, l₄) ∷ (word, l₅) ∷ (word, l₆) ∷ (tyBool, l₇) ∷ (word, l₈) ∷ (tyPtr, l₉) ∷ (word, l₁₀) ∷ []
 
-    -- [the row; lo; hi; room for mid, the test, the sum and offset, the place, the slot; run; count; slot; room for the result; the open borrow; the fractured one; res; run's fact; the numbers'; and that each local dies]
+    -- [the row; lo; hi; room for mid, the test, the sum and offset, the place, the slot; run; count; slot; room for the result; the open borrow; the
+    -- fractured one; res; run's fact; the numbers'; and that each local dies]
     abbrev Inv : Turn ys n x → List (Item 𝓤)
     Inv t = ‵ (row R q′ ys b o) ∷ ‵ (fat fullShare word l₄ 0 (vint w64 (t .lo))) ∷ ‵ (fat fullShare word l₅ 0 (vint w64 (t .hi)))
         ∷ ‵ (froom word l₆ 0) ∷ ‵ (froom tyBool l₇ 0) ∷ ‵ (froom word l₈ 0) ∷ ‵ (froom tyPtr l₉ 0) ∷ ‵ (froom word l₁₀ 0)
-        ∷ ‵ (fat fullShare slice l₁ 0 (sliceVal (b, o) (length ys))) ∷ ‵ (fat fullShare word l₂ 0 (vint w64 n)) ∷ ‵ (fat fullShare word l₃ 0 (vint w64 x)) ∷ ‵ (froom word l₀ 0)
-        ∷ ‵ (fobor κ q (arr-parts (shares R) (length ys) .part q′ ys b o)) ∷ ‵ (fshr-bor κ (λ z. arr-parts (shares R) (length ys) .part z ys b o)) ∷ ‵ (fres γ (codedHoleys R .code (heres R ys))) ∷ ‵ (at-slice R s (at .0)) ∷ ‵ Numbers
-        ∷ ‵ (fdies word l₀) ∷ ‵ (fdies slice l₁) ∷ ‵ (fdies word l₂) ∷ ‵ (fdies word l₃) ∷ ‵ (fdies word l₄) ∷ ‵ (fdies word l₅) ∷ ‵ (fdies word l₆) ∷ ‵ (fdies tyBool l₇) ∷ ‵ (fdies word l₈) ∷ ‵ (fdies tyPtr l₉) ∷ ‵ (fdies word l₁₀) ∷ []
+        ∷ ‵ (fat fullShare slice l₁ 0 (sliceVal (b, o) (length ys))) ∷ ‵ (fat fullShare word l₂ 0 (vint w64 n)) ∷ ‵ (fat fullShare word l₃ 0 (vint w64 x))
+        ∷ ‵ (froom word l₀ 0)
+        ∷ ‵ (fobor κ q (arr-parts (shares R) (length ys) .part q′ ys b o)) ∷ ‵ (fshr-bor κ (λ z. arr-parts (shares R) (length ys) .part z ys b o))
+        ∷ ‵ (fres γ (codedHoleys R .code (heres R ys))) ∷ ‵ (at-slice R s (at .0)) ∷ ‵ Numbers
+        ∷ ‵ (fdies word l₀) ∷ ‵ (fdies slice l₁) ∷ ‵ (fdies word l₂) ∷ ‵ (fdies word l₃) ∷ ‵ (fdies word l₄) ∷ ‵ (fdies word l₅) ∷ ‵ (fdies word l₆)
+        ∷ ‵ (fdies tyBool l₇) ∷ ‵ (fdies word l₈) ∷ ‵ (fdies tyPtr l₉) ∷ ‵ (fdies word l₁₀) ∷ []
 
     -- when the loop is left, the rest of the body runs
     abbrev Left : Out → SProp 𝓤
@@ -200,10 +207,13 @@ module _ {M : Type 1} (𝓤 : URA M) (H : Heap 𝓤) (A : Atoms 𝓤) (W : Given
         leaves-loop ! (load ! (from ! (stop !)) (look ! 4 refl)) $ exec ! C Λ En mir.t-4 (atRet En Post) $
         assigns ! (of-opd ! (load ! (from ! (stop !)) (look ! 1 refl))) (from ! (stop !)) (init ! 11 refl (tt, record { fits = lo-fits })) $
         move ! (0 ∷ 12 ∷ []) $ shuts-slice ! tt R q′ ys b o $
-        -- [the token; lo; hi; mid; the test; the sum; the place; the slot; run; count; slot; the result; the fractured borrow; res; run's fact; the numbers'; and that each local dies]
+        -- [the token; lo; hi; mid; the test; the sum; the place; the slot; run; count; slot; the result; the fractured borrow; res; run's fact; the numbers';
+        -- and that each local dies]
         returns ! (look ! 11 refl) $ forget ! 1 refl $ forget ! 2 refl $ forget ! 4 refl $ forget ! 8 refl $ forget ! 9 refl $ forget ! 10 refl $ forget ! 11 refl $
-        move ! (11 ∷ 16 ∷ []) $ free1 ! $ move ! (8 ∷ 15 ∷ []) $ free1 ! $ move ! (8 ∷ 14 ∷ []) $ free1 ! $ move ! (8 ∷ 13 ∷ []) $ free1 ! $ move ! (1 ∷ 12 ∷ []) $ free1 ! $ move ! (1 ∷ 11 ∷ []) $ free1 ! $
-        move ! (1 ∷ 10 ∷ []) $ free1 ! $ move ! (1 ∷ 9 ∷ []) $ free1 ! $ move ! (1 ∷ 8 ∷ []) $ free1 ! $ move ! (1 ∷ 7 ∷ []) $ free1 ! $ move ! (1 ∷ 6 ∷ []) $ free1 ! $ free0 ! $
+        move ! (11 ∷ 16 ∷ []) $ free1 ! $ move ! (8 ∷ 15 ∷ []) $ free1 ! $ move ! (8 ∷ 14 ∷ []) $ free1 ! $ move ! (8 ∷ 13 ∷ []) $ free1 ! $ move ! (1 ∷ 12 ∷ []) $
+        free1 ! $ move ! (1 ∷ 11 ∷ []) $ free1 ! $
+        move ! (1 ∷ 10 ∷ []) $ free1 ! $ move ! (1 ∷ 9 ∷ []) $ free1 ! $ move ! (1 ∷ 8 ∷ []) $ free1 ! $ move ! (1 ∷ 7 ∷ []) $ free1 ! $ move ! (1 ∷ 6 ∷ []) $ free1 ! $
+        free0 ! $
         move ! (2 ∷ 1 ∷ []) $ fjoin ! $ move ! (2 ∷ 0 ∷ []) $ fjoin ! $ keep ! (1 ∷ 0 ∷ 2 ∷ []) $ by ! (exits (t .lo) lo-fits (between-met (t .inv) met′))
       where
         lo-fits : t .lo < 2 ^ 64
@@ -216,30 +226,38 @@ module _ {M : Type 1} (𝓤 : URA M) (H : Heap 𝓤) (A : Atoms 𝓤) (W : Given
         by-test true e = more t (ltb-true _ _ e)
         by-test false e = ends t (ltb-false _ _ e)
 
-  walk : (𝓣 : Tables 𝓤 H) → Room R (length ys) → n < 2 ^ 64 → x < 2 ^ 64 → n ≤ length ys → ent 𝓤 (onEntry 𝓤 H A upto′.signature (κ, tt) (q, tt) a at) (WpFn 𝓤 H (𝓣 .C) (𝓣 .Λ) code.function (sliceVal (b, o) (length ys) ∷ vint w64 n ∷ vint w64 x ∷ []) Post)
+  walk : (𝓣 : Tables 𝓤 H) → Room R (length ys) → n < 2 ^ 64 → x < 2 ^ 64 → n ≤ length ys
+      → ent 𝓤 (onEntry 𝓤 H A upto′.signature (κ, tt) (q, tt) a at) (WpFn 𝓤 H (𝓣 .C) (𝓣 .Λ) code.function (sliceVal (b, o) (length ys) ∷ vint w64 n ∷ vint w64 x ∷ []) Post)
   walk 𝓣 gn gi gx within =
       qed W ((‵ (flft κ q) ⊛ ‵ ftrue) ∷ ‵ (owns (ShrSlice (named 0) κ R ∷ usize ∷ u64 ∷ []) a at) ∷ []) ∵ enter ! (𝓣 .C) (𝓣 .Λ) code.function (sliceVal (b, o) (length ys) ∷ vint w64 n ∷ vint w64 x ∷ []) _ $
-      alloc1 ! (λ l₀. alloc1 ! (λ l₁. alloc1 ! (λ l₂. alloc1 ! (λ l₃. alloc1 ! (λ l₄. alloc1 ! (λ l₅. alloc1 ! (λ l₆. alloc1 ! (λ l₇. alloc1 ! (λ l₈. alloc1 ! (λ l₉. alloc1 ! (λ l₁₀. alloc0 ! $ params1 ! $
-      pass1 ! (init ! 18 refl (tt, (tt, (record { fits = gn .0 }, tt)))) $ pass1 ! (init ! 16 refl (tt, record { fits = gi })) $ pass1 ! (init ! 14 refl (tt, record { fits = gx })) $ pass0 ! $
+      alloc1 ! (λ l₀. alloc1 ! (λ l₁. alloc1 ! (λ l₂. alloc1 ! (λ l₃. alloc1 ! (λ l₄. alloc1 ! (λ l₅. alloc1 ! (λ l₆. alloc1 ! (λ l₇. alloc1 ! (λ l₈. alloc1 ! (λ l₉.
+      alloc1 ! (λ l₁₀. alloc0 ! $
+      params1 ! $
+      pass1 ! (init ! 18 refl (tt, (tt, (record { fits = gn .0 }, tt)))) $ pass1 ! (init ! 16 refl (tt, record { fits = gi })) $
+      pass1 ! (init ! 14 refl (tt, record { fits = gx })) $ pass0 ! $
       assigns ! (of-opd ! (lit ! tt)) (from ! (stop !)) (init ! 12 refl (tt, record { fits = lit< tt })) $
       assigns ! (of-opd ! (load ! (from ! (stop !)) (look ! 16 refl))) (from ! (stop !)) (init ! 10 refl (tt, record { fits = gi })) $
       move ! (23 ∷ []) $ fsplit ! $ fsplit ! $ move ! (1 ∷ []) $ fsplit ! $ move ! (26 ∷ []) $ split ! $ move ! (3 ∷ 0 ∷ []) $
       looks-slice ! tt R (Is R) (shows 𝓤 H A R) vals (LL.tells T.the-type T′.the-laws) (LL.copy T.the-type T′.the-copy 𝓤 H A W) ys b o (λ q′.
       -- [the row; the open borrow; the fractured one; true; res; run's fact; the numbers'; _10; …; _9; …; and so on to _0; …]
       keep ! (0 ∷ 19 ∷ 17 ∷ 15 ∷ 13 ∷ 11 ∷ 9 ∷ 7 ∷ 25 ∷ 23 ∷ 21 ∷ 27 ∷ 1 ∷ 2 ∷ 4 ∷ 5 ∷ 6 ∷ 28 ∷ 26 ∷ 24 ∷ 22 ∷ 20 ∷ 18 ∷ 16 ∷ 14 ∷ 12 ∷ 10 ∷ 8 ∷ []) $
-      first ! $ blocks ! $ loops ! 𝓣 (Less ys n x) (less-wf ys n x) (Inv 𝓣 gn within q′ l₀ l₁ l₂ l₃ l₄ l₅ l₆ l₇ l₈ l₉ l₁₀) (turns 𝓣 gn within q′ l₀ l₁ l₂ l₃ l₄ l₅ l₆ l₇ l₈ l₉ l₁₀) (begin ys n x)))))))))))))
+      first ! $ blocks ! $
+      loops ! 𝓣 (Less ys n x) (less-wf ys n x) (Inv 𝓣 gn within q′ l₀ l₁ l₂ l₃ l₄ l₅ l₆ l₇ l₈ l₉ l₁₀) (turns 𝓣 gn within q′ l₀ l₁ l₂ l₃ l₄ l₅ l₆ l₇ l₈ l₉ l₁₀) (begin ys n x)))))))))))))
 
 module _ {M : Type 1} (𝓤 : URA M) (H : Heap 𝓤) (A : Atoms 𝓤) (W : Given 𝓤 H A) (mem : Memory → SProp 𝓤) (run : Routine → Fun 𝓤) where
   upto-walks : (𝓣 : Tables 𝓤 H) → Walks 𝓤 H A upto′.ended stayed (WpFn 𝓤 H (𝓣 .C) (𝓣 .Λ) code.function) (upto′.clauses 𝓤 H A mem run)
   upto-walks 𝓣 = walked 𝓤 H A upto′.ended stayed (upto′.clauses 𝓤 H A mem run) (WpFn 𝓤 H (𝓣 .C) (𝓣 .Λ) code.function)
       (λ κs. (slice-vals, (uint-vals w64, (uint-vals w64, tt)))) (λ κs. (shr-slice-tells (named 0) (κs .0) R, (uint-tells w64, (uint-tells w64, tt))))
       (λ κs qs bounds a g are. needs 𝓤 (a .1 .0 ≤ length (a .0 .now)) _
-      (walk 𝓤 H A W mem run (κs .0) (qs .0) (a .0 .ptr .0) (a .0 .ptr .1) (a .0 .name) (a .0 .now) (a .1 .0) (a .1 .1 .0) 𝓣 (are .0 .0 .1) (are .1 .0 .1) (are .1 .1 .0 .1)))
+      (walk 𝓤 H A W mem run (κs .0) (qs .0) (a .0 .ptr .0) (a .0 .ptr .1) (a .0 .name) (a .0 .now) (a .1 .0) (a .1 .1 .0) 𝓣
+      (are .0 .0 .1) (are .1 .0 .1) (are .1 .1 .0 .1)))
 
 upto-meets : {M : Type 1} (𝓤 : URA M) (H : Heap 𝓤) (A : Atoms 𝓤) → Given 𝓤 H A → (mem : Memory → SProp 𝓤) (run : Routine → Fun 𝓤) (𝓣 : Tables 𝓤 H)
     → Meets 𝓤 H A upto′.signature (WpFn 𝓤 H (𝓣 .C) (𝓣 .Λ) code.function) (upto′.spec 𝓤 H A mem run)
 upto-meets 𝓤 H A W mem run 𝓣 =
-    walk-meets 𝓤 H A upto′.ended stayed W (goes-none-slice 𝓤 H A W 1 (0 ∷ []) tt (plain (λ _. R)) yes, (goes-none 𝓤 H A W 1 (λ _. usize) yes (λ κs x f. refl), (goes-none 𝓤 H A W 1 (λ _. u64) yes (λ κs x f. refl), tt))) (upto′.clauses 𝓤 H A mem run)
+    walk-meets 𝓤 H A upto′.ended stayed W
+    (goes-none-slice 𝓤 H A W 1 (0 ∷ []) tt (plain (λ _. R)) yes, (goes-none 𝓤 H A W 1 (λ _. usize) yes (λ κs x f. refl), (goes-none 𝓤 H A W 1 (λ _. u64) yes (λ κs x f. refl), tt)))
+    (upto′.clauses 𝓤 H A mem run)
     (WpFn 𝓤 H (𝓣 .C) (𝓣 .Λ) code.function) (WpFn-mono 𝓤 H (W .laws) 𝓣 code.function) (upto-walks 𝓤 H A W mem run 𝓣)
 
 pub upto-spec : {M : Type 1} → stated.statement M
