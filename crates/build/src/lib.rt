@@ -45,7 +45,7 @@ fn hand(
     if !layout::fits(buf.len(), heads, first.len(), second.len()) {
         return refused(18);
     }
-    layout::put(buf, row, kind, asked, arguments, first, second);
+    layout::lay(buf, row, kind, asked, arguments, first, second);
     Built {
         number: 0,
         len: heads + first.len() + second.len(),

@@ -75,7 +75,7 @@ fn all(line: &mut [u8], w: Word, kinds: &[u8], words: &mut [u64; WORDS]) -> bool
             return true;
         }
         last = behind(line, last, kinds[i]);
-        if !one(line, last, kinds[i], words, at) {
+        if !by_kind(line, last, kinds[i], words, at) {
             return false;
         }
         at = std::num::wrapping_add_usize(at, width(kinds[i]));
@@ -120,7 +120,7 @@ fn width(kind: u8) -> usize {
 }
 
 // Whether a word is of a kind; what it says is put at a place.
-fn one(line: &mut [u8], w: Word, kind: u8, words: &mut [u64; WORDS], at: usize) -> bool {
+fn by_kind(line: &mut [u8], w: Word, kind: u8, words: &mut [u64; WORDS], at: usize) -> bool {
     match kind {
         b'l' => list(line, w, b',', b'n', 4, words, at),
         b'p' => list(line, w, b',', b'r', 3, words, at),

@@ -10,9 +10,9 @@ use Rattle.connection.specs.declared.Gate.{Gate}
 use Rattle.connection.specs.declared.Gate.the-variants.{Open, Closed}
 
 -- a closing names its refusal number and, where one is known, the instance
-abbrev pub numberOf : Closing → ℕ
-numberOf (Bare n) = n
-numberOf (Of n i) = n
+abbrev pub closingNumber : Closing → ℕ
+closingNumber (Bare n) = n
+closingNumber (Of n i) = n
 
 abbrev pub instanceOf : Closing → Option ℕ
 instanceOf (Bare n) = none
@@ -21,7 +21,7 @@ instanceOf (Of n i) = some i
 -- what a gate tells: no closing, or its number and, where one is known, its instance
 abbrev pub closingOf : Gate → Option (ℕ × Option ℕ)
 closingOf Open = none
-closingOf (Closed x) = some (numberOf x, instanceOf x)
+closingOf (Closed x) = some (closingNumber x, instanceOf x)
 
 -- only the first closing is kept
 abbrev pub closedBy : Gate → Closing → Gate

@@ -4,7 +4,7 @@ use crate::Gate;
 use wire::instances::count;
 use wire::instances::of_side;
 ghost use mathlib.Core.Path.{_≡_};
-ghost use Rattle.connection.specs.Closings.{closedBy, isOpen, numberOf, takeFault, faultLeaves, gateOk};
+ghost use Rattle.connection.specs.Closings.{closedBy, isOpen, closingNumber, takeFault, faultLeaves, gateOk};
 ghost use Rattle.connection.specs.declared.Closing.the-variants.{Of};
 
 // Only the first closing is kept.
@@ -29,7 +29,7 @@ pub fn is_open(gate: Gate) -> bool
 
 // The refusal number that a closing names.
 pub fn number_of(x: Closing) -> u64
-    ensures { λ r. ⌜ r ≡ numberOf x ⌝ }
+    ensures { λ r. ⌜ r ≡ closingNumber x ⌝ }
 {
     match x {
         Closing::Bare(n) => n,

@@ -19,7 +19,7 @@ use Rattle.connection.specs.declared.Closing.{Closing}
 use Rattle.connection.specs.declared.Closing.the-variants.{Bare, Of}
 use Rattle.connection.specs.declared.Gate.{Gate}
 use Rattle.connection.specs.declared.Gate.the-variants.{Closed}
-use Rattle.connection.specs.Closings.{numberOf, isOpen}
+use Rattle.connection.specs.Closings.{closingNumber, isOpen}
 use Rattle.feeding.specs.declared.Admission.{Admission}
 use Rattle.feeding.specs.declared.Admission.the-variants.{Fault, Payload}
 use Rattle.feeding.specs.Feeding.{Reception, admitted, admission, settled, headed, kept, step, fed, used}
@@ -55,7 +55,7 @@ cause caps held n (To i) x e =
     (overflow i (leb-false (getD held i 0 + n) (getD caps i 0) t)))
 
 -- its number
-pub cause-number : {caps held : List ℕ} {n : ℕ} {r : Route} {x : Closing} → Cause caps held n r x → (11 ≤ numberOf x) × (numberOf x ≤ 13)
+pub cause-number : {caps held : List ℕ} {n : ℕ} {r : Route} {x : Closing} → Cause caps held n r x → (11 ≤ closingNumber x) × (closingNumber x ≤ 13)
 cause-number unknown = (omega arith, omega arith)
 cause-number (wrong i) = (omega arith, omega arith)
 cause-number (overflow i h) = (omega arith, omega arith)

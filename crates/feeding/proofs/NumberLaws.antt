@@ -19,7 +19,7 @@ use Rattle.connection.specs.declared.Closing.{Closing}
 use Rattle.connection.specs.declared.Closing.the-variants.{Bare, Of}
 use Rattle.connection.specs.declared.Gate.{Gate}
 use Rattle.connection.specs.declared.Gate.the-variants.{Open, Closed}
-use Rattle.connection.specs.Closings.{numberOf, isOpen, gateOk}
+use Rattle.connection.specs.Closings.{closingNumber, isOpen, gateOk}
 use Rattle.connection.specs.Parts.{withReceiving}
 use Rattle.range.specs.Ranges.{inRange, receiveStoreOk, receives}
 use Rattle.range.proofs.RangeLaws.{ranged}
@@ -51,7 +51,7 @@ module _ (c : Connection) (st xs : List ℕ) (ok : receives c (length st) ≡ tr
   answer-number : feedOf c st xs .answer .number ≡ left (ends c st xs .gate)
   answer-number = ap (λ (t : Told). t .answer .number) answer
 
-  closing-number : (x : Closing) → ends c st xs .gate ≡ Closed x → (11 ≤ numberOf x) × (numberOf x ≤ 13)
+  closing-number : (x : Closing) → ends c st xs .gate ≡ Closed x → (11 ≤ closingNumber x) × (closingNumber x ≤ 13)
   closing-number x e =
       cause-number (fault-why (c .settings .party) (c .settings .receive) (given c st) xs x o e .says)
 
@@ -106,7 +106,7 @@ module _ (c : Connection) (st xs : List ℕ) where
   fault-closes x k = ap (λ (s : Reception). s .gate) (fault-leaves (c .settings .party) (c .settings .receive) (given c st) xs x k .0)
 
   fault-number : {P : List ℕ → ℕ → Route → Type 0} → Listens c st → (x : Closing) (k : Comes c st xs P) → Holds k (Faults x)
-      → number ≡ numberOf x
+      → number ≡ closingNumber x
   fault-number p x k e =
       answer-number c st xs (p .0) (p .1) ∙ ap left (fault-closes x (eighth-with {Q = Faults x} k e))
 
@@ -248,7 +248,7 @@ module _ (c : Connection) (st xs ys : List ℕ) where
         let second : (m : ℕ) × (feedOf next (s .store) ys ≡ told (refused next m) (s .store)) =
         ways next (s .store) ys (λ out e. (23, e)) (λ _ _ e. (20, e)) (λ _ o′. absurd (true≢false (sym o′ ∙ t))) in
         let some = closing-number c st xs ok o x g .0 in
-        let number : left (s .gate) ≡ numberOf x = ap left g in
+        let number : left (s .gate) ≡ closingNumber x = ap left g in
         record {
           connection = ap (λ (r : Told). r .answer .connection) all ∙ sym (ap (λ (r : Told). r .answer .connection) (second .1));
           store = ap (λ (r : Told). r .store) all ∙ sym (ap (λ (r : Told). r .store) (second .1));

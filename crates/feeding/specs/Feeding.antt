@@ -17,7 +17,7 @@ use Rattle.connection.specs.declared.Connection.{Connection}
 use Rattle.connection.specs.declared.Closing.the-variants.{Bare, Of}
 use Rattle.connection.specs.declared.Gate.{Gate}
 use Rattle.connection.specs.declared.Gate.the-variants.{Open, Closed}
-use Rattle.connection.specs.Closings.{numberOf, isOpen}
+use Rattle.connection.specs.Closings.{closingNumber, isOpen}
 use Rattle.connection.specs.Areas.{laidIn}
 use Rattle.connection.specs.Parts.{withReceiving}
 use Rattle.range.specs.Ranges.{receives}
@@ -115,7 +115,7 @@ used us caps s (x ∷ xs) = cond (isOpen (s .gate)) (suc (used us caps (step us 
 -- the number of the closing that is left, or 0
 abbrev pub left : Gate → ℕ
 left Open = 0
-left (Closed x) = numberOf x
+left (Closed x) = closingNumber x
 
 -- an answer, and the store as the call leaves it
 pub record Told : Type 0 where

@@ -44,7 +44,7 @@ fn built(line: &[u8], words: [u64; WORDS], buf: &mut [u8]) -> bool {
     let mut space = [0u8; OUT];
     let out: &mut [u8] = &mut space;
     let mut p = begun(out, words[2], words[6], m.number);
-    p = told(out, p, words[1], words[2], m.number, buf, m.len);
+    p = answer(out, p, words[1], words[2], m.number, buf, m.len);
     output::end(out, p)
 }
 
@@ -73,7 +73,7 @@ fn begun(out: &mut [u8], i: u64, kind: u64, number: u64) -> Pen {
 }
 
 // What is behind the message, or the whole buffer after a refusal, must be as it was.
-fn told(out: &mut [u8], p: Pen, bundle: u64, i: u64, number: u64, buf: &[u8], n: usize) -> Pen {
+fn answer(out: &mut [u8], p: Pen, bundle: u64, i: u64, number: u64, buf: &[u8], n: usize) -> Pen {
     if !kept(buf, n) {
         return output::words(out, p, b" changed");
     }

@@ -50,7 +50,7 @@ fn run(space: &mut [u8; SPACE]) {
             unwritten();
             return;
         }
-        lines = input::on(space, LINE, lines);
+        lines = input::step(space, LINE, lines);
         if lines.over {
             ended(lines.failed);
             return;
@@ -149,11 +149,11 @@ fn show(out: &mut [u8], pen: Pen, p: Protocol, bytes: &[u8], from: usize) -> Pen
     let a = messages::read(p, bytes, from, n);
     let reading = a.reading;
     let message = a.message;
-    told(out, pen, reading, message)
+    answer(out, pen, reading, message)
 }
 
 // What reading comes to.
-fn told(out: &mut [u8], p: Pen, reading: Reading, m: Message) -> Pen {
+fn answer(out: &mut [u8], p: Pen, reading: Reading, m: Message) -> Pen {
     match reading {
         Reading::Read => print(out, p, m),
         Reading::NotArray => output::words(out, p, b"15 array"),

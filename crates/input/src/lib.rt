@@ -71,7 +71,7 @@ fn between(from: usize, to: usize) -> usize {
 }
 
 // The next step, where a line has at most so many characters, fewer than the space.
-pub fn on(space: &mut [u8], most: usize, l: Lines) -> Lines {
+pub fn step(space: &mut [u8], most: usize, l: Lines) -> Lines {
     if whole(l) {
         let next = std::num::wrapping_add_usize(l.end, 1);
         return seen(space, most, next, l.to, false);

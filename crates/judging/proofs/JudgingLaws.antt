@@ -27,7 +27,7 @@ use Rattle.messages.specs.declared.Message.{Message}
 use Rattle.messages.specs.declared.Answer.{Answer}
 use Rattle.messages.specs.declared.Reading.{Reading}
 use Rattle.messages.specs.declared.Reading.the-variants.{Read, NotArray, UnknownKind, WrongCount, WrongField}
-use Rattle.messages.specs.Reading.{messageOf, numberOf, read, flagOf, wholly}
+use Rattle.messages.specs.Reading.{messageOf, readingNumber, read, flagOf, wholly}
 use Rattle.messages.specs.Besides.Theorem.{Says}
 use Rattle.messages.proofs.Theorem.{reads-forms}
 use Rattle.judging.specs.declared.Judged.{Judged}
@@ -66,20 +66,20 @@ whole-alone xs from n m l e =
 
 module _ (p : Protocol) (state : ℕ) (bs : List ℕ) where
   -- no message
-  pub judged-wrong : (a : Answer) (number : ℕ) → a ≡ messageOf p bs → number ≡ numberOf (a .reading) → number ≢ 0
+  pub judged-wrong : (a : Answer) (number : ℕ) → a ≡ messageOf p bs → number ≡ readingNumber (a .reading) → number ≢ 0
       → unjudged number ≡ judgedOf p state bs
   unfolding judgedOf
   judged-wrong a number e h ne = rw (← e, ← h, ne-eqb number 0 ne)
 
   -- a message, with its row or without
-  pub judged-read : (a : Answer) (number n f : ℕ) (next : Next) → a ≡ messageOf p bs → number ≡ numberOf (a .reading) → number ≡ 0
+  pub judged-read : (a : Answer) (number n f : ℕ) (next : Next) → a ≡ messageOf p bs → number ≡ readingNumber (a .reading) → number ≡ 0
       → n ≡ length bs → f ≡ flagOf p (a .message) → next ≡ nextOf p state (a .message .kind) f
       → byRow n (a .message) next ≡ judgedOf p state bs
   unfolding judgedOf
-  judged-read a number n f next e h z l g q = rw (← e, eq-eqb (numberOf (a .reading)) 0 (sym h ∙ z), ← g, ← q, ← l)
+  judged-read a number n f next e h z l g q = rw (← e, eq-eqb (readingNumber (a .reading)) 0 (sym h ∙ z), ← g, ← q, ← l)
 
   -- not exactly one item
-  pub judged-not-one : wholly (verdict bs) (length bs) ≡ false → unjudged (numberOf NotArray) ≡ judgedOf p state bs
+  pub judged-not-one : wholly (verdict bs) (length bs) ≡ false → unjudged (readingNumber NotArray) ≡ judgedOf p state bs
   unfolding judgedOf messageOf
   judged-not-one h = rw h
 
@@ -92,8 +92,8 @@ module _ (p : Protocol) (state : ℕ) (bs : List ℕ) where
     message : (m : Message) (to : ℕ) → Says p bs m → nextOf p state (m .kind) (flagOf p m) ≡ To to → Judges (led (length bs) m to)
 
   -- bytes that were not read say nothing
-  unread : {r : Reading} {m : Message} → messageOf p bs ≡ record { reading = r; message = m } → numberOf r ≡ 15 → (m : Message) → Says p bs m → ⊥
-  unread e z m s = let q = ap (λ (x : Answer). numberOf (x .reading)) (sym e ∙ reads-forms p bs m .1 s) in omega arith
+  unread : {r : Reading} {m : Message} → messageOf p bs ≡ record { reading = r; message = m } → readingNumber r ≡ 15 → (m : Message) → Says p bs m → ⊥
+  unread e z m s = let q = ap (λ (x : Answer). readingNumber (x .reading)) (sym e ∙ reads-forms p bs m .1 s) in omega arith
 
   pub judges : Judges (judgedOf p state bs)
   unfolding judgedOf

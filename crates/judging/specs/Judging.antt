@@ -20,7 +20,7 @@ use Rattle.rows.specs.Spoken.{speaks}
 use Rattle.messages.specs.declared.Message.{Message}
 use Rattle.messages.specs.declared.Answer.{Answer}
 use Rattle.messages.specs.Matching.{begun}
-use Rattle.messages.specs.Reading.{messageOf, numberOf, flagOf}
+use Rattle.messages.specs.Reading.{messageOf, readingNumber, flagOf}
 use Rattle.connection.specs.declared.Talk.{Talk}
 use Rattle.connection.specs.declared.Connection.{Connection}
 use Rattle.connection.specs.Closings.{isOpen}
@@ -94,8 +94,8 @@ byRow n m None = unjudged 16
 -- 15: not a message of the protocol
 abbrev pub byReading : Protocol → ℕ → ℕ → Answer → Judged
 byReading p state n a =
-    cond (eqb (numberOf (a .reading)) 0) (byRow n (a .message) (nextOf p state (a .message .kind) (flagOf p (a .message))))
-    (unjudged (numberOf (a .reading)))
+    cond (eqb (readingNumber (a .reading)) 0) (byRow n (a .message) (nextOf p state (a .message .kind) (flagOf p (a .message))))
+    (unjudged (readingNumber (a .reading)))
 
 -- what bytes are in a state of the protocol: 15; 16; or the message that they are, and where it leads
 unfoldable pub judgedOf : Protocol → ℕ → List ℕ → Judged

@@ -23,7 +23,7 @@ ghost use Rattle.wire.specs.Instances.{instances, handshake, initiates, roleOf}
 ghost use Rattle.item.specs.declared.Verdict.the-variants.{Whole};
 ghost use Rattle.item.specs.Verdict.{verdict};
 ghost use Rattle.rows.specs.Rows.{agencyOf};
-ghost use Rattle.messages.specs.Reading.{numberOf};
+ghost use Rattle.messages.specs.Reading.{readingNumber};
 ghost use Rattle.judging.specs.Judging.{holds, unjudged, byRow, judgedOf, byVerdict, heard, said, marks};
 
 // Whether bytes are a message that moves the state: 0 with the message, its length and the next state, or the number of
@@ -164,7 +164,7 @@ pub fn heard(
 
 // Bytes that are not exactly one item are no message.
 fn no_message() -> Judged
-    ensures { λ r. ⌜ r ≡ unjudged (numberOf Reading.NotArray) ⌝ }
+    ensures { λ r. ⌜ r ≡ unjudged (readingNumber Reading.NotArray) ⌝ }
 {
     unjudged(number_of(Reading::NotArray))
 }

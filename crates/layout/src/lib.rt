@@ -224,7 +224,7 @@ fn put_fields(
 }
 
 // The message at the front of the buffer.
-pub fn put(
+pub fn lay(
     buf: &mut [u8],
     row: usize,
     kind: u64,

@@ -37,7 +37,7 @@ use Rattle.messages.specs.declared.Answer.{Answer}
 use Rattle.messages.specs.Forms.{formOf}
 use Rattle.elements.specs.Besides.Matching.{Value, number, place, ItemAt, ItemsAt, UnsignedAt, Opens, Closes, FieldAt}
 use Rattle.elements.specs.Matching.{past, array, inMessage}
-use Rattle.messages.specs.Besides.Matching.{FieldsAt, no-field, a-field, Matches, saying, told, messageFrom}
+use Rattle.messages.specs.Besides.Matching.{FieldsAt, no-field, a-field, Matches, saying, saidAll, messageFrom}
 use Rattle.messages.specs.Matching.{begun, withNumber, withPlace}
 use Rattle.elements.specs.Matching as matching
 use Rattle.elements.specs.Reading.{onEnd, unsignedAt, opensAt, elementsOf, partOf}
@@ -60,19 +60,19 @@ module _ (bs : List ℕ) where
   further-got (number v) q fs i m = refl
   further-got (place a l) q fs i m = refl
 
-  fields-found : {fs : List Field} {p q : ℕ} {xs : List Value} (i : ℕ) (m : Message) → FieldsAt bs fs p xs q → fieldsOf bs fs i p m ≡ read (told m xs)
-  unfolding fieldsOf told
+  fields-found : {fs : List Field} {p q : ℕ} {xs : List Value} (i : ℕ) (m : Message) → FieldsAt bs fs p xs q → fieldsOf bs fs i p m ≡ read (saidAll m xs)
+  unfolding fieldsOf saidAll
   fields-found i m no-field = refl
   fields-found i m (a-field {fs = fs} {q = q} {x = x} f r) =
       ap (λ (w : Part). further w fs i m) (part-found bs f) ∙ further-got x q fs i m ∙ fields-found (i + 1) (saying m x) r
 
   abbrev Found : List Field → ℕ → Message → Message → Type 0
-  Found fs p m n = (xs : List Value) × (q : ℕ) × FieldsAt bs fs p xs q × (n ≡ told m xs)
+  Found fs p m n = (xs : List Value) × (q : ℕ) × FieldsAt bs fs p xs q × (n ≡ saidAll m xs)
 
   field-sound : (f : Field) (fs : List Field) (i p : ℕ) (m n : Message) (w : Part) → Parts bs (λ x q. FieldAt bs f p x q) w
       → ((q : ℕ) (o : Message) → fieldsOf bs fs (i + 1) q o ≡ read n → Found fs q o n)
       → further w fs i m ≡ read n → Found (f ∷ fs) p m n
-  unfolding told
+  unfolding saidAll
   field-sound f fs i p m n (part.Number v q) s go e =
       let r = go q (withNumber m v) e in (number v ∷ r .0, r .1, a-field s (r .2), r .3)
   field-sound f fs i p m n (part.Place a l q) s go e =
@@ -80,7 +80,7 @@ module _ (bs : List ℕ) where
   field-sound f fs i p m n part.Wrong s go e = absurd (let z : WrongField i ≡ Read = ap (λ (a : Answer). a .reading) e in let y : _≡_ {A = ℕ} 0 1 = cc in omega arith)
 
   fields-sound : (fs : List Field) (i p : ℕ) (m n : Message) → fieldsOf bs fs i p m ≡ read n → Found fs p m n
-  unfolding fieldsOf told
+  unfolding fieldsOf saidAll
   fields-sound [] i p m n e = ([], p, no-field, ap (λ (a : Answer). a .message) (sym e))
   fields-sound (f ∷ fs) i p m n e =
       field-sound f fs i p m n (partOf bs f p) (part-sound bs f p) (λ q o g. fields-sound fs (i + 1) q o n g) e

@@ -80,12 +80,12 @@ messageOf p bs =
     (failed NotArray)
 
 -- Document 01's number for each case.
-abbrev pub numberOf : Reading → ℕ
-numberOf Read = 0
-numberOf NotArray = 15
-numberOf UnknownKind = 15
-numberOf WrongCount = 15
-numberOf (WrongField i) = 15
+abbrev pub readingNumber : Reading → ℕ
+readingNumber Read = 0
+readingNumber NotArray = 15
+readingNumber UnknownKind = 15
+readingNumber WrongCount = 15
+readingNumber (WrongField i) = 15
 
 -- RequestTxIds counts as two messages by its bool: the flag by which the rows tell them apart.
 unfoldable pub flagOf : Protocol → Message → ℕ

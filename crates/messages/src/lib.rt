@@ -28,7 +28,7 @@ ghost use Rattle.elements.specs.Besides.Matching.{ItemsAt};
 ghost use Rattle.elements.specs.Matching.{array, inMessage};
 ghost use Rattle.elements.specs.Reading.{unsignedAt, opensAt};
 ghost use Rattle.messages.specs.Matching.{begun, withNumber, withPlace};
-ghost use Rattle.messages.specs.Reading.{failed, withPart, behind, fieldsOf, counted, numberedOf, countFrom, messageOf, numberOf, flagOf};
+ghost use Rattle.messages.specs.Reading.{failed, withPart, behind, fieldsOf, counted, numberedOf, countFrom, messageOf, readingNumber, flagOf};
 ghost use Rattle.messages.specs.Forms.{formOf};
 ghost use Rattle.messages.specs.Inside.{formCount, formAt};
 
@@ -316,7 +316,7 @@ pub fn read(p: Protocol, s: &[u8], from: usize, n: usize) -> Answer
 
 // Document 01's number for each case.
 pub fn number_of(reading: Reading) -> u64
-    ensures { λ r. ⌜ r ≡ numberOf reading ⌝ }
+    ensures { λ r. ⌜ r ≡ readingNumber reading ⌝ }
 {
     match reading {
         Reading::Read => 0,

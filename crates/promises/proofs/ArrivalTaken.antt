@@ -22,7 +22,7 @@ use Rattle.messages.specs.declared.Message.{Message}
 use Rattle.messages.specs.declared.Answer.{Answer}
 use Rattle.elements.specs.declared.Field.{Field}
 use Rattle.elements.specs.Besides.Matching.{Value, number, place}
-use Rattle.messages.specs.Besides.Matching.{FieldsAt, no-field, a-field, Matches, told, messageFrom}
+use Rattle.messages.specs.Besides.Matching.{FieldsAt, no-field, a-field, Matches, saidAll, messageFrom}
 use Rattle.messages.specs.Matching.{begun, withNumber, withPlace}
 use Rattle.messages.specs.Reading.{messageOf, read}
 use Rattle.messages.specs.Besides.Theorem.{Says}
@@ -51,15 +51,15 @@ use Rattle.promises.specs.Besides.Arrival.{holding, buildWith, numbersIn
 -- ---- what a message says
 
 -- values that are said in turn: the kind stays, and each adds its number or its place
-told-kind : (xs : List Value) (m : Message) → told m xs .kind ≡ m .kind
-unfolding told
+told-kind : (xs : List Value) (m : Message) → saidAll m xs .kind ≡ m .kind
+unfolding saidAll
 told-kind [] m = refl
 told-kind (number v ∷ xs) m = told-kind xs (withNumber m v)
 told-kind (place a l ∷ xs) m = told-kind xs (withPlace m a l)
 
 told-numbers : (xs : List Value) (m : Message) → m .count + length (numbersOf xs) ≤ length (m .numbers)
-    → numbersIn (told m xs) ≡ numbersIn m ++ numbersOf xs
-unfolding told
+    → numbersIn (saidAll m xs) ≡ numbersIn m ++ numbersOf xs
+unfolding saidAll
 told-numbers [] m h = sym (append-nil (numbersIn m))
 told-numbers (number v ∷ xs) m h =
     let now : numbersIn (withNumber m v) ≡ numbersIn m ++ (v ∷ []) = rw add-one (take-suc-set (m .numbers) (m .count) v (omega arith)) in
@@ -93,8 +93,8 @@ runs-next bs places n a l h =
     ap (runsAt bs (set once (n * 2 + 1) l)) (add-one n) ∙ rw (start, size, same)
 
 told-runs : (bs : List ℕ) (xs : List Value) (m : Message) → (m .parts + length (runsOf bs xs)) * 2 ≤ length (m .places)
-    → runsIn bs (told m xs) ≡ runsIn bs m ++ runsOf bs xs
-unfolding told
+    → runsIn bs (saidAll m xs) ≡ runsIn bs m ++ runsOf bs xs
+unfolding saidAll
 told-runs bs [] m h = sym (append-nil (runsIn bs m))
 told-runs bs (number v ∷ xs) m h = told-runs bs xs (withNumber m v) h
 told-runs bs (place a l ∷ xs) m h =

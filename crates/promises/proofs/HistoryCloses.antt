@@ -127,7 +127,7 @@ first-next us bs (d ∷ past) e =
 
 -- the closing that feed leaves, by its number and the last header
 cause-tells : {caps held : List ℕ} {n : ℕ} {r : Route} {x : Closing} → Cause caps held n r x
-    → closingOf (Closed x) ≡ cond (leb 11 (closings.numberOf x) && leb (closings.numberOf x) 13) (some (closings.numberOf x, routed r)) none
+    → closingOf (Closed x) ≡ cond (leb 11 (closings.closingNumber x) && leb (closings.closingNumber x) 13) (some (closings.closingNumber x, routed r)) none
 cause-tells unknown = refl
 cause-tells (wrong i) = refl
 cause-tells (overflow i h) = refl

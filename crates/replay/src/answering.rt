@@ -85,7 +85,7 @@ fn places_of(m: Message) -> [u64; 2 * MOST_PLACES] {
 }
 
 // What status tells, with so many counts.
-pub fn told(r: Report, n: usize) -> bool {
+pub fn status(r: Report, n: usize) -> bool {
     let mut space = [0u8; OUT];
     let out: &mut [u8] = &mut space;
     let numbers = numbers_of(r);

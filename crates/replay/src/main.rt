@@ -82,7 +82,7 @@ fn run(receive: &mut [u8; STORE], send: &mut [u8; STORE], space: &mut [u8; SPACE
             unwritten();
             return;
         }
-        lines = input::on(space, LINE, lines);
+        lines = input::step(space, LINE, lines);
         if lines.over {
             ended(lines.failed);
             return;

@@ -254,9 +254,9 @@ fn status(c: Connection) -> bool {
     let party = s.party;
     let r = telling::status(c);
     if r.number == 0 {
-        return answering::told(r, count(party.bundle));
+        return answering::status(r, count(party.bundle));
     }
-    answering::told(r, NINE)
+    answering::status(r, NINE)
 }
 
 // open SIDE S R.. W..

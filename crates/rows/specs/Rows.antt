@@ -105,12 +105,12 @@ unfoldable pub placeIn : State → List State → ℕ
 placeIn s [] = 0
 placeIn s (t ∷ ts) = cond (eqb (order s) (order t)) 0 (suc (placeIn s ts))
 
-abbrev pub numberOf : Protocol → State → ℕ
-numberOf p s = placeIn s (states p)
+abbrev pub stateNumber : Protocol → State → ℕ
+stateNumber p s = placeIn s (states p)
 
 -- the state that every protocol ends in
 abbrev pub doneOf : Protocol → ℕ
-doneOf p = numberOf p Done
+doneOf p = stateNumber p Done
 
 -- a row by number
 pub record Row : Type 0 where
@@ -121,7 +121,7 @@ pub record Row : Type 0 where
   pub next : ℕ
 
 abbrev pub rowOf : Protocol → Move → Row
-rowOf p m = record { state = numberOf p (m .state); agency = m .agency; kind = m .kind; flag = m .flag; next = numberOf p (m .next) }
+rowOf p m = record { state = stateNumber p (m .state); agency = m .agency; kind = m .kind; flag = m .flag; next = stateNumber p (m .next) }
 
 -- the rows of a protocol by number
 abbrev pub rowsOf : Protocol → List Row

@@ -44,7 +44,7 @@ fn run(space: &mut [u8; SPACE]) {
             unwritten();
             return;
         }
-        lines = input::on(space, LINE, lines);
+        lines = input::step(space, LINE, lines);
         if lines.over {
             ended(lines.failed);
             return;
@@ -129,7 +129,7 @@ fn prefixes(bytes: &[u8]) -> usize
     let mut count: usize = 0;
     let mut k: usize = 0;
     while k < bytes.len() {
-        count += one(incomplete(cbor::measure_slice(&bytes[..k])));
+        count += as_count(incomplete(cbor::measure_slice(&bytes[..k])));
         k += 1;
     }
     count
@@ -142,7 +142,7 @@ fn rings(bytes: &[u8], v: Verdict) -> usize
     let mut count: usize = 0;
     let mut from: usize = 0;
     while from < ROOM {
-        count += one(agree(v, around(bytes, from)));
+        count += as_count(agree(v, around(bytes, from)));
         from += 1;
     }
     count
@@ -199,7 +199,7 @@ fn incomplete(v: Verdict) -> bool {
 }
 
 // 1 where it is so.
-fn one(so: bool) -> usize
+fn as_count(so: bool) -> usize
     ensures { λ r. ⌜ r ≤ 1 ⌝ }
 {
     if so {

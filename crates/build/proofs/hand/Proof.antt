@@ -20,8 +20,8 @@ returns c =
     (c .before .before .before .heads .ensures .0)
     (c .before .before .fits2 .ensures) (not-true _ (c .before .if1 .taken)))
 
-put-requires : tie.Need-put-requires
-put-requires c κs =
+lay-requires : tie.Need-lay-requires
+lay-requires c κs =
     let s = c .before .before .before .before .before .before .before in
     let a = s .args in (
       s .pre .0,
@@ -55,7 +55,7 @@ returns-2 c =
     hand-over (a .asked) (a .first .now) (a .second .now) (formAt (a .row) .fields) (a .kind) (a .arguments) (a .buf .now) (s .pre .1)
     (c .before .before .before .before .before .before .heads .ensures .0)
     (c .before .before .before .before .before .fits2 .ensures) (not-false _ (c .before .before .before .before .if1 .left)) (omega arith)
-    (c .before .before .put .ensures)
+    (c .before .before .lay .ensures)
 
 pub hand-spec : {M : Type 1} → statement M
 hand-spec =
@@ -65,7 +65,7 @@ hand-spec =
     (λ c κs. search needs)
     (λ c κs. search needs)
     returns
-    put-requires
+    lay-requires
     add-t11
     add-t17
     (λ c. search needs)

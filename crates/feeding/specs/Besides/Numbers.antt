@@ -15,7 +15,7 @@ use Rattle.wire.specs.Instances.{routeOf}
 use Rattle.connection.specs.declared.Connection.{Connection}
 use Rattle.connection.specs.declared.Closing.{Closing}
 use Rattle.connection.specs.declared.Gate.the-variants.{Closed}
-use Rattle.connection.specs.Closings.{numberOf, isOpen}
+use Rattle.connection.specs.Closings.{closingNumber, isOpen}
 use Rattle.connection.specs.Parts.{withReceiving}
 use Rattle.range.specs.Ranges.{receives}
 use Rattle.feeding.specs.declared.Admission.the-variants.{Fault}
@@ -64,7 +64,7 @@ pub record Leaves (c : Connection) (st xs : List ℕ) (r : Told) : Type 0 where
       → (e : Comes c st xs (λ held n to. admitted (c .settings .receive) held n to ≡ Fault x))
       → let s = fed (c .settings .party) (c .settings .receive) (given c st) (e .front) in
       let after = withReceiving c (withHeader (s .receiving) empty) (Closed x) in
-      r ≡ told (record { number = numberOf x; used = suc (length (e .front)); connection = after }) (s .store)
+      r ≡ told (record { number = closingNumber x; used = suc (length (e .front)); connection = after }) (s .store)
 
 abbrev pub LeavesAll : Type 0
 LeavesAll = (c : Connection) (st xs : List ℕ) → Leaves c st xs (feedOf c st xs)

@@ -40,9 +40,9 @@ saying m (number v) = withNumber m v
 saying m (place start size) = withPlace m start size
 
 -- The message in which the values are said, in their order.
-unfoldable pub told : Message → List Value → Message
-told m [] = m
-told m (x ∷ xs) = told (saying m x) xs
+unfoldable pub saidAll : Message → List Value → Message
+saidAll m [] = m
+saidAll m (x ∷ xs) = saidAll (saying m x) xs
 
 abbrev pub messageFrom : ℕ → List Value → Message
-messageFrom kind xs = told (begun kind) xs
+messageFrom kind xs = saidAll (begun kind) xs

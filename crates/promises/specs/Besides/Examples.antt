@@ -19,7 +19,7 @@ use Rattle.rows.specs.declared.Protocol.{Protocol}
 use Rattle.rows.specs.declared.Protocol.the-variants.{ChainSync, KeepAlive}
 use Rattle.rows.specs.Spoken.{speaks}
 use Rattle.messages.specs.declared.Message.{Message}
-use Rattle.messages.specs.Reading.{messageOf, read, numberOf}
+use Rattle.messages.specs.Reading.{messageOf, read, readingNumber}
 use Rattle.ready.specs.declared.Ready.{Ready}
 use Rattle.connection.specs.declared.Connection.{Connection}
 use Rattle.connection.specs.declared.Gate.the-variants.{Open}
@@ -86,7 +86,7 @@ Holds (carries bs s i p m) =
     × (speaks 0 i ≡ p)
     × (messageOf p (drop headerLength bs) ≡ read m)
 Holds (says p bs m) = messageOf p bs ≡ read m
-Holds (saysNothing p bs) = numberOf (messageOf p bs .reading) ≡ 15
+Holds (saysNothing p bs) = readingNumber (messageOf p bs .reading) ≡ 15
 Holds (judged bs v) = verdict bs ≡ v
 Holds (answered n k) =
     feedOf (holding (set none 8 13) none) store (encoded (record { time = 0; mode = 0; protocol = 8; len = n })) .answer .number ≡ k

@@ -1,4 +1,4 @@
--- `layout::put` meets its contract: the array's head, the kind's and the fields are put one behind the other.
+-- `layout::lay` meets its contract: the array's head, the kind's and the fields are put one behind the other.
 -- Assumes nothing.
 use mathlib.Core.Path.{ap, _∙_}
 use Prim.Native.Nat.{ℕ, _+_}
@@ -12,8 +12,8 @@ use Rattle.elements.specs.Matching.{array}
 use Rattle.layout.specs.Inside.{bodyOf}
 use Rattle.layout.proofs.LayoutLaws.{whole-long, whole-there}
 use borrow.Author.Needs.{needs}
-use Rattle.layout.proofs.put.Statement.{statement}
-use Rattle.layout.proofs.put.Tie as tie
+use Rattle.layout.proofs.lay.Statement.{statement}
+use Rattle.layout.proofs.lay.Tie as tie
 
 write-head-requires : tie.Need-write-head-requires
 write-head-requires c κs =
@@ -64,8 +64,8 @@ returns c =
     (c .before .before .before .before .before .before .write-head2 .ensures) (c .before .before .put-fields .ensures)
     ∙ ap (λ (k : ℕ). sets (a .buf .now) 0 (shortest array (k + 1) ++ (shortest 0 (a .kind) ++ body))) (n .ensures .0)
 
-pub put-spec : {M : Type 1} → statement M
-put-spec =
+pub lay-spec : {M : Type 1} → statement M
+lay-spec =
     tie.close
     (tie.spec
     (λ c κs. search needs)
