@@ -1,7 +1,7 @@
 -- Which number build answers, and what it leaves: `exactly`, `no-message`, `untouched`, `stands`; what it makes reads back and is made
 -- again of its own parts: `reads-back`, `givable`, `rebuilds`.
 -- Assumes nothing.
-use Prim.Native.Nat.{ℕ, zero, suc, _+_, _-_, _^_, _<_, _≤_}
+use Prim.Native.Nat.{ℕ, zero, suc, _+_, _^_, _<_, _≤_}
 use mathlib.Core.Path.{_≡_, refl, sym, ap, subst, subst⁻¹, _∙_}
 use mathlib.Core.Bool.{Bool, true, false, true≢false}
 use mathlib.Core.List.{List, [], _∷_, _++_}
@@ -10,11 +10,10 @@ use mathlib.Core.Option.{Option, none, some}
 use native.Mathlib.Omega.{arith}
 use lib.Dec.{ltb}
 use lib.ListN.{length, take, drop}
-use lib.Seq.{sets, sets-eq, take-at, take-all}
+use lib.Seq.{sets, sets-eq, take-at}
 use borrow.Author.Tests.{lt-ltb, le-ltb, ltb-true, ltb-false}
 use Rattle.base.specs.Numbers.{Bytes}
 use Rattle.base.proofs.Conds.{by-test, cond-cases, exactly-when}
-use Rattle.ring.specs.Ring.{run}
 use Rattle.wire.specs.Instances.{bundles, known, instances}
 use Rattle.wire.proofs.InstanceLaws.{known-some}
 use Rattle.rows.specs.Spoken.{speaks}

@@ -1,12 +1,11 @@
 -- Bytes have one form: whichever way they match, their own heads are the same. And of a message's list there is a wish that asks for what it has.
 -- Assumes nothing.
-use Prim.Native.Nat.{ℕ, zero, suc, _+_, _-_, _≤_}
-use mathlib.Core.Path.{_≡_, refl, sym, ap, subst, subst⁻¹, _∙_}
-use mathlib.Core.Bool.{Bool, true, false, true≢false, false≢true, cond}
+use Prim.Native.Nat.{ℕ, suc, _≤_}
+use mathlib.Core.Path.{_≡_, refl, sym, ap, subst, _∙_}
+use mathlib.Core.Bool.{Bool, true, false, true≢false}
 use mathlib.Core.List.{List, [], _∷_, _++_}
 use mathlib.Core.Option.{some}
 use native.Mathlib.Omega.{arith}
-use lib.ListN.{length}
 use Rattle.base.proofs.Conds.{by-test}
 use Rattle.head.specs.Read.{headAt}
 use Rattle.head.specs.declared.read.Head.the-variants.{Definite}
@@ -14,23 +13,21 @@ use Rattle.rows.specs.declared.Protocol.{Protocol}
 use Rattle.elements.specs.declared.Element.{Element}
 use Rattle.elements.specs.declared.Element.the-variants as element
 use Rattle.elements.specs.declared.Extent.{Extent}
-use Rattle.elements.specs.declared.Extent.the-variants.{Counted, Open, Rest}
 use Rattle.elements.specs.declared.Opening.{Opening}
 use Rattle.elements.specs.declared.Opening.the-variants as opening
 use Rattle.elements.specs.declared.Field.{Field}
 use Rattle.elements.specs.declared.Field.the-variants as field
 use Rattle.elements.specs.Besides.Matching.{Value, Opens, FieldAt}
-use Rattle.elements.specs.Matching.{array, opener}
+use Rattle.elements.specs.Matching.{opener}
 use Rattle.elements.specs.Besides.Matching as matching
-use Rattle.elements.proofs.ElementLaws.{opens-found, got, part-found}
-use Rattle.messages.specs.Forms.{formOf}
+use Rattle.elements.proofs.ElementLaws.{opens-found, part-found}
 use Rattle.messages.specs.Besides.Matching.{FieldsAt, no-field, a-field, Matches}
 use Rattle.messages.proofs.Theorem.{got-same}
 use Rattle.parts.specs.Given.{numeric}
 use Rattle.parts.specs.Counting.{onSome}
 use Rattle.layout.specs.Inside.{openIn}
 use Rattle.build.specs.Made.{firstOf, ofNumber, ofRun, made, encoded}
-use Rattle.build.specs.Besides.Theorem.{Least, ListLeast, FieldLeast, FieldsLeast, ArrayLeast, OwnLeast, isOpen, ListHas, FieldHas, FieldsHave, Has, Askable, NotList, NoList, Ignored}
+use Rattle.build.specs.Besides.Theorem.{Least, ListLeast, FieldLeast, FieldsLeast, ArrayLeast, OwnLeast, isOpen, ListHas, FieldHas, FieldsHave, Askable, NotList, NoList, Ignored}
 use Rattle.build.proofs.Few.{listsIn, form-few}
 
 -- ---- one form

@@ -3,7 +3,6 @@
 -- Assumes nothing.
 use Prim.Native.Nat.{ℕ, _-_, _^_, _≤_, _<_}
 use mathlib.Core.Path.{_≡_, sym, subst, _∙_}
-use mathlib.Core.Bool.{Bool}
 use mathlib.Core.List.{List, [], _∷_}
 use native.Mathlib.Omega.{arith}
 use native.Mathlib.Nat.{min-le-right}
@@ -12,8 +11,6 @@ use lib.Seq.{take-all}
 use Rattle.ring.specs.Ring.{run}
 use Rattle.elements.specs.Besides.Matching.{Value, number, place}
 use Rattle.build.specs.Besides.Theorem.{runsOf, numbersOf, Slices, Rebuilds}
-use Rattle.rows.specs.declared.Protocol.{Protocol}
-use Rattle.messages.specs.Besides.Matching.{Matches}
 use Rattle.build.proofs.OneForm.{Leastly, own-one}
 use Rattle.build.proofs.Pieces.{message-made}
 use Rattle.build.proofs.Theorem.{read-back}

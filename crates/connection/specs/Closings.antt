@@ -1,8 +1,9 @@
--- The closing (document 01, "Segments": status; document 02, K1).
+-- The closing (document 01, "Segments": status; "Numbers and their order": faults; document 02, K1).
 use Prim.Native.Nat.{ℕ}
 use mathlib.Core.Bool.{Bool, true, false, _&&_, _||_}
+use mathlib.Core.List.{List, [], _∷_}
 use mathlib.Core.Option.{Option, none, some}
-use lib.Dec.{eqb, leb, ltb}
+use lib.Dec.{eqb, ltb}
 use Rattle.wire.specs.Instances.{instances, roleOf, sided}
 use Rattle.connection.specs.declared.Closing.{Closing}
 use Rattle.connection.specs.declared.Closing.the-variants.{Bare, Of}
@@ -32,15 +33,47 @@ abbrev pub isOpen : Gate → Bool
 isOpen Open = true
 isOpen (Closed x) = false
 
--- 14 to 17 from take are faults
+-- ---- faults, by name
+
+-- from feed: unknown protocol, wrong mode, overflow
+abbrev pub unknownProtocol : ℕ
+unknownProtocol = 11
+
+abbrev pub wrongMode : ℕ
+wrongMode = 12
+
+abbrev pub overflow : ℕ
+overflow = 13
+
+-- from take: bytes bad, not a message of the protocol, no row in the present state, bytes held after Done
+abbrev pub bytesBad : ℕ
+bytesBad = 14
+
+abbrev pub noMessage : ℕ
+noMessage = 15
+
+abbrev pub noRow : ℕ
+noRow = 16
+
+abbrev pub afterDone : ℕ
+afterDone = 17
+
+abbrev pub takeFaults : List ℕ
+takeFaults = bytesBad ∷ noMessage ∷ noRow ∷ afterDone ∷ []
+
+-- whether a number is in a list
+unfoldable pub among : List ℕ → ℕ → Bool
+among [] n = false
+among (m ∷ ms) n = eqb n m || among ms n
+
 abbrev pub takeFault : ℕ → Bool
-takeFault n = leb 14 n && leb n 17
+takeFault n = among takeFaults n
 
 -- a closing that a fault leaves, in a bundle: no instance for 11; for 12 one of those in which our role is our side's, node to node 0 alone;
 -- any for 13 and for those of take
 abbrev pub faultLeaves : ℕ → Closing → Bool
-faultLeaves b (Bare n) = eqb n 11
-faultLeaves b (Of n i) = ltb i (instances b) && ((eqb n 12 && sided (roleOf b i)) || (eqb n 13 || takeFault n))
+faultLeaves b (Bare n) = eqb n unknownProtocol
+faultLeaves b (Of n i) = ltb i (instances b) && ((eqb n wrongMode && sided (roleOf b i)) || (eqb n overflow || takeFault n))
 
 abbrev pub gateOk : ℕ → Gate → Bool
 gateOk b Open = true

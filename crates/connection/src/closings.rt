@@ -7,6 +7,22 @@ ghost use mathlib.Core.Path.{_≡_};
 ghost use Rattle.connection.specs.Closings.{closedBy, isOpen, closingNumber, takeFault, faultLeaves, gateOk};
 ghost use Rattle.connection.specs.declared.Closing.the-variants.{Of};
 
+// The faults: of feed, unknown protocol, wrong mode, overflow; of take, bytes bad, not a message of the protocol, no row in
+// the present state, bytes held after Done.
+pub const UNKNOWN_PROTOCOL: u64 = 11;
+
+pub const WRONG_MODE: u64 = 12;
+
+pub const OVERFLOW: u64 = 13;
+
+pub const BYTES_BAD: u64 = 14;
+
+pub const NO_MESSAGE: u64 = 15;
+
+pub const NO_ROW: u64 = 16;
+
+pub const AFTER_DONE: u64 = 17;
+
 // Only the first closing is kept.
 pub fn close(gate: Gate, why: Closing) -> Gate
     ensures { λ r. ⌜ r ≡ closedBy gate why ⌝ }
@@ -37,11 +53,12 @@ pub fn number_of(x: Closing) -> u64
     }
 }
 
-// 14 to 17 from take are faults.
+// Whether a number is one of take's faults.
 pub fn take_fault(n: u64) -> bool
     ensures { λ r. ⌜ r ≡ takeFault n ⌝ }
 {
-    base::and(14 <= n, n <= 17)
+    let later = base::or(n == NO_ROW, n == AFTER_DONE);
+    base::or(n == BYTES_BAD, base::or(n == NO_MESSAGE, later))
 }
 
 // A closing with its instance: 12 is of one in which our role is our side's, 13 and those of take may be anyone's.
@@ -51,8 +68,8 @@ fn named(bundle: u64, n: u64, i: u64) -> bool
     if count(bundle) as u64 <= i {
         return false;
     }
-    let wrong = base::and(n == 12, of_side(bundle, i as usize));
-    base::or(wrong, base::or(n == 13, take_fault(n)))
+    let wrong = base::and(n == WRONG_MODE, of_side(bundle, i as usize));
+    base::or(wrong, base::or(n == OVERFLOW, take_fault(n)))
 }
 
 // A closing that a fault leaves.
@@ -60,7 +77,7 @@ fn fault_leaves(bundle: u64, x: Closing) -> bool
     ensures { λ r. ⌜ r ≡ faultLeaves bundle x ⌝ }
 {
     match x {
-        Closing::Bare(n) => n == 11,
+        Closing::Bare(n) => n == UNKNOWN_PROTOCOL,
         Closing::Of(n, i) => named(bundle, n, i),
     }
 }

@@ -219,7 +219,7 @@ module _ (bs : List ℕ) where
       record { forward = omega (arith, w .0); inside = w .1; reads = into bs p 0 v q (omega arith) e (λ f. refl) no-byte }
 
   -- an array is an item, and so is a map; its elements are what is in it
-  pub array-item : {d p k a q : ℕ} → Opens bs array p (Counted k) a → ItemsAt bs d k a q → ItemAt bs (suc d) p q
+  array-item : {d p k a q : ℕ} → Opens bs array p (Counted k) a → ItemsAt bs d k a q → ItemAt bs (suc d) p q
   unfolding nest
   array-item {d} {p} {k} {a} {q} o s =
       let w = definite-within bs p o in
@@ -230,7 +230,7 @@ module _ (bs : List ℕ) where
         reads = into bs p array k a (omega arith) o (λ f. refl) (subst⁻¹ (λ (n : ℕ). Reads n (Items k) (drop a bs) (drop q bs)) e (s .reads));
       }
 
-  pub map-item : {d p k a q : ℕ} → Opens bs map p (Counted k) a → ItemsAt bs d (k * 2) a q → ItemAt bs (suc d) p q
+  map-item : {d p k a q : ℕ} → Opens bs map p (Counted k) a → ItemsAt bs d (k * 2) a q → ItemAt bs (suc d) p q
   unfolding nest
   map-item {d} {p} {k} {a} {q} o s =
       let w = definite-within bs p o in
@@ -395,7 +395,7 @@ module _ (bs : List ℕ) where
   array-elements Rest o s = absurd o
 
   -- no item begins with a break
-  item-no-break : {d p q : ℕ} → ItemAt bs d p q → getD bs p 0 ≡ Break → ⊥
+  pub item-no-break : {d p q : ℕ} → ItemAt bs d p q → getD bs p 0 ≡ Break → ⊥
   unfolding enter initial
   item-no-break {d} {p} {q} s e = of (subst (λ (l : List ℕ). Reads d One l (drop q bs)) (byte-here p Break e (omega arith)) (s .reads))
     where
@@ -403,7 +403,7 @@ module _ (bs : List ℕ) where
       of (one w g) = nothing w
 
   -- nor does a head that is none
-  pub head-no-break : (p : ℕ) {m v q : ℕ} → headAt bs p ≡ head.Definite m v q → getD bs p 0 ≡ Break → ⊥
+  head-no-break : (p : ℕ) {m v q : ℕ} → headAt bs p ≡ head.Definite m v q → getD bs p 0 ≡ Break → ⊥
   unfolding headBy initial
   head-no-break p {m} {v} {q} o e =
       let b : headAt bs p ≡ head.Break (p + 1) = byte-head bs p Break e (omega arith) in
@@ -472,7 +472,7 @@ module _ (bs : List ℕ) where
   next-sound d element.Pair low p = leaving-map (λ next q. ElementAt bs d element.Pair low p next q) 0 (pairEnd bs d p) (λ q s. s) (pair-sound d low p)
   next-sound d element.Version low p = version-sound d low p
 
-  pub next-found : {d : ℕ} {e : Element} {low p next q : ℕ} → ElementAt bs d e low p next q → elementAt bs d e low p ≡ Is next q
+  next-found : {d : ℕ} {e : Element} {low p next q : ℕ} → ElementAt bs d e low p next q → elementAt bs d e low p ≡ Is next q
   unfolding elementAt pairEnd sizedEnd sizeEnd versionAt keyAt
   next-found (an-item i) = rw (item-found i)
   next-found (a-pair {p = p} {b = b} {v = v} {q = q} x o i u l c) =
@@ -531,7 +531,7 @@ module _ (bs : List ℕ) where
       let z : suc (suc m) ≡ 2 + m = omega arith in
       subst (λ (n : ℕ). ItemsAt bs d n p r) z (item-then (number-item u) (item-then i s))
 
-  pub elements-items : {d : ℕ} {e : Element} {low k p q : ℕ} → 0 < d → p ≤ length bs → ElementsAt bs d e low k p q → ItemsAt bs d (per e * k) p q
+  elements-items : {d : ℕ} {e : Element} {low k p q : ℕ} → 0 < d → p ≤ length bs → ElementsAt bs d e low k p q → ItemsAt bs d (per e * k) p q
   elements-items {d} {e} {p = p} h l no-element = let z : 0 ≡ per e * 0 = omega arith in subst (λ (n : ℕ). ItemsAt bs d n p p) z (none-at l)
   elements-items {d} {e} {p = p} {q = r} h l (an-element {k = k} s rest) =
       let z : per e + per e * k ≡ per e * suc k = omega arith in
@@ -600,7 +600,7 @@ module _ (bs : List ℕ) where
         walk-found k (length bs) 0 0 p s (subst⁻¹ (λ (n : ℕ). Closes bs x n q) z c) (omega (arith, elements-inside h s)) ∙ ap (λ (n : ℕ). Is n q) z
 
   -- where elements are found, they end in the bytes
-  pub elements-end : (d : ℕ) (e : Element) (x : Extent) (p : ℕ) {k q : ℕ} → p ≤ length bs → elementsOf bs d e x p ≡ Is k q → past x q ≤ length bs
+  elements-end : (d : ℕ) (e : Element) (x : Extent) (p : ℕ) {k q : ℕ} → p ≤ length bs → elementsOf bs d e x p ≡ Is k q → past x q ≤ length bs
   elements-end d e x p {k} {q} h f =
       let s = subst (Numbers (λ k q. ElementsAt bs d e 0 k p q × Closes bs x k q)) f (elements-sound d e x p) in
       past-inside x k (elements-inside h (s .0)) (s .1) .1
@@ -611,7 +611,7 @@ module _ (bs : List ℕ) where
       let o = subst (Openings (λ x a. Opens bs (opener e) p x a)) found (opens-sound (opener e) p) in
       elements-end inList e x a (opens-within (opener e) p x (opener-high e) o .1) f
 
-  pub before-past : (x : Extent) (q : ℕ) → before x (past x q) ≡ q
+  before-past : (x : Extent) (q : ℕ) → before x (past x q) ≡ q
   before-past (Counted n) q = refl
   before-past Open q = omega arith
   before-past Rest q = refl

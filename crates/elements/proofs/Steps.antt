@@ -131,9 +131,6 @@ break-past bs p h = rw (List·getD-eq-default bs 0 h)
 pub closed-by : (bs : List ℕ) (k p : ℕ) {x y : Extent} {r : Bool} → x ≡ y → r ≡ closed bs y k p → r ≡ closed bs x k p
 closed-by bs k p e h = h ∙ ap (λ (x : Extent). closed bs x k p) (sym e)
 
-pub past-by : (q : ℕ) {x y : Extent} {r : ℕ} → x ≡ y → r ≡ past y q → r ≡ past x q
-past-by q e h = h ∙ ap (λ (x : Extent). past x q) (sym e)
-
 -- past the end there is no bool
 pub bool-past : (bs : List ℕ) (p : ℕ) → length bs ≤ p → part.Wrong ≡ boolOf (getD bs p 0) p
 bool-past bs p h = rw (List·getD-eq-default bs 0 h)

@@ -11,12 +11,11 @@ use head::read::Head;
 use item::NESTING;
 use item::Verdict;
 ghost use mathlib.Core.Path.{_≡_};
-ghost use mathlib.Core.Bool.{true, cond};
-ghost use Prim.Native.Nat.{ℕ, _+_, _-_, _≤_, _<_};
-ghost use lib.Dec.{ltb, eqb};
+ghost use mathlib.Core.Bool.{cond};
+ghost use Prim.Native.Nat.{ℕ, _+_, _≤_, _<_};
+ghost use lib.Dec.{eqb};
 ghost use lib.ListN.{length, getD};
 ghost use Rattle.ring.specs.Inside.{around};
-ghost use Rattle.head.specs.Read.{headAt};
 ghost use Rattle.item.specs.Grammar.{nesting};
 ghost use Rattle.elements.specs.Matching.{inMessage, inList, Break, past, opener};
 ghost use Rattle.elements.specs.Inside.{before, itemsUpTo};
@@ -429,7 +428,7 @@ fn list_of(x: Extent, first: usize, elements: Number, n: usize) -> Part
 }
 
 // Where the elements end, by where their array does: in front of a break.
-pub fn before_of(x: Extent, r: usize) -> usize
+fn before_of(x: Extent, r: usize) -> usize
     ensures { λ q. ⌜ q ≡ before x r ⌝ }
 {
     match x {

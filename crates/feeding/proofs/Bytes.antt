@@ -2,7 +2,7 @@
 -- feed's loop.
 -- Assumes nothing.
 use mathlib.Core.Path.{_≡_, refl, sym, ap, _∙_, subst}
-use mathlib.Core.Bool.{Bool, true, false}
+use mathlib.Core.Bool.{true, false}
 use mathlib.Core.List.{List, [], _∷_, _++_}
 use Prim.Native.Nat.{ℕ, suc, _+_, _-_, _≤_, _<_}
 use native.Mathlib.Omega.{arith}
@@ -17,7 +17,6 @@ use Rattle.ring.proofs.Runs.{run-length}
 use Rattle.ring.proofs.Stores.{laid-length}
 use Rattle.ring.proofs.Areas.{area-in-store}
 use Rattle.wire.specs.declared.segment.Header.{Header}
-use Rattle.wire.specs.declared.segment.Segment.{Segment}
 use Rattle.wire.specs.declared.instances.Party.{Party}
 use Rattle.wire.specs.declared.instances.Route.{Route}
 use Rattle.wire.specs.declared.instances.Route.the-variants.{Unknown, Wrong, To}
@@ -25,7 +24,6 @@ use Rattle.wire.specs.Segments.{headerLength, added, decoded}
 use Rattle.wire.specs.Instances.{instances, most, routeOf}
 use Rattle.wire.specs.Inside.{Within}
 use Rattle.wire.proofs.InstanceLaws.{at-most, route-within}
-use Rattle.connection.specs.declared.Closing.the-variants.{Of}
 use Rattle.connection.specs.declared.Gate.{Gate}
 use Rattle.connection.specs.declared.Gate.the-variants.{Open, Closed}
 use Rattle.connection.specs.declared.Connection.{Connection}
@@ -34,13 +32,13 @@ use Rattle.connection.specs.Closings.{isOpen}
 use Rattle.range.specs.Ranges.{inRange, receives}
 use Rattle.range.proofs.RangeLaws.{Ranged, ranged}
 use Rattle.range.proofs.StoreLaws.{area-of}
-use Rattle.feeding.specs.declared.Admission.{Admission}
-use Rattle.feeding.specs.declared.Admission.the-variants.{Fault, Payload}
-use Rattle.feeding.specs.declared.Way.{Way}
-use Rattle.feeding.specs.declared.Step.{Step}
+use Rattle.admitting.specs.declared.Admission.{Admission}
+use Rattle.admitting.specs.declared.Way.{Way}
+use Rattle.admitting.specs.declared.Step.{Step}
 use Rattle.feeding.specs.Feeding.{Reception, admitted, admission, instanceFor, settled, headed, kept, step, fed, used}
 use Rattle.feeding.specs.Feeding.{told, refused, given, answered, feedOpen, feedOf}
-use Rattle.feeding.specs.Inside.{reception, Sound, Under, Settles, Heads, Lays, Steps}
+use Rattle.admitting.specs.Inside.{reception, Heads}
+use Rattle.feeding.specs.Inside.{Sound, Under, Lays, Steps}
 
 pub open-is : (g : Gate) → isOpen g ≡ true → g ≡ Open
 open-is Open e = refl
@@ -143,34 +141,6 @@ module _ (us : Party) (caps : List ℕ) where
         ap (λ (t : Reception). fed us caps t (y ∷ xs ++ ys)) one ∙ rest .0 ∙ ap (λ (t : Reception). fed us caps t ys) all,
         rw (g, one) (omega (arith, rest .1, after)),
       )
-
--- ---- a header byte, as the code goes
-
--- by the test of the room
-pub room-enough : (caps held : List ℕ) (n i : ℕ) (t : Bool) → t ≡ leb (getD held i 0 + n) (getD caps i 0) → t ≡ true
-    → Payload i n ≡ admitted caps held n (To i)
-room-enough caps held n i t e y = let q : leb (getD held i 0 + n) (getD caps i 0) ≡ true = sym e ∙ y in rw q
-
-pub room-short : (caps held : List ℕ) (n i : ℕ) (t : Bool) → t ≡ leb (getD held i 0 + n) (getD caps i 0) → t ≡ false
-    → Fault (Of 13 i) ≡ admitted caps held n (To i)
-room-short caps held n i t e y = let q : leb (getD held i 0 + n) (getD caps i 0) ≡ false = sym e ∙ y in rw q
-
--- by what the header says
-pub admission-by : (us : Party) (caps held : List ℕ) (h : Header) (d : Segment) (r : Route) → d ≡ decoded (h .bytes)
-    → r ≡ routeOf us (d .protocol) (d .mode) → admitted caps held (d .len) r ≡ admission us caps held h
-unfolding admission
-admission-by us caps held h d r e f = rw (f, e)
-
-pub heads-whole : (us : Party) (caps held : List ℕ) (w : Way) (x : ℕ) (h : Header) (a : Admission) (t : Step) → h ≡ added (w .header) x
-    → leb headerLength (h .count) ≡ true → a ≡ admission us caps held h → Settles w a 1 t → Heads us caps held w x t
-unfolding headed
-heads-whole us caps held w x h a t e q f k =
-    record { one = k .uses; leaves = λ starts store. k .leaves starts held store ∙ rw (← e, q, f) }
-
-pub heads-part : (us : Party) (caps held : List ℕ) (w : Way) (x : ℕ) (h : Header) → h ≡ added (w .header) x
-    → leb headerLength (h .count) ≡ false → Heads us caps held w x (record { way = record { header = h; instance = w .instance; rest = w .rest }; gate = Open; used = 1 })
-unfolding headed
-heads-part us caps held w x h e q = record { one = refl; leaves = λ starts store. rw (← e, q) }
 
 -- ---- a run of payload bytes, as the code goes
 

@@ -20,8 +20,8 @@ use Rattle.connection.specs.declared.Closing.the-variants.{Bare, Of}
 use Rattle.connection.specs.declared.Gate.{Gate}
 use Rattle.connection.specs.declared.Gate.the-variants.{Closed}
 use Rattle.connection.specs.Closings.{closingNumber, isOpen}
-use Rattle.feeding.specs.declared.Admission.{Admission}
-use Rattle.feeding.specs.declared.Admission.the-variants.{Fault, Payload}
+use Rattle.admitting.specs.declared.Admission.{Admission}
+use Rattle.admitting.specs.declared.Admission.the-variants.{Fault, Payload}
 use Rattle.feeding.specs.Feeding.{Reception, admitted, admission, settled, headed, kept, step, fed, used}
 use Rattle.feeding.specs.Besides.Numbers.{Eighth}
 use Rattle.feeding.proofs.Bytes.{step-headed, fed-closed, used-closed, fed-append, used-append}

@@ -28,7 +28,7 @@ use Rattle.connection.specs.Closings.{isOpen, gateOk}
 use Rattle.connection.specs.Parts.{withReceiving}
 use Rattle.range.specs.Ranges.{inRange}
 use Rattle.range.proofs.RangeLaws.{Ranged, ranged, in-range}
-use Rattle.feeding.specs.declared.Admission.{Admission}
+use Rattle.admitting.specs.declared.Admission.{Admission}
 use Rattle.feeding.specs.Feeding.{Reception, admitted, admission, instanceFor, settled, headed, kept, step, fed, given}
 use Rattle.feeding.specs.Feeding.{Spelt}
 

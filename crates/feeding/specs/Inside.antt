@@ -1,29 +1,17 @@
 -- What only this crate's own functions cite.
 use Prim.Native.Nat.{ℕ, _+_, _≤_, _<_}
 use mathlib.Core.Path.{_≡_}
-use mathlib.Core.List.{List, [], _∷_}
+use mathlib.Core.List.{List}
 use lib.ListN.{length, getD, drop}
 use Rattle.ring.specs.Ring.{baseOf, run}
-use Rattle.wire.specs.declared.segment.Header.{Header}
 use Rattle.wire.specs.declared.instances.Party.{Party}
-use Rattle.wire.specs.Segments.{headerLength, empty, added}
 use Rattle.wire.specs.Instances.{instances, most}
-use Rattle.connection.specs.declared.Gate.{Gate}
 use Rattle.connection.specs.declared.Gate.the-variants.{Open}
 use Rattle.connection.specs.Inside.{Area}
-use Rattle.feeding.specs.declared.Admission.{Admission}
-use Rattle.feeding.specs.declared.Way.{Way}
-use Rattle.feeding.specs.declared.Step.{Step}
-use Rattle.feeding.specs.Feeding.{Reception, settled, headed, kept, fed, used}
-
--- a reception by its parts
-abbrev pub reception : List ℕ → List ℕ → Way → Gate → List ℕ → Reception
-reception starts held w g store =
-    record {
-      receiving = record { starts = starts; held = held; header = w .header; instance = w .instance; rest = w .rest };
-      gate = g;
-      store = store;
-    }
+use Rattle.admitting.specs.declared.Way.{Way}
+use Rattle.admitting.specs.declared.Step.{Step}
+use Rattle.admitting.specs.Inside.{reception}
+use Rattle.feeding.specs.Feeding.{Reception, kept, fed, used}
 
 -- What of the range feeding rests on: the store is its areas, each with its start; and there is room for the payload under way.
 pub record Sound (b : ℕ) (caps : List ℕ) (s : Reception) : Type 0 where
@@ -42,25 +30,6 @@ pub record Under (caps starts held : List ℕ) (w : Way) (n : ℕ) : Type 0 wher
   pub more : 0 < w .rest
   pub room : getD held (w .instance) 0 + w .rest ≤ getD caps (w .instance) 0
   pub small : getD caps (w .instance) 0 ≤ 131072
-
--- a header record after bytes more, added one after the other
-unfoldable pub filled : Header → List ℕ → Header
-filled h [] = h
-filled h (x ∷ xs) = filled (added h x) xs
-
--- the header whose eight bytes are those of xs from `at` on
-abbrev pub headerAt : List ℕ → ℕ → Header
-headerAt xs at = filled empty (run xs at headerLength)
-
--- a step uses n bytes and leads to what a whole header does
-pub record Settles (w : Way) (a : Admission) (n : ℕ) (t : Step) : Type 0 where
-  pub uses : t .used ≡ n
-  pub leaves : (starts held store : List ℕ) → reception starts held (t .way) (t .gate) store ≡ settled (reception starts held w Open store) a
-
--- a step uses one byte and leads to what a header byte does
-pub record Heads (us : Party) (caps held : List ℕ) (w : Way) (x : ℕ) (t : Step) : Type 0 where
-  pub one : t .used ≡ 1
-  pub leaves : (starts store : List ℕ) → reception starts held (t .way) (t .gate) store ≡ headed us caps (reception starts held w Open store) x
 
 -- a step uses as many bytes of the run xs from `at` on as it says, at least one, and lays them in the store
 pub record Lays (caps starts held held′ : List ℕ) (w : Way) (store store′ xs : List ℕ) (at : ℕ) (t : Step) : Type 0 where

@@ -40,8 +40,9 @@
 //     1 to 4        a notice, and nothing has changed: 1 more bytes have to come, 2 it is our turn, 3 the instance has
 //                   finished, 4 nothing is to be sent
 //     11 to 13      feed: 11 unknown protocol, 12 wrong mode, 13 more than there is room for; and
-//     14 to 17      take: 14 no CBOR, 15 no message of the protocol, 16 not allowed in the present state, 17 bytes behind the
-//                   end. A fault of the other end: the connection is closed, and status tells by what and on which instance
+//     14 to 17      take: 14 no CBOR, and `offset` tells the first bad byte, counted from the message's first; 15 no message
+//                   of the protocol, 16 not allowed in the present state, 17 bytes behind the end. A fault of the other end:
+//                   the connection is closed, and status tells by what and on which instance
 //     others        refused, and nothing has changed: 10 no such instance, 18 the lent buffer is too short, 19 Handshake has
 //                   not ended in Accept, 20 closed, 21 not our turn, 22 no room in the queue, 23 a setting, the record or a
 //                   store's length is out of range, 24 a Handshake message is longer than S; and, as above, 15 from build, 15 and

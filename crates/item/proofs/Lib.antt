@@ -5,3 +5,4 @@ pub mod Theorem
 pub mod Parts
 pub mod Continue
 pub mod Heads
+pub mod WhichByte

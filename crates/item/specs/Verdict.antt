@@ -1,4 +1,4 @@
--- The verdict on a run of bytes, and the heads in it: what is wanted is a stack, and each byte moves it.
+-- The verdict on a run of bytes: what is wanted is a stack, and each byte moves it.
 use Prim.Native.Nat.{ℕ, zero, suc, _+_, _*_, _-_}
 use mathlib.Core.List.{List, [], _∷_}
 use mathlib.Core.Bool.{Bool, true, false, cond}
@@ -77,6 +77,6 @@ judge (b ∷ bs) at fs = onward (met fs) at (step fs b) (λ gs. judge bs (suc at
 abbrev pub start : ℕ → Stack
 start d = push d One nil
 
--- The verdict on one item, and its heads.
+-- The verdict on one item.
 abbrev pub verdict : List ℕ → Verdict
 verdict bs = judge bs 0 (start nesting)

@@ -20,15 +20,17 @@ use Rattle.rows.specs.Spoken.{speaks}
 use Rattle.messages.specs.declared.Message.{Message}
 use Rattle.messages.specs.declared.Answer.{Answer}
 use Rattle.messages.specs.Matching.{begun}
-use Rattle.messages.specs.Reading.{messageOf, readingNumber, flagOf}
+use Rattle.messages.specs.Reading.{messageOf, isRead, flagOf}
 use Rattle.connection.specs.declared.Talk.{Talk}
 use Rattle.connection.specs.declared.Connection.{Connection}
-use Rattle.connection.specs.Closings.{isOpen}
+use Rattle.connection.specs.Closings.{isOpen, bytesBad, noMessage, noRow, afterDone}
+use Rattle.judging.specs.declared.Outcome.{Outcome}
+use Rattle.judging.specs.declared.Outcome.the-variants.{Done, Waiting, OurTurn, Finished, BytesBad, NoMessage, NoRow, AfterDone, NoAccept, Closed, NotOurTurn}
 use Rattle.judging.specs.declared.Judged.{Judged}
 
 -- ---- the view
 
--- What an answer of take or put may rest on: which end we are; the instance, and its state; whether Handshake ended in Accept; whether the connection
+-- What an answer of take or put may rest on: which end we are, of which bundle; the instance, and its state; whether Handshake ended in Accept; whether the connection
 -- is closed; and the bytes: those held, for take, and the message, for put.
 pub record View : Type 0 where
   pub party : Party
@@ -77,51 +79,81 @@ barred v = not (eqb (v .instance) handshake) && not (v .accepted)
 abbrev pub atDone : View → Bool
 atDone v = eqb (v .state) (doneOf (spoken v))
 
+-- ---- what comes of it
+
+-- document 01's number of each outcome
+abbrev pub outcomeNumber : Outcome → ℕ
+outcomeNumber Done = 0
+outcomeNumber Waiting = 1
+outcomeNumber OurTurn = 2
+outcomeNumber Finished = 3
+outcomeNumber (BytesBad at) = bytesBad
+outcomeNumber (NoMessage why) = noMessage
+outcomeNumber NoRow = noRow
+outcomeNumber AfterDone = afterDone
+outcomeNumber NoAccept = 19
+outcomeNumber Closed = 20
+outcomeNumber NotOurTurn = 21
+
+-- K3: with 14 goes the offset of the first byte after which no item is possible, and with every other number 0
+abbrev pub outcomeOffset : Outcome → ℕ
+outcomeOffset Done = 0
+outcomeOffset Waiting = 0
+outcomeOffset OurTurn = 0
+outcomeOffset Finished = 0
+outcomeOffset (BytesBad at) = at
+outcomeOffset (NoMessage why) = 0
+outcomeOffset NoRow = 0
+outcomeOffset AfterDone = 0
+outcomeOffset NoAccept = 0
+outcomeOffset Closed = 0
+outcomeOffset NotOurTurn = 0
+
 -- ---- judging bytes
 
 -- a refusal or a notice; and a message of n bytes that leads to a state
-abbrev pub unjudged : ℕ → Judged
-unjudged n = record { number = n; len = 0; message = begun 0; next = 0 }
+abbrev pub unjudged : Outcome → Judged
+unjudged o = record { outcome = o; len = 0; message = begun 0; next = 0 }
 
 abbrev pub led : ℕ → Message → ℕ → Judged
-led n m to = record { number = 0; len = n; message = m; next = to }
+led n m to = record { outcome = Done; len = n; message = m; next = to }
 
--- 16: a message of n bytes has no row in the present state
+-- a message of n bytes, by its row in the present state
 abbrev pub byRow : ℕ → Message → Next → Judged
 byRow n m (To next) = led n m next
-byRow n m None = unjudged 16
+byRow n m None = unjudged NoRow
 
--- 15: not a message of the protocol
+-- what was read, by its reading
 abbrev pub byReading : Protocol → ℕ → ℕ → Answer → Judged
 byReading p state n a =
-    cond (eqb (readingNumber (a .reading)) 0) (byRow n (a .message) (nextOf p state (a .message .kind) (flagOf p (a .message))))
-    (unjudged (readingNumber (a .reading)))
+    cond (isRead (a .reading)) (byRow n (a .message) (nextOf p state (a .message .kind) (flagOf p (a .message))))
+    (unjudged (NoMessage (a .reading)))
 
--- what bytes are in a state of the protocol: 15; 16; or the message that they are, and where it leads
+-- what bytes are in a state of the protocol: no message; one without a row; or the message that they are, and where it leads
 unfoldable pub judgedOf : Protocol → ℕ → List ℕ → Judged
 judgedOf p state bs = byReading p state (length bs) (messageOf p bs)
 
 -- ---- take and put, up to 16
 
--- the bytes held, by the verdict on them: incomplete, notice 1, or 20 if closed; 14; 15; 16
+-- the bytes held, by the verdict on them: incomplete, notice 1, or 20 if closed; bad, 14 and which byte; else 15, 16 or a message
 abbrev pub byVerdict : Protocol → ℕ → Bool → List ℕ → Verdict → Judged
-byVerdict p state closed bs Incomplete = unjudged (cond closed 20 1)
-byVerdict p state closed bs (Bad at) = unjudged 14
+byVerdict p state closed bs Incomplete = unjudged (cond closed Closed Waiting)
+byVerdict p state closed bs (Bad at) = unjudged (BytesBad at)
 byVerdict p state closed bs (Whole n) = judgedOf p state (take n bs)
 
 -- take: 19; at Done, notice 3 with nothing held, else 17; our agency, notice 2; and then the bytes decide
 unfoldable pub heard : View → Judged
 heard v =
-    cond (barred v) (unjudged 19)
-    (cond (atDone v) (unjudged (cond (eqb (length (v .bytes)) 0) 3 17))
-    (cond (oursNow v) (unjudged 2) (byVerdict (spoken v) (v .state) (v .closed) (v .bytes) (verdict (v .bytes)))))
+    cond (barred v) (unjudged NoAccept)
+    (cond (atDone v) (unjudged (cond (eqb (length (v .bytes)) 0) Finished AfterDone))
+    (cond (oursNow v) (unjudged OurTurn) (byVerdict (spoken v) (v .state) (v .closed) (v .bytes) (verdict (v .bytes)))))
 
 -- put: 20; 19; 21, not our agency, or Done, where nobody has it; and then the bytes decide, which are one message: 15; 16
 unfoldable pub said : View → Judged
 said v =
-    cond (v .closed) (unjudged 20)
-    (cond (barred v) (unjudged 19)
-    (cond (oursNow v) (judgedOf (spoken v) (v .state) (v .bytes)) (unjudged 21)))
+    cond (v .closed) (unjudged Closed)
+    (cond (barred v) (unjudged NoAccept)
+    (cond (oursNow v) (judgedOf (spoken v) (v .state) (v .bytes)) (unjudged NotOurTurn)))
 
 -- ---- the move
 

@@ -2,19 +2,22 @@
 // where it leads.
 //
 // `heard` has the order of take's refusals and notices up to 16, `said` that of put's. One reader and one row search serve
-// both. They get numbers and bytes and no record, and nothing here changes anything: what is judged is told, with the
-// number that a refusal has.
+// both. They get numbers and bytes and no record, and nothing here changes anything. What comes of it has a name, which
+// carries what else is known; `number_of` and `offset_of` tell what an answer says of it.
+use connection::closings::AFTER_DONE;
+use connection::closings::BYTES_BAD;
+use connection::closings::NO_MESSAGE;
+use connection::closings::NO_ROW;
 use item::Verdict;
 use messages::Message;
 use messages::Reading;
-use messages::number_of;
 use rows::Agency;
 use rows::Next;
 use rows::Protocol;
 use wire::instances::HANDSHAKE;
 use wire::instances::Party;
 ghost use mathlib.Core.Path.{_≡_};
-ghost use mathlib.Core.Bool.{not, _&&_};
+ghost use mathlib.Core.Bool.{not, _&&_, cond};
 ghost use Prim.Native.Nat.{_≤_, _<_};
 ghost use lib.Dec.{eqb};
 ghost use lib.ListN.{length};
@@ -23,13 +26,37 @@ ghost use Rattle.wire.specs.Instances.{instances, handshake, initiates, roleOf}
 ghost use Rattle.item.specs.declared.Verdict.the-variants.{Whole};
 ghost use Rattle.item.specs.Verdict.{verdict};
 ghost use Rattle.rows.specs.Rows.{agencyOf};
-ghost use Rattle.messages.specs.Reading.{readingNumber};
-ghost use Rattle.judging.specs.Judging.{holds, unjudged, byRow, judgedOf, byVerdict, heard, said, marks};
+ghost use Rattle.judging.specs.Judging.{outcomeNumber, outcomeOffset, holds, unjudged, byRow, judgedOf, byVerdict, heard, said, marks};
 
-// Whether bytes are a message that moves the state: 0 with the message, its length and the next state, or the number of
-// a refusal or notice, and all else 0.
+// What comes of judging: done, a notice or a refusal.
+pub enum Outcome {
+    // a message that moves the state
+    Done,
+    // no whole item yet
+    Waiting,
+    // agency is ours, so nothing is heard
+    OurTurn,
+    // the protocol has ended, and nothing is held
+    Finished,
+    // at this place, counted from the first byte, is the first after which no item is possible
+    BytesBad(usize),
+    // no message of the protocol, and why; of put's bytes also such as are not exactly one item
+    NoMessage(Reading),
+    // a message that has no row in the present state
+    NoRow,
+    // the protocol has ended, and bytes are held
+    AfterDone,
+    // Handshake hasn't ended in Accept
+    NoAccept,
+    // the connection is closed
+    Closed,
+    // agency is not ours, so nothing may be said
+    NotOurTurn,
+}
+
+// What comes of bytes; where that is done, the message, its length and the next state, and else 0.
 pub struct Judged {
-    pub number: u64,
+    pub outcome: Outcome,
     pub len: usize,
     pub message: Message,
     pub next: u64,
@@ -72,12 +99,50 @@ pub fn marks(accepted: bool, i: usize, kind: u64) -> bool
     base::or(accepted, base::and(i == HANDSHAKE, kind == ACCEPT))
 }
 
+// Document 01's number of an outcome.
+pub fn number_of(outcome: Outcome) -> u64
+    ensures { λ r. ⌜ r ≡ outcomeNumber outcome ⌝ }
+{
+    match outcome {
+        Outcome::Done => 0,
+        Outcome::Waiting => 1,
+        Outcome::OurTurn => 2,
+        Outcome::Finished => 3,
+        Outcome::BytesBad(_) => BYTES_BAD,
+        Outcome::NoMessage(_) => NO_MESSAGE,
+        Outcome::NoRow => NO_ROW,
+        Outcome::AfterDone => AFTER_DONE,
+        Outcome::NoAccept => 19,
+        Outcome::Closed => 20,
+        Outcome::NotOurTurn => 21,
+    }
+}
+
+// The offset that an answer has with it.
+pub fn offset_of(outcome: Outcome) -> usize
+    ensures { λ r. ⌜ r ≡ outcomeOffset outcome ⌝ }
+{
+    match outcome {
+        Outcome::Done => 0,
+        Outcome::Waiting => 0,
+        Outcome::OurTurn => 0,
+        Outcome::Finished => 0,
+        Outcome::BytesBad(at) => at,
+        Outcome::NoMessage(_) => 0,
+        Outcome::NoRow => 0,
+        Outcome::AfterDone => 0,
+        Outcome::NoAccept => 0,
+        Outcome::Closed => 0,
+        Outcome::NotOurTurn => 0,
+    }
+}
+
 // A refusal or a notice.
-fn unjudged(number: u64) -> Judged
-    ensures { λ r. ⌜ r ≡ unjudged number ⌝ }
+fn unjudged(outcome: Outcome) -> Judged
+    ensures { λ r. ⌜ r ≡ unjudged outcome ⌝ }
 {
     Judged {
-        number,
+        outcome,
         len: 0,
         message: messages::begin(0),
         next: 0,
@@ -89,7 +154,7 @@ fn led(n: usize, message: Message, next: u64) -> Judged
     ensures { λ r. ⌜ r ≡ byRow n message (Next.To next) ⌝ }
 {
     Judged {
-        number: 0,
+        outcome: Outcome::Done,
         len: n,
         message,
         next,
@@ -102,7 +167,7 @@ fn by_row(n: usize, message: Message, next: Next) -> Judged
 {
     match next {
         Next::To(state) => led(n, message, state),
-        Next::None => unjudged(16),
+        Next::None => unjudged(Outcome::NoRow),
     }
 }
 
@@ -114,12 +179,22 @@ fn judge(p: Protocol, state: u64, s: &[u8], from: usize, n: usize) -> Judged
     let answer = messages::read(p, s, from, n);
     let reading = answer.reading;
     let message = answer.message;
-    let number = number_of(reading);
-    if number != 0 {
-        return unjudged(number);
+    if !messages::is_read(reading) {
+        return unjudged(Outcome::NoMessage(reading));
     }
     let next = rows::find(p, state, message.kind, messages::flag(p, message));
     by_row(n, message, next)
+}
+
+// An item that is not whole yet will not be, once the connection is closed.
+fn not_whole(closed: bool) -> Outcome
+    ensures { λ r. ⌜ r ≡ cond closed Outcome.Closed Outcome.Waiting ⌝ }
+{
+    if closed {
+        Outcome::Closed
+    } else {
+        Outcome::Waiting
+    }
 }
 
 // The first item among the n bytes from the place `start` on of an area, which is a ring, in a state of the protocol.
@@ -130,8 +205,19 @@ fn measured(p: Protocol, state: u64, closed: bool, area: &[u8], start: usize, n:
     let v = cbor::measure(area, start, n);
     match v {
         Verdict::Whole(len) => judge(p, state, area, start, len),
-        Verdict::Bad(_) => unjudged(14),
-        Verdict::Incomplete => unjudged(base::choose(closed, 20, 1)),
+        Verdict::Bad(at) => unjudged(Outcome::BytesBad(at)),
+        Verdict::Incomplete => unjudged(not_whole(closed)),
+    }
+}
+
+// At Done, where n bytes are held.
+fn ended(n: usize) -> Outcome
+    ensures { λ r. ⌜ r ≡ cond (eqb n 0) Outcome.Finished Outcome.AfterDone ⌝ }
+{
+    if n == 0 {
+        Outcome::Finished
+    } else {
+        Outcome::AfterDone
     }
 }
 
@@ -150,23 +236,23 @@ pub fn heard(
     ensures { λ r. ⌜ r ≡ heard (record { party = party; instance = i; state = state; accepted = accepted; closed = closed; bytes = around (now (area .entry)) start n }) ⌝ }
 {
     if barred(accepted, i) {
-        return unjudged(19);
+        return unjudged(Outcome::NoAccept);
     }
     let p = rows::spoken::protocol(party.bundle, i);
     if state == rows::done(p) {
-        return unjudged(base::choose(n == 0, 3, 17));
+        return unjudged(ended(n));
     }
     if ours(party, i, p, state) {
-        return unjudged(2);
+        return unjudged(Outcome::OurTurn);
     }
     measured(p, state, closed, area, start, n)
 }
 
 // Bytes that are not exactly one item are no message.
 fn no_message() -> Judged
-    ensures { λ r. ⌜ r ≡ unjudged (readingNumber Reading.NotArray) ⌝ }
+    ensures { λ r. ⌜ r ≡ unjudged (Outcome.NoMessage Reading.NotArray) ⌝ }
 {
-    unjudged(number_of(Reading::NotArray))
+    unjudged(Outcome::NoMessage(Reading::NotArray))
 }
 
 // The slice, whose first n bytes are an item.
@@ -205,14 +291,14 @@ pub fn said(
     ensures { λ r. ⌜ r ≡ said (record { party = party; instance = i; state = state; accepted = accepted; closed = closed; bytes = now (message .entry) }) ⌝ }
 {
     if closed {
-        return unjudged(20);
+        return unjudged(Outcome::Closed);
     }
     if barred(accepted, i) {
-        return unjudged(19);
+        return unjudged(Outcome::NoAccept);
     }
     let p = rows::spoken::protocol(party.bundle, i);
     if ours(party, i, p, state) {
         return judge_slice(p, state, message);
     }
-    unjudged(21)
+    unjudged(Outcome::NotOurTurn)
 }

@@ -1,7 +1,7 @@
 -- The content of a log is what the history says: each call on the run is the call on the points, and keeps the range.
 -- Assumes nothing.
 use mathlib.Core.Path.{_≡_, refl, sym, ap, subst, _∙_}
-use mathlib.Core.Bool.{Bool, true, false, cond}
+use mathlib.Core.Bool.{Bool, cond}
 use mathlib.Core.List.{List, [], _∷_, _++_}
 use mathlib.Core.Logic.{_⊎_, inl, inr, _≢_}
 use Prim.Native.Nat.{ℕ, zero, suc, _+_, _-_, _≤_, _<_}
@@ -19,13 +19,12 @@ use Rattle.points.specs.declared.Place.the-variants.{Origin, Block}
 use Rattle.points.specs.declared.Read.{Read}
 use Rattle.points.specs.Points.{pointOf}
 use Rattle.log.specs.declared.decide.Done.{Done}
-use Rattle.log.specs.Log.{empty, slotsOf, same, done, countTo, backOf, Told, told, addOf}
-use Rattle.log.specs.Parallel.{match, records, backIn, ToldIn, addIn}
+use Rattle.log.specs.Log.{empty, slotsOf, same, done, countTo, backOf, Told}
 use Rattle.log.specs.Inside.{Rising}
 use Rattle.log.specs.Besides.Numbers.{slotAt, WhenBack, back-out, back-none, not-logged, to-origin, to-block}
-use Rattle.log.specs.Besides.History.{Call, adds, backs, appended, upToPoint, cutBack, says, Log, answer, after, afterAll, history, content, fresh, Kept, History, Slices, logOf, answerIn, afterIn, afterAllIn, answersIn, answers, Alike}
+use Rattle.log.specs.Besides.History.{Call, adds, backs, appended, upToPoint, cutBack, says, Log, answer, after, afterAll, history, content, fresh, History}
 use Rattle.log.proofs.RecordLaws.{slots-at, slots-set}
-use Rattle.log.proofs.NumberLaws.{same-is, is-same, count-is, counted, spelled, back-by, back-when, back-goes, kept-back, Leaves, stays, grows, add-leaves, calls-in}
+use Rattle.log.proofs.NumberLaws.{same-is, is-same, count-is, counted, spelled, back-by, back-when, back-goes, kept-back, Leaves, stays, grows, add-leaves}
 
 -- a log in range
 record Good (l : Log) : Type 0 where
@@ -179,38 +178,3 @@ pub kept : History
 kept run cs =
     let h = holds (fresh run) cs [] (record { within = omega arith; rising = λ i j a b. omega arith }) refl in
     record { same = h .same; within = h .good .within; size = h .size; rising = h .good .rising }
-
--- ---- parallel slices
-
-record Alikes (l : Slices) (c : Call) : Type 0 where
-  answers-so : answerIn l c ≡ answer (logOf l) c
-  after-so : logOf (afterIn l c) ≡ after (logOf l) c
-  matches : match (afterIn l c .slots) (afterIn l c .hashes) ≡ true
-
-alike-step : (l : Slices) (c : Call) → match (l .slots) (l .hashes) ≡ true → Alikes l c
-alike-step l (adds item) e =
-    let (ans, run, m) = calls-in (l .slots) (l .hashes) (l .count) .together e .2 item in
-    record {
-      answers-so = ap (λ (d : Done). d .number) ans;
-      after-so =
-          ap (λ (r : List Point). record { run = r; count = addIn (l .slots) (l .hashes) (l .count) item .answer .count }) run
-          ∙ ap (λ (d : Done). record { run = addOf (records (l .slots) (l .hashes)) (l .count) item .run; count = d .count }) ans;
-      matches = m;
-    }
-alike-step l (backs item) e =
-    let b = calls-in (l .slots) (l .hashes) (l .count) .together e .1 item in
-    record {
-      answers-so = ap (λ (d : Done). d .number) b;
-      after-so = ap (λ (d : Done). record { run = records (l .slots) (l .hashes); count = d .count }) b;
-      matches = e;
-    }
-
-pub alike : Alike
-unfolding answersIn answers afterAllIn afterAll
-alike l [] e = (refl, refl)
-alike l (c ∷ cs) e =
-    let s = alike-step l c e in
-    let (a, b) = alike (afterIn l c) cs (s .matches) in (
-      ap (λ (n : ℕ). n ∷ answersIn (afterIn l c) cs) (s .answers-so) ∙ ap (λ (r : List ℕ). answer (logOf l) c ∷ r) (a ∙ ap (λ (m : Log). answers m cs) (s .after-so)),
-      b ∙ ap (λ (m : Log). afterAll m cs) (s .after-so),
-    )

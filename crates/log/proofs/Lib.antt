@@ -4,5 +4,4 @@ pub mod RecordLaws
 pub mod CallLaws
 pub mod NumberLaws
 pub mod HistoryLaws
-pub mod Once
 pub mod Examples

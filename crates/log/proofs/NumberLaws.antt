@@ -1,16 +1,16 @@
--- Which number each call answers and what it leaves: `calls`, `calls-in`. The range and the item decide which "when" holds, and each "when" decides the answer.
+-- Which number each call answers and what it leaves: `calls`. The range and the item decide which "when" holds, and each "when" decides the answer.
 -- Assumes nothing.
 use mathlib.Core.Path.{_≡_, refl, sym, ap, subst, _∙_}
-use mathlib.Core.Bool.{Bool, true, false, cond, true≢false, _&&_}
+use mathlib.Core.Bool.{true, false, true≢false}
 use mathlib.Core.List.{List}
-use mathlib.Core.Logic.{_≢_, _↔_}
-use Prim.Native.Nat.{ℕ, zero, suc, _+_, _-_, _*_, _≤_, _<_}
+use mathlib.Core.Logic.{_≢_}
+use Prim.Native.Nat.{ℕ, zero, suc, _+_, _-_, _≤_, _<_}
 use native.Mathlib.Omega.{arith}
 use native.Mathlib.Numerals.{sub-one}
 use lib.Dec.{eqb, ltb, leb}
-use lib.ListN.{length, getD, set, length-set}
+use lib.ListN.{length, getD, set}
 use lib.Seq.{getD-set-other}
-use borrow.Author.Tests.{eq-eqb, ne-eqb, eqb-true, eqb-false, lt-ltb, le-ltb, ltb-true, ltb-false, le-leb, leb-true, leb-false}
+use borrow.Author.Tests.{eq-eqb, ne-eqb, eqb-true, eqb-false, lt-ltb, le-ltb, ltb-true, ltb-false, le-leb, leb-true}
 use Rattle.base.proofs.Conds.{by-test, both-true, exactly-when}
 use Rattle.points.specs.declared.Hash.{Hash}
 use Rattle.points.specs.declared.Point.{Point}
@@ -22,12 +22,9 @@ use Rattle.points.specs.Besides.Standing.{read}
 use Rattle.points.proofs.StandingLaws.{readings, ReadWay, one, none, read-way}
 use Rattle.log.specs.declared.decide.Done.{Done}
 use Rattle.log.specs.declared.decide.Found.{Found}
-use Rattle.log.specs.Log.{empty, slotsOf, sameHash, same, risesTo, inRange, uptoOf, placeAt, lost, at, findOf, done, countTo, backTo, backOf, Told, told, above, addTo, addOf}
-use Rattle.log.specs.Parallel.{match, records, hashesOf, findIn, backIn, ToldIn, toldIn, addIn}
-use Rattle.log.specs.Inside.{Rising}
-use Rattle.log.specs.Besides.Numbers.{Spells, NoPoint, slotAt, InRange, Logged, WhenFind, find-out, find-in, WhenBack, back-out, back-none, not-logged, to-origin, to-block, WhenAdd, add-out, add-none, the-origin, not-above, full, added, Finds, LeavesBack, LeavesAdd, Calls, AllCalls, CallsIn, AllCallsIn}
+use Rattle.log.specs.Log.{empty, slotsOf, sameHash, same, inRange, uptoOf, lost, at, findOf, done, countTo, backTo, backOf, Told, told, above, addTo, addOf}
+use Rattle.log.specs.Besides.Numbers.{Spells, NoPoint, slotAt, InRange, Logged, WhenFind, find-out, find-in, WhenBack, back-out, back-none, not-logged, to-origin, to-block, WhenAdd, add-out, add-none, the-origin, not-above, full, added, Finds, LeavesAdd, AllCalls}
 use Rattle.log.proofs.SearchLaws.{rising, rises, upto-within, upto-below, upto-above}
-use Rattle.log.proofs.RecordLaws.{slots-records, length-records, hashes-records, together, hashes-length}
 
 -- ---- the range
 
@@ -338,35 +335,4 @@ calls run n =
           };
       add-exactly = λ item k. let (m, w) = add-when run n item in exactly-when (WhenAdd run n item) (add-goes run n item w) w (add-goes run n item);
       add-leaves = λ item. leaves-by run n item (add-leaves run n item .1);
-    }
-
--- ---- parallel slices
-
-module _ (slots hashes : List ℕ) (n : ℕ) (item : List ℕ) where
-  add-records : match slots hashes ≡ true
-      → let t = addIn slots hashes n item in (t .answer ≡ addOf (records slots hashes) n item .answer)
-      × (records (t .slots) (t .hashes) ≡ addOf (records slots hashes) n item .run) × (match (t .slots) (t .hashes) ≡ true)
-  unfolding addIn
-  add-records e =
-      let t = addOf (records slots hashes) n item in
-      rw e (refl, together (t .run), eq-eqb (length (hashesOf (t .run))) (length (slotsOf (t .run)) * 4) (hashes-length (t .run)))
-
-  add-kept : let t = addIn slots hashes n item in t .answer .number ≢ 0 → (t .slots ≡ slots) × (t .hashes ≡ hashes) × (t .answer .count ≡ n)
-  unfolding addIn
-  add-kept =
-      by-test (match slots hashes)
-      (λ e.
-      let k = calls (records slots hashes) n .add-leaves item .kept in
-      rw e (λ z.
-      let f = k z in
-      (ap (λ (t : Told). slotsOf (t .run)) f ∙ slots-records slots hashes, ap (λ (t : Told). hashesOf (t .run)) f ∙ hashes-records slots hashes (eqb-true (length hashes) (length slots * 4) e), ap (λ (t : Told). t .answer .count) f)))
-      (λ e. rw e (λ z. (refl, refl, refl)))
-
-pub calls-in : AllCallsIn
-unfolding findIn backIn addIn
-calls-in slots hashes n =
-    record {
-      apart = λ e. (λ slot. rw e, λ item. rw e, λ item. rw e);
-      together = λ e. (λ slot. rw e, λ item. rw e, λ item. add-records slots hashes n item e);
-      kept = λ item. add-kept slots hashes n item;
     }

@@ -1,4 +1,3 @@
 pub mod Log
-pub mod Parallel
 pub mod Inside
 pub mod Besides

@@ -1,30 +1,32 @@
--- The fields of a form, read one after the other: what is left of them, what is left of the array, and where the last
--- element ends.
+-- The fields of a form, read one after the other: what is left of them, where the last element of the array ends, and how many it has.
 -- Assumes nothing.
 use Prim.Native.Nat.{ℕ, zero, suc, _+_, _-_, _*_, _≤_, _<_}
 use mathlib.Core.Path.{_≡_, refl, sym, ap, subst, subst⁻¹, _∙_}
 use mathlib.Core.Bool.{Bool, true, false, cond}
 use mathlib.Core.List.{List, [], _∷_}
 use mathlib.Core.Option.{some}
-use borrow.Author.Tests.{eq-eqb, ne-eqb}
+use borrow.Author.Tests.{eq-eqb, ne-eqb, eqb-true}
 use native.Mathlib.Omega.{arith}
+use native.Mathlib.Decide.{ℕ-discrete, decLt}
 use native.Mathlib.Numerals.{add-one}
-use lib.ListN.{length, getD, set, drop, length-drop}
+use lib.Dec.{eqb}
+use lib.ListN.{length, getD, set, drop}
 use lib.Seq.{drop-cons, drop-length}
 use Rattle.item.specs.declared.Verdict.the-variants.{Whole}
-use Rattle.item.specs.Grammar.{One, Items, Reads, item, no-more}
+use Rattle.item.specs.Grammar.{One, Items, Reads, item}
 use Rattle.item.specs.Verdict.{verdict}
 use Rattle.item.proofs.Theorem.{one-end}
 use Rattle.rows.specs.declared.Protocol.{Protocol}
 use Rattle.messages.specs.declared.forms.Listed.{Listed}
 use Rattle.messages.specs.declared.forms.Listed.the-variants.{Row, Unknown}
 use Rattle.elements.specs.declared.Extent.{Extent}
+use Rattle.elements.specs.declared.Extent.the-variants.{Counted, Open, Rest}
 use Rattle.elements.specs.declared.Opening.{Opening}
 use Rattle.elements.specs.declared.Opening.the-variants as opening
 use Rattle.elements.specs.declared.Number.{Number}
 use Rattle.elements.specs.declared.Number.the-variants.{Is, Not}
 use Rattle.messages.specs.Forms.{formOf}
-use Rattle.messages.specs.Inside.{formAt, Finds}
+use Rattle.messages.specs.Inside.{formAt, Finds, Begins, Stopped, lastEnd, hasCount}
 use Rattle.elements.specs.declared.Field.{Field}
 use Rattle.elements.specs.declared.Field.the-variants as field
 use Rattle.elements.specs.declared.End.{End}
@@ -34,15 +36,14 @@ use Rattle.elements.specs.declared.Part.the-variants as part
 use Rattle.messages.specs.declared.Reading.the-variants.{NotArray, UnknownKind, WrongCount, WrongField}
 use Rattle.messages.specs.declared.Message.{Message}
 use Rattle.messages.specs.declared.Answer.{Answer}
-use Rattle.elements.specs.Besides.Matching.{ItemAt, ItemsAt, UnsignedAt, Opens, Closes, FieldAt}
-use Rattle.elements.specs.Matching.{past, array, inMessage}
+use Rattle.elements.specs.Besides.Matching.{ItemAt, ItemsAt, UnsignedAt, Opens, FieldAt}
+use Rattle.elements.specs.Matching.{Break, array, inMessage}
 use Rattle.messages.specs.Matching.{begun, withNumber, withPlace}
-use Rattle.elements.specs.Inside.{before}
 use Rattle.elements.specs.Reading.{onEnd, unsignedAt, opensAt, itemEnd, partOf}
 use Rattle.messages.specs.Reading.{failed, read, behind, withPart, fieldsOf, counted, numberedOf, countFrom, messageOf}
-use Rattle.elements.proofs.ElementLaws.{Numbers, Openings, unsigned-sound, opens-sound, forward, item-found, number-item, array-elements, before-past, no-items, Parts, part-sound, field-item}
+use Rattle.elements.proofs.ElementLaws.{Numbers, Openings, unsigned-sound, opens-sound, forward, item-found, item-then, none-at, ahead, no-items, first-item, number-item, item-array, array-elements, item-no-break, Parts, part-sound, field-item}
 use Rattle.elements.proofs.Steps.{number-then, number-not, opening-then, opening-not, end-then, end-not}
-use Rattle.messages.proofs.Theorem.{whole-item, count-is, no-elements}
+use Rattle.messages.proofs.Theorem.{whole-item, open-count}
 
 -- a message with a number more, or a place more
 pub number-said : (m : Message) (v : ℕ) {l : List ℕ} → l ≡ set (m .numbers) (m .count) v
@@ -98,7 +99,7 @@ module _ (bs : List ℕ) where
   -- ---- what is left of the array
 
   -- behind an item of k + 1 stand k
-  pub items-after : {d k p q n : ℕ} → 0 < k → ItemsAt bs d k p n → ItemAt bs d p q → ItemsAt bs d (k - 1) q n
+  items-after : {d k p q n : ℕ} → 0 < k → ItemsAt bs d k p n → ItemAt bs d p q → ItemsAt bs d (k - 1) q n
   items-after {d} {k} {p} {q} {n} h s i = of k h (s .reads)
     where
       of : (k : ℕ) → 0 < k → Reads d (Items k) (drop p bs) (drop n bs) → ItemsAt bs d (k - 1) q n
@@ -110,6 +111,21 @@ module _ (bs : List ℕ) where
           subst (λ (j : ℕ). ItemsAt bs d j q n) z
           (record { forward = forward bs (i .inside) (s .inside) r′; inside = s .inside; reads = r′ })
 
+  -- and behind i of k items the rest
+  items-behind : {d : ℕ} (i : ℕ) {k p r n : ℕ} → i ≤ k → ItemsAt bs d i p r → ItemsAt bs d k p n → ItemsAt bs d (k - i) r n
+  items-behind {d} zero {k} {p} {r} {n} h s t =
+      let z : k ≡ k - 0 = omega arith in
+      subst (λ (j : ℕ). ItemsAt bs d j r n) z (subst (λ (q : ℕ). ItemsAt bs d k q n) (no-items bs s) t)
+  items-behind {d} (suc i) {k} {r = r} {n = n} h s t =
+      let f = first-item bs s in
+      let z : k - 1 - i ≡ k - suc i = omega arith in
+      subst (λ (j : ℕ). ItemsAt bs d j r n) z (items-behind i (omega arith) (f .2) (items-after (omega arith) t (f .1)))
+
+  -- one item more
+  pub then-item : {d : ℕ} (k : ℕ) {p q r : ℕ} → ItemsAt bs d k p q → ItemAt bs d q r → ItemsAt bs d (suc k) p r
+  then-item {d} zero {p} {r = r} s i = subst⁻¹ (λ (q : ℕ). ItemsAt bs d 1 q r) (no-items bs s) (item-then bs i (none-at bs (i .inside)))
+  then-item (suc k) s i = let f = first-item bs s in item-then bs (f .1) (then-item k (f .2) i)
+
   -- a field that is found is an item of the array
   pub part-item : (f : Field) (p : ℕ) {q : ℕ} {w : Part} {e : End} → w ≡ partOf bs f p → e ≡ behind w → e ≡ At q → ItemAt bs inMessage p q
   part-item f p {q} {w} found ends at = of w (subst (Parts bs (λ x r. FieldAt bs f p x r)) (sym found) (part-sound bs f p)) (sym ends ∙ at)
@@ -119,50 +135,90 @@ module _ (bs : List ℕ) where
       of (part.Place a l r) s e = let g : r ≡ q = cc in subst (λ (n : ℕ). ItemAt bs inMessage p n) g (field-item bs s)
       of part.Wrong s e = absurd (let z : _≡_ {A = ℕ} 0 1 = cc in omega arith)
 
-  -- the last item ends where the array ends, and that is known of it alone
-  pub last-ends : {d p n : ℕ} (k : ℕ) → k ≡ 1 → ItemsAt bs d k p n → itemEnd bs d p ≡ At n
-  last-ends {d} {p} {n} k e s = item-found bs (record { forward = s .forward; inside = s .inside; reads = of (subst (λ (k : ℕ). Reads d (Items k) (drop p bs) (drop n bs)) e (s .reads)) })
-    where
-      of : Reads d (Items 1) (drop p bs) (drop n bs) → Reads d One (drop p bs) (drop n bs)
-      of (item x no-more) = x
+  -- the last of k items ends where they end, and that is known of it alone
+  pub last-ends : {d p q n : ℕ} (i k : ℕ) → i + 1 ≡ k → ItemsAt bs d i p q → ItemsAt bs d k p n → itemEnd bs d q ≡ At n
+  last-ends {d} {p} {q} {n} i k e s t =
+      let z : k - i ≡ 1 = omega arith in
+      let f = first-item bs (subst (λ (j : ℕ). ItemsAt bs d j q n) z (items-behind i (omega arith) s t)) in
+      item-found bs (subst (λ (r : ℕ). ItemAt bs d q r) (no-items bs (f .2)) (f .1))
 
-  pub known-end : (d p : ℕ) {n q : ℕ} (t : Bool) {e : End} → e ≡ cond t (At n) Nowhere → e ≡ At q → (t ≡ true → itemEnd bs d p ≡ At n) → itemEnd bs d p ≡ At q
-  known-end d p true f g last = last refl ∙ sym f ∙ g
-  known-end d p {q = q} false f g last = absurd (let z : Nowhere ≡ At q = sym f ∙ g in let y : _≡_ {A = ℕ} 0 1 = cc in omega arith)
+  nowhere : {q : ℕ} → Nowhere ≡ At q → ⊥
+  nowhere {q} e = let y : _≡_ {A = ℕ} 0 1 = cc in omega arith
+
+  pub known-end : {q : ℕ} (t : Bool) {e end : End} → e ≡ cond t end Nowhere → e ≡ At q → (t ≡ true) × (end ≡ At q)
+  known-end true f g = (refl, sym f ∙ g)
+  known-end false f g = absurd (nowhere (sym f ∙ g))
 
   -- ---- the phases
 
-  pub kind-is : (a : ℕ) {kind b : ℕ} {n : Number} → n ≡ unsignedAt bs a → n ≡ Is kind b → UnsignedAt bs a kind b
+  kind-is : (a : ℕ) {kind b : ℕ} {n : Number} → n ≡ unsignedAt bs a → n ≡ Is kind b → UnsignedAt bs a kind b
   kind-is a e f = subst (Numbers (λ v q. UnsignedAt bs a v q)) (sym e ∙ f) (unsigned-sound bs a)
 
-  -- the array of a message has its elements up to the end, or up to its break
-  module _ (x : Extent) {a : ℕ} (w : verdict bs ≡ Whole (length bs)) (found : opensAt bs array 0 ≡ opening.At x a) where
-    o : Opens bs array 0 x a
-    o = subst (Openings (λ x a. Opens bs array 0 x a)) found (opens-sound bs array 0)
+  -- an array, whose first element is its kind
+  module _ {x : Extent} {a kind b : ℕ} (g : Begins bs x a kind b) where
+    array-opens : Opens bs array 0 x a
+    array-opens = subst (Openings (λ x a. Opens bs array 0 x a)) (g .1) (opens-sound bs array 0)
 
-    pub array-left : ItemsAt bs inMessage (countFrom bs x a) a (before x (length bs))
-    array-left =
-        let f = array-elements bs x o (whole-item bs w) in
-        let end : f .1 ≡ before x (length bs) = sym (before-past bs x (f .1)) ∙ ap (before x) (f .4) in
-        subst (λ (q : ℕ). ItemsAt bs inMessage (countFrom bs x a) a q) end
-        (subst⁻¹ (λ (k : ℕ). ItemsAt bs inMessage k a (f .1)) (count-is bs x o (f .2) (f .3)) (f .2))
+    pub kind-item : ItemAt bs inMessage a b
+    kind-item = number-item bs (kind-is a refl (g .2))
 
-    -- where an unsigned number opens it, it has an element
-    pub array-some : {v b : ℕ} → unsignedAt bs a ≡ Is v b → 0 < countFrom bs x a
-    array-some {v} {b} e =
-        let f = array-elements bs x o (whole-item bs w) in
-        let u = kind-is a refl e in
-        of (f .0) (count-is bs x o (f .2) (f .3)) (f .2) (f .3) (f .4) u
-      where
-        of : (k : ℕ) {q : ℕ} → countFrom bs x a ≡ k → ItemsAt bs inMessage k a q → Closes bs x k q → past x q ≡ length bs → UnsignedAt bs a v b
-            → 0 < countFrom bs x a
-        of zero n s c e u = absurd (no-elements bs x (no-items bs s) c e u)
-        of (suc k) n s c e u = omega arith
+  -- of definite length, it has one element less behind its kind, up to the end
+  definite-left : {k a kind b : ℕ} → Begins bs (Counted k) a kind b → ItemsAt bs inMessage (k - 1) b (length bs)
+  definite-left {k} {a} g =
+      let s = item-array bs (array-opens g) (whole-item bs (g .0)) in items-after (some-left k s) s (kind-item g)
+    where
+      some-left : (k : ℕ) → ItemsAt bs inMessage k a (length bs) → 0 < k
+      some-left zero s = absurd (omega (arith, no-items bs s, ahead bs (kind-item g), kind-item g .inside))
+      some-left (suc k) s = omega arith
 
-  -- and behind its kind one less
-  pub kind-left : (a : ℕ) {k kind b n : ℕ} {v : Number} → v ≡ unsignedAt bs a → v ≡ Is kind b → 0 < k → ItemsAt bs inMessage k a n
-      → ItemsAt bs inMessage (k - 1) b n
-  kind-left a e f h s = items-after h s (number-item bs (kind-is a e f))
+  -- of indefinite length, it has as many elements as are behind, and as stand from there up to its break
+  count-behind : {k a kind b r : ℕ} → Begins bs Open a kind b → ItemsAt bs inMessage k a r → countFrom bs Open a ≡ k + countFrom bs Open r
+  count-behind {k} {a} {r = r} g s =
+      let f = array-elements bs Open (array-opens g) (whole-item bs (g .0)) in
+      let few : k ≤ f .0 = at-most (f .0) (f .2) (f .3) in
+      let c = open-count bs (s .inside) (items-behind k few s (f .2)) (f .3) in
+      let all = open-count bs (omega (arith, s .forward, s .inside)) (f .2) (f .3) in
+      omega (arith, few, c, all)
+    where
+      at-most : (n : ℕ) {q : ℕ} → ItemsAt bs inMessage n a q → getD bs q 0 ≡ Break → k ≤ n
+      at-most n {q} t c = elim (decLt n k) [
+        | yes y ↦
+            let z : k - n ≡ suc (k - n - 1) = omega arith in
+            let h = first-item bs (subst (λ (j : ℕ). ItemsAt bs inMessage j q r) z (items-behind n (omega arith) t s)) in
+            absurd (item-no-break bs (h .1) c)
+        | no y ↦ omega arith
+      ]
+
+  -- so its count is told by its head, or where reading the fields stopped
+  told : (x : Extent) {a kind b c left r : ℕ} → Begins bs x a kind b → Stopped bs c b left r
+      → hasCount bs x (c + 1) left r ≡ eqb (countFrom bs x a) (c + 1)
+  told (Counted k) g s = refl
+  told Open {a} {c = c} {left = left} {r = r} g s =
+      let all : countFrom bs Open a ≡ suc (c - left) + countFrom bs Open r = count-behind g (item-then bs (kind-item g) (s .1)) in
+      elim (ℕ-discrete (countFrom bs Open r) left) [
+        | yes y ↦ eq-eqb (countFrom bs Open r) left y ∙ sym (eq-eqb (countFrom bs Open a) (c + 1) (omega (arith, all, y, s .0)))
+        | no y ↦ ne-eqb (countFrom bs Open r) left y ∙ sym (ne-eqb (countFrom bs Open a) (c + 1) (λ e. y (omega (arith, all, e, s .0))))
+      ]
+  told Rest g s = absurd (array-opens g)
+
+  -- and where its head tells it, its last element ends where the bytes end
+  last-told : (x : Extent) {a kind b c q : ℕ} → Begins bs x a kind b → lastEnd x (c + 1) (length bs) ≡ At q → ItemsAt bs inMessage c b q
+  last-told (Counted k) {b = b} {c = c} {q = q} g e =
+      let f = known-end (eqb k (c + 1)) refl e in
+      let z : k - 1 ≡ c = omega (arith, eqb-true k (c + 1) (f .0)) in
+      let y : length bs ≡ q = cc (f .1) in
+      subst (λ (j : ℕ). ItemsAt bs inMessage j b q) z (subst (λ (m : ℕ). ItemsAt bs inMessage (k - 1) b m) y (definite-left g))
+  last-told Open g e = absurd (nowhere e)
+  last-told Rest g e = absurd (nowhere e)
+
+  -- the same, where the code has the number of fields, k
+  module _ (x : Extent) {a kind b k c : ℕ} (is : k ≡ c) (g : Begins bs x a kind b) where
+    pub count-told : {left r : ℕ} {t : Bool} → t ≡ hasCount bs x (k + 1) left r → Stopped bs c b left r → t ≡ eqb (countFrom bs x a) (c + 1)
+    count-told {left} {r} e s = e ∙ ap (λ (k : ℕ). hasCount bs x (k + 1) left r) is ∙ told x g s
+
+    pub last-known : {n q : ℕ} {e : End} → length bs ≡ n → e ≡ lastEnd x (k + 1) n → e ≡ At q → ItemsAt bs inMessage c b q
+    last-known {n} long e f =
+        last-told x g (ap (lastEnd x (c + 1)) long ∙ ap (λ (k : ℕ). lastEnd x (k + 1) n) (sym is) ∙ sym e ∙ f)
 
   pub message-array : (p : Protocol) {x : Extent} {a : ℕ} {n : Opening} {r : Answer} → verdict bs ≡ Whole (length bs) → n ≡ opensAt bs array 0
       → n ≡ opening.At x a → r ≡ numberedOf p bs (countFrom bs x a) a → r ≡ messageOf p bs
@@ -192,9 +248,9 @@ module _ (bs : List ℕ) where
   pub form-unknown : (p : Protocol) (k kind b : ℕ) {w : Listed} → Finds p kind w → w ≡ Unknown → failed UnknownKind ≡ counted bs k kind b (formOf p kind)
   form-unknown p k kind b h e = ap (counted bs k kind b) (sym (subst (Finds p kind) e h))
 
-  pub count-right : (fs : List Field) (k kind b : ℕ) {r : Answer} → k ≡ length fs + 1 → r ≡ fieldsOf bs fs 1 b (begun kind)
-      → r ≡ counted bs k kind b (some fs)
-  count-right fs k kind b e g = g ∙ sym (rw (eq-eqb k (length fs + 1) e))
+  module _ (fs : List Field) (k kind b : ℕ) {t : Bool} (test : t ≡ eqb k (length fs + 1)) where
+    pub count-right : {r : Answer} → t ≡ true → r ≡ fieldsOf bs fs 1 b (begun kind) → r ≡ counted bs k kind b (some fs)
+    count-right e g = g ∙ sym (rw (sym test ∙ e))
 
-  pub count-wrong : (fs : List Field) (k kind b : ℕ) → (k ≡ length fs + 1 → ⊥) → failed WrongCount ≡ counted bs k kind b (some fs)
-  count-wrong fs k kind b e = sym (rw (ne-eqb k (length fs + 1) e))
+    pub count-wrong : t ≡ false → failed WrongCount ≡ counted bs k kind b (some fs)
+    count-wrong e = sym (rw (sym test ∙ e))

@@ -1,9 +1,9 @@
 -- T7: reading finds exactly the messages. Each field that matches is one item, so that the fields of a form and the
 -- elements of the array end at the same place.
 -- Assumes nothing.
-use Prim.Native.Nat.{ℕ, suc, _+_, _-_, _*_, _≤_, _<_}
+use Prim.Native.Nat.{ℕ, suc, _+_, _*_, _≤_}
 use mathlib.Core.Path.{_≡_, refl, sym, ap, subst, subst⁻¹, _∙_}
-use mathlib.Core.Bool.{true, false}
+use mathlib.Core.Bool.{true}
 use mathlib.Core.List.{List, [], _∷_}
 use mathlib.Core.Option.{Option, none, some}
 use native.Mathlib.Omega.{arith}
@@ -13,11 +13,10 @@ use lib.Seq.{drop-length}
 use borrow.Author.Tests.{eqb-true, eq-eqb}
 use Rattle.base.proofs.Conds.{cond-cases}
 use Rattle.head.specs.Read.{headAt}
-use Rattle.head.proofs.ReadLaws.{definite-within}
 use Rattle.head.specs.declared.read.Head.the-variants as head
 use Rattle.item.specs.declared.Verdict.{Verdict}
 use Rattle.item.specs.declared.Verdict.the-variants.{Whole, Bad, Incomplete}
-use Rattle.item.specs.Grammar.{One, Items, Reads, item, nesting}
+use Rattle.item.specs.Grammar.{One, Items, nesting}
 use Rattle.item.specs.Verdict.{verdict}
 use Rattle.item.proofs.Parts.{whole-reads, reads-whole}
 use Rattle.item.proofs.Theorem.{one-end}
@@ -36,17 +35,16 @@ use Rattle.messages.specs.declared.Message.{Message}
 use Rattle.messages.specs.declared.Answer.{Answer}
 use Rattle.messages.specs.Forms.{formOf}
 use Rattle.elements.specs.Besides.Matching.{Value, number, place, ItemAt, ItemsAt, UnsignedAt, Opens, Closes, FieldAt}
-use Rattle.elements.specs.Matching.{past, array, inMessage}
+use Rattle.elements.specs.Matching.{Break, past, array, inMessage}
 use Rattle.messages.specs.Besides.Matching.{FieldsAt, no-field, a-field, Matches, saying, saidAll, messageFrom}
 use Rattle.messages.specs.Matching.{begun, withNumber, withPlace}
-use Rattle.elements.specs.Matching as matching
 use Rattle.elements.specs.Reading.{onEnd, unsignedAt, opensAt, elementsOf, partOf}
 use Rattle.messages.specs.Reading.{failed, read, behind, withPart, fieldsOf, counted, wholly, numberedOf, countFrom, messageOf}
 use Rattle.messages.specs.Besides.Theorem.{Says, ReadsForms, OneMatch, MessageIsItem}
-use Rattle.elements.proofs.ElementLaws.{number-cases, opening-cases, unsigned-sound, opens-sound, unsigned-found, opens-found, opens-within, number-item, head-no-break, array-elements, items-elements, elements-found, list-item, none-at, item-then, Parts, part-sound, got, part-found, field-item}
+use Rattle.elements.proofs.ElementLaws.{number-cases, opening-cases, unsigned-sound, opens-sound, unsigned-found, opens-found, opens-within, number-item, array-elements, items-elements, elements-found, list-item, none-at, item-then, Parts, part-sound, got, part-found, field-item}
 
 module _ (bs : List ℕ) where
-  pub fields-items : {fs : List Field} {p q : ℕ} {xs : List Value} → p ≤ length bs → FieldsAt bs fs p xs q → ItemsAt bs inMessage (length fs) p q
+  fields-items : {fs : List Field} {p q : ℕ} {xs : List Value} → p ≤ length bs → FieldsAt bs fs p xs q → ItemsAt bs inMessage (length fs) p q
   fields-items h no-field = none-at bs h
   fields-items h (a-field x r) = let i = field-item bs x in item-then bs i (fields-items (i .inside) r)
 
@@ -114,19 +112,16 @@ module _ (bs : List ℕ) where
       subst (λ (k : ℕ). ItemsAt bs inMessage k a q) e (item-then bs n (fields-items (n .inside) r))
 
   -- an array's count, by what is in it
-  pub count-is : (x : Extent) {a k q : ℕ} → Opens bs array 0 x a → ItemsAt bs inMessage k a q → Closes bs x k q → countFrom bs x a ≡ k
-  count-is (Counted n) o s c = sym c
-  count-is Open {a} {k} {q} o s c =
+  pub open-count : {a k q : ℕ} → a ≤ length bs → ItemsAt bs inMessage k a q → getD bs q 0 ≡ Break → countFrom bs Open a ≡ k
+  open-count {a} {k} {q} h s c =
       let found : elementsOf bs inMessage element.Item Open a ≡ Is k q =
-      elements-found bs inMessage element.Item Open (opens-within bs array 0 Open (omega arith) o .1) (items-elements bs k 0 s) c in
+      elements-found bs inMessage element.Item Open h (items-elements bs k 0 s) c in
       rw found
-  count-is Rest o s c = absurd o
 
-  -- an unsigned number does not stand behind the last element
-  pub no-elements : (x : Extent) {a v b q : ℕ} → a ≡ q → Closes bs x 0 q → past x q ≡ length bs → UnsignedAt bs a v b → ⊥
-  no-elements (Counted n) {a} e c w u = let d = definite-within bs a u in omega (arith, d .0, d .1)
-  no-elements Open {a} e c w u = head-no-break bs a u (ap (λ (n : ℕ). getD bs n 0) e ∙ c)
-  no-elements Rest {a} e c w u = let d = definite-within bs a u in omega (arith, d .0, d .1)
+  count-is : (x : Extent) {a k q : ℕ} → Opens bs array 0 x a → ItemsAt bs inMessage k a q → Closes bs x k q → countFrom bs x a ≡ k
+  count-is (Counted n) o s c = sym c
+  count-is Open o s c = open-count (opens-within bs array 0 Open (omega arith) o .1) s c
+  count-is Rest o s c = absurd o
 
   failing : {r : Reading} {n : Message} → failed r ≡ read n → r ≡ Read
   failing e = ap (λ (a : Answer). a .reading) e

@@ -1,6 +1,6 @@
 -- What reading a message answers, in phases.
 use Prim.Native.Nat.{ℕ, _+_}
-use mathlib.Core.Bool.{Bool, cond, false}
+use mathlib.Core.Bool.{Bool, true, false, cond}
 use mathlib.Core.List.{List, [], _∷_}
 use mathlib.Core.Option.{Option, none, some}
 use lib.Dec.{eqb}
@@ -65,7 +65,7 @@ countFrom bs (Counted n) a = n
 countFrom bs Open a = onNumber 0 (elementsOf bs inMessage element.Item Open a) (λ k q. k)
 countFrom bs Rest a = 0
 
--- The bytes are exactly one item.
+-- The bytes are exactly one item. Where they are bad, the verdict has the offset; put and build have no use for it (K3).
 abbrev pub wholly : Verdict → ℕ → Bool
 wholly (Whole q) n = eqb q n
 wholly (Bad q) n = false
@@ -79,13 +79,13 @@ messageOf p bs =
     (onOpening (failed NotArray) (opensAt bs array 0) (λ x a. numberedOf p bs (countFrom bs x a) a))
     (failed NotArray)
 
--- Document 01's number for each case.
-abbrev pub readingNumber : Reading → ℕ
-readingNumber Read = 0
-readingNumber NotArray = 15
-readingNumber UnknownKind = 15
-readingNumber WrongCount = 15
-readingNumber (WrongField i) = 15
+-- The bytes are a message.
+abbrev pub isRead : Reading → Bool
+isRead Read = true
+isRead NotArray = false
+isRead UnknownKind = false
+isRead WrongCount = false
+isRead (WrongField i) = false
 
 -- RequestTxIds counts as two messages by its bool: the flag by which the rows tell them apart.
 unfoldable pub flagOf : Protocol → Message → ℕ

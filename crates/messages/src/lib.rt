@@ -1,8 +1,8 @@
 // Messages: the forms of document 01 and of K1, and reading a message's kind, numbers and places.
 //
-// Taking and putting read by the same function. It goes in phases, so that a reader can tell them apart: an array that
-// an unsigned number opens; a known kind; the count of elements; the fields from left to right. Only an array of indefinite length has
-// its elements counted before its fields are read.
+// Taking and putting read by the same function. It answers in phases, so that a reader can tell them apart: an array that an unsigned
+// number opens; a known kind; the count of elements; the fields from left to right. The fields are read before the count is told, so that no
+// list is walked to be counted: the head of the array says the count, or only the elements are counted that are left where the fields stop.
 pub mod forms;
 
 use elements::Element;
@@ -18,7 +18,7 @@ use rows::Protocol;
 ghost use mathlib.Core.Path.{_≡_};
 ghost use mathlib.Core.Bool.{cond};
 ghost use mathlib.Core.Option.{some};
-ghost use Prim.Native.Nat.{ℕ, _-_, _≤_, _<_};
+ghost use Prim.Native.Nat.{ℕ, _≤_, _<_};
 ghost use lib.Dec.{eqb};
 ghost use lib.ListN.{length, getD, set};
 ghost use Rattle.ring.specs.Inside.{around};
@@ -26,11 +26,11 @@ ghost use Rattle.item.specs.declared.Verdict.the-variants.{Whole};
 ghost use Rattle.item.specs.Verdict.{verdict};
 ghost use Rattle.elements.specs.Besides.Matching.{ItemsAt};
 ghost use Rattle.elements.specs.Matching.{array, inMessage};
-ghost use Rattle.elements.specs.Reading.{unsignedAt, opensAt};
+ghost use Rattle.elements.specs.Reading.{opensAt};
 ghost use Rattle.messages.specs.Matching.{begun, withNumber, withPlace};
-ghost use Rattle.messages.specs.Reading.{failed, withPart, behind, fieldsOf, counted, numberedOf, countFrom, messageOf, readingNumber, flagOf};
+ghost use Rattle.messages.specs.Reading.{failed, withPart, behind, fieldsOf, counted, numberedOf, countFrom, messageOf, isRead, flagOf};
 ghost use Rattle.messages.specs.Forms.{formOf};
-ghost use Rattle.messages.specs.Inside.{formCount, formAt};
+ghost use Rattle.messages.specs.Inside.{formCount, formAt, Begins, Stopped, lastEnd, hasCount};
 
 // What reading comes to.
 pub enum Reading {
@@ -65,6 +65,13 @@ pub struct Message {
 pub struct Answer {
     pub reading: Reading,
     pub message: Message,
+}
+
+// What reading the fields answers, and where it stopped: how many fields are left, a wrong one included, and the place.
+struct Stop {
+    answer: Answer,
+    left: u64,
+    at: usize,
 }
 
 // The numbers, and the places, with one set. No form has more of them than there is room for.
@@ -169,106 +176,55 @@ fn behind_of(part: Part) -> End
     }
 }
 
-// The fields of the form in a row, from left to right, the first of them at the place `first`, up to the place `end`.
-fn fields(
-    s: &[u8],
-    from: usize,
-    n: usize,
-    row: usize,
-    kind: u64,
-    first: usize,
-    end: usize,
-) -> Answer
-    requires { ⌜ (from ≤ length (now s)) × (n ≤ length (now s)) × (row < formCount) ⌝ }
-    requires { ⌜ ItemsAt (around (now s) from n) inMessage (length (formAt row .fields)) first end ⌝ }
-    ensures { λ r. ⌜ r ≡ fieldsOf (around (now (s .entry)) from n) (formAt row .fields) 1 first (begun kind) ⌝ }
+// Where a field ends, if it is the last and that is known of the last.
+fn end_if_last(last: bool, end: End) -> End
+    ensures { λ r. ⌜ r ≡ cond last end End.Nowhere ⌝ }
+{
+    if last {
+        return end;
+    }
+    End::Nowhere
+}
+
+// The fields of the form in a row, from left to right, the first of them at the place `first`; `end` is where the last ends, if
+// that is known.
+fn fields(s: &[u8], from: usize, n: usize, row: usize, kind: u64, first: usize, end: End) -> Stop
+    requires { ⌜ (from ≤ length (now s)) × (n ≤ length (now s)) × (row < formCount) × (first ≤ n) ⌝ }
+    requires { ⌜ ((q : ℕ) → end ≡ End.At q → ItemsAt (around (now s) from n) inMessage (length (formAt row .fields)) first q) ⌝ }
+    ensures { λ r. ⌜ (r .answer ≡ fieldsOf (around (now (s .entry)) from n) (formAt row .fields) 1 first (begun kind)) × Stopped (around (now (s .entry)) from n) (length (formAt row .fields)) first (r .left) (r .at) ⌝ }
 {
     let count = forms::fields(row);
     let mut message = begin(kind);
     let mut at = first;
     let mut i: usize = 0;
     while i < count {
-        let known = elements::end_if(i + 1 == count, end);
+        let known = end_if_last(i + 1 == count, end);
         let part = elements::part_at(s, from, n, forms::field_at(row, i), at, known);
         let e = behind_of(part);
         let End::At(q) = e else {
-            return fail(Reading::WrongField((i + 1) as u64));
+            let answer = fail(Reading::WrongField((i + 1) as u64));
+            return Stop {
+                answer,
+                left: (count - i) as u64,
+                at,
+            };
         };
         message = with_part(message, part);
         at = q;
         i += 1;
     }
-    Answer {
+    let answer = Answer {
         reading: Reading::Read,
         message,
+    };
+    Stop {
+        answer,
+        left: 0,
+        at,
     }
 }
 
-// The form of the kind, and whether the array of so many elements has as many as it.
-fn formed(
-    p: Protocol,
-    s: &[u8],
-    from: usize,
-    n: usize,
-    count: u64,
-    kind: u64,
-    next: usize,
-    end: usize,
-) -> Answer
-    requires { ⌜ (from ≤ length (now s)) × (n ≤ length (now s)) ⌝ }
-    requires { ⌜ ItemsAt (around (now s) from n) inMessage (count - 1) next end ⌝ }
-    ensures { λ r. ⌜ r ≡ counted (around (now (s .entry)) from n) count kind next (formOf p kind) ⌝ }
-{
-    let form = forms::find(p, kind);
-    match form {
-        Listed::Row(row) => filled(s, from, n, row, count, kind, next, end),
-        Listed::Unknown => fail(Reading::UnknownKind),
-    }
-}
-
-// The same of the form in a row.
-fn filled(
-    s: &[u8],
-    from: usize,
-    n: usize,
-    row: usize,
-    count: u64,
-    kind: u64,
-    next: usize,
-    end: usize,
-) -> Answer
-    requires { ⌜ (from ≤ length (now s)) × (n ≤ length (now s)) × (row < formCount) ⌝ }
-    requires { ⌜ ItemsAt (around (now s) from n) inMessage (count - 1) next end ⌝ }
-    ensures { λ r. ⌜ r ≡ counted (around (now (s .entry)) from n) count kind next (some (formAt row .fields)) ⌝ }
-{
-    if count == forms::fields(row) as u64 + 1 {
-        return fields(s, from, n, row, kind, next, end);
-    }
-    fail(Reading::WrongCount)
-}
-
-// The kind, which opens the array of so many elements.
-fn numbered(
-    p: Protocol,
-    s: &[u8],
-    from: usize,
-    n: usize,
-    count: u64,
-    first: usize,
-    end: usize,
-) -> Answer
-    requires { ⌜ (from ≤ length (now s)) × (n ≤ length (now s)) ⌝ }
-    requires { ⌜ ItemsAt (around (now s) from n) inMessage count first end × ((v b : ℕ) → unsignedAt (around (now s) from n) first ≡ Number.Is v b → 0 < count) ⌝ }
-    ensures { λ r. ⌜ r ≡ numberedOf p (around (now (s .entry)) from n) count first ⌝ }
-{
-    let kind = elements::unsigned_at(s, from, n, first);
-    match kind {
-        Number::Is(k, next) => formed(p, s, from, n, count, k, next, end),
-        Number::Not => fail(Reading::NotArray),
-    }
-}
-
-// How many elements stand in an array of indefinite length: as many as are in front of its break.
+// How many elements stand in an array of indefinite length from a place on: as many as are in front of its break.
 fn count_open(s: &[u8], from: usize, n: usize, first: usize) -> u64
     requires { ⌜ (from ≤ length (now s)) × (n ≤ length (now s)) ⌝ }
     ensures { λ r. ⌜ r ≡ countFrom (around (now (s .entry)) from n) Extent.Open first ⌝ }
@@ -280,26 +236,85 @@ fn count_open(s: &[u8], from: usize, n: usize, first: usize) -> u64
     }
 }
 
-// How many elements the array has.
-fn count_from(s: &[u8], from: usize, n: usize, x: Extent, first: usize) -> u64
-    requires { ⌜ (from ≤ length (now s)) × (n ≤ length (now s)) ⌝ }
-    ensures { λ r. ⌜ r ≡ countFrom (around (now (s .entry)) from n) x first ⌝ }
+// Where the last of so many elements ends, if the head of their array says that it has so many: where the bytes end.
+fn last_end(x: Extent, count: u64, n: usize) -> End
+    ensures { λ r. ⌜ r ≡ lastEnd x count n ⌝ }
 {
     match x {
-        Extent::Counted(count) => count,
-        Extent::Open => count_open(s, from, n, first),
-        Extent::Rest => 0,
+        Extent::Counted(k) => elements::end_if(k == count, n),
+        Extent::Open => End::Nowhere,
+        Extent::Rest => End::Nowhere,
     }
 }
 
-// The message whose array is of this extent, its first element at a place.
+// Whether the array has so many elements: its head says so, or from the place `at` on as many stand up to its break as are left.
+fn has_count(s: &[u8], from: usize, n: usize, x: Extent, count: u64, left: u64, at: usize) -> bool
+    requires { ⌜ (from ≤ length (now s)) × (n ≤ length (now s)) ⌝ }
+    ensures { λ r. ⌜ r ≡ hasCount (around (now (s .entry)) from n) x count left at ⌝ }
+{
+    match x {
+        Extent::Counted(k) => k == count,
+        Extent::Open => count_open(s, from, n, at) == left,
+        Extent::Rest => false,
+    }
+}
+
+// The fields of the form in a row, and whether the array has as many elements as it.
+fn filled(
+    s: &[u8],
+    from: usize,
+    n: usize,
+    row: usize,
+    x: Extent,
+    first: usize,
+    kind: u64,
+    next: usize,
+) -> Answer
+    requires { ⌜ (from ≤ length (now s)) × (n ≤ length (now s)) × (row < formCount) ⌝ }
+    requires { ⌜ Begins (around (now s) from n) x first kind next ⌝ }
+    ensures { λ r. ⌜ r ≡ counted (around (now (s .entry)) from n) (countFrom (around (now (s .entry)) from n) x first) kind next (some (formAt row .fields)) ⌝ }
+{
+    let count = forms::fields(row) as u64 + 1;
+    let stop = fields(s, from, n, row, kind, next, last_end(x, count, n));
+    if has_count(s, from, n, x, count, stop.left, stop.at) {
+        return stop.answer;
+    }
+    fail(Reading::WrongCount)
+}
+
+// The form of the kind.
+fn formed(
+    p: Protocol,
+    s: &[u8],
+    from: usize,
+    n: usize,
+    x: Extent,
+    first: usize,
+    kind: u64,
+    next: usize,
+) -> Answer
+    requires { ⌜ (from ≤ length (now s)) × (n ≤ length (now s)) ⌝ }
+    requires { ⌜ Begins (around (now s) from n) x first kind next ⌝ }
+    ensures { λ r. ⌜ r ≡ counted (around (now (s .entry)) from n) (countFrom (around (now (s .entry)) from n) x first) kind next (formOf p kind) ⌝ }
+{
+    let form = forms::find(p, kind);
+    match form {
+        Listed::Row(row) => filled(s, from, n, row, x, first, kind, next),
+        Listed::Unknown => fail(Reading::UnknownKind),
+    }
+}
+
+// The kind, which opens the array of this extent, its first element at a place.
 fn opened(p: Protocol, s: &[u8], from: usize, n: usize, x: Extent, first: usize) -> Answer
     requires { ⌜ (from ≤ length (now s)) × (n ≤ length (now s)) × (verdict (around (now s) from n) ≡ Whole n) ⌝ }
     requires { ⌜ opensAt (around (now s) from n) array 0 ≡ Opening.At x first ⌝ }
     ensures { λ r. ⌜ r ≡ numberedOf p (around (now (s .entry)) from n) (countFrom (around (now (s .entry)) from n) x first) first ⌝ }
 {
-    let count = count_from(s, from, n, x, first);
-    numbered(p, s, from, n, count, first, elements::before_of(x, n))
+    let kind = elements::unsigned_at(s, from, n, first);
+    match kind {
+        Number::Is(k, next) => formed(p, s, from, n, x, first, k, next),
+        Number::Not => fail(Reading::NotArray),
+    }
 }
 
 // Reads the n bytes from the place `from` on of a slice seen as a ring, which are exactly one item within the nesting.
@@ -314,16 +329,16 @@ pub fn read(p: Protocol, s: &[u8], from: usize, n: usize) -> Answer
     }
 }
 
-// Document 01's number for each case.
-pub fn number_of(reading: Reading) -> u64
-    ensures { λ r. ⌜ r ≡ readingNumber reading ⌝ }
+// Whether the bytes are a message.
+pub fn is_read(reading: Reading) -> bool
+    ensures { λ r. ⌜ r ≡ isRead reading ⌝ }
 {
     match reading {
-        Reading::Read => 0,
-        Reading::NotArray => 15,
-        Reading::UnknownKind => 15,
-        Reading::WrongCount => 15,
-        Reading::WrongField(_) => 15,
+        Reading::Read => true,
+        Reading::NotArray => false,
+        Reading::UnknownKind => false,
+        Reading::WrongCount => false,
+        Reading::WrongField(_) => false,
     }
 }
 

@@ -7,7 +7,7 @@ use native.Mathlib.Omega.{arith}
 use lib.Dec.{eqb, eqb→eq}
 use lib.ListN.{getD, getD-replicate}
 use borrow.Author.Tests.{eq-eqb}
-use Rattle.base.proofs.Conds.{by-test, so, is, and-left, and-right}
+use Rattle.base.proofs.Conds.{by-test, so, is, and-left, and-right, exactly-when}
 use Rattle.wire.specs.Instances.{instances, most}
 use Rattle.wire.proofs.InstanceLaws.{at-most, at-least}
 use Rattle.connection.specs.declared.Settings.{Settings}
@@ -17,7 +17,7 @@ use Rattle.range.specs.declared.Range.{Range}
 use Rattle.range.specs.Inside.{Spans}
 use Rattle.range.proofs.RangeLaws.{settings-set, set-settings, ranged, in-range, and-so}
 use Rattle.opening.specs.Openings.{fresh, openOf}
-use Rattle.opening.specs.Besides.Numbers.{Opens, OpenNumbers, OpenExactly, Opening}
+use Rattle.opening.specs.Besides.Numbers.{Opens, When, out-of-range, done, Exactly, Opening}
 
 -- ---- the record that settings become
 
@@ -71,17 +71,28 @@ opens s n m e =
 passes : (s : Settings) (n m : ℕ) → Opens s n m → tested s n m ≡ true
 passes s n m (a, b, c) = rw (a, eq-eqb n (receiveLength s) b, eq-eqb m (sendLength s) c)
 
-by-tested : (s : Settings) (n m : ℕ) (t : Bool) → tested s n m ≡ t → OpenNumbers s n m
-unfolding openOf
-by-tested s n m true e =
-    let o = opens s n m e in
-    record { n0 = (λ q. o, λ q. rw e); n23 = (λ q. absurd (omega (arith, rw e at q)), λ q. absurd (q o)); zeros = λ q. absurd (q o) }
-by-tested s n m false e =
-    let no : Opens s n m → ⊥ = λ q. true≢false (sym (passes s n m q) ∙ e) in
-    record { n0 = (λ q. absurd (omega (arith, rw e at q)), λ q. absurd (no q)); n23 = (λ q. no, λ q. rw e); zeros = λ q. rw e }
+fails : (s : Settings) (n m : ℕ) → (Opens s n m → ⊥) → tested s n m ≡ false
+fails s n m unfit = by-test (tested s n m) (λ t. absurd (unfit (opens s n m t))) (λ t. t)
 
-pub open-exactly : OpenExactly
-open-exactly s n m = by-tested s n m (tested s n m) refl
+answered : (s : Settings) (n m : ℕ) {k : ℕ} → When s n m k → openOf s n m .number ≡ k
+unfolding openOf
+answered s n m (out-of-range unfit) = rw (fails s n m unfit)
+answered s n m (done o) = rw (passes s n m o)
+
+when : (s : Settings) (n m : ℕ) → (k : ℕ) × When s n m k
+when s n m =
+    by-test (tested s n m) (λ t. (0, done (opens s n m t))) (λ t. (23, out-of-range (λ o. true≢false (sym (passes s n m o) ∙ t))))
+
+pub exactly : Exactly
+exactly s n m k = let (j, w) = when s n m in exactly-when (When s n m) (answered s n m w) w (answered s n m)
+
+-- with 0, settings in range and stores as long as they say
+pub opens-done : (s : Settings) (n m : ℕ) → openOf s n m .number ≡ 0 → Opens s n m
+opens-done s n m q = of (exactly s n m 0 .0 q) refl
+  where
+    of : {k : ℕ} → When s n m k → k ≡ 0 → Opens s n m
+    of (out-of-range unfit) z = absurd (omega arith)
+    of (done o) z = o
 
 -- ---- what open leaves
 
@@ -89,8 +100,9 @@ pub opening : Opening
 unfolding openOf settingsOk inRange
 opening =
     record {
+      zeros = λ s n m q. let unfit : Opens s n m → ⊥ = λ o. q (rw (passes s n m o)) in rw (fails s n m unfit);
       opened = λ s n m q.
-          let o = open-exactly s n m .n0 .0 q in
+          let o = opens-done s n m q in
           rw (passes s n m o) (fresh-ranged s (o .0));
       refused = refl;
     }

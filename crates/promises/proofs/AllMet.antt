@@ -45,11 +45,10 @@ use Rattle.judging.specs.Besides.Judging.{leadsTo}
 use Rattle.taking.specs.Taking as taking
 use Rattle.putting.specs.Putting as putting
 use Rattle.sending.specs.NextSegment.{serve, nextOf}
-use Rattle.promises.specs.Trace.{run, trace}
-use Rattle.promises.specs.Calls.{Call, feed, take, put, next, World, step, AllReal, Opened, first}
+use Rattle.promises.specs.Calls.{Call, feed, take, put, next, World, step, run, AllReal, Opened, first}
+use Rattle.promises.specs.Effects.{Act, gave, did, bytesIn, acts, segments}
 use Rattle.promises.specs.Reached.{waits}
-use Rattle.promises.specs.Fairness.{segments}
-use Rattle.promises.specs.History.{Act, gave, bytesIn, acts, handed, handedFor}
+use Rattle.promises.specs.History.{handed, handedFor}
 use Rattle.promises.specs.Besides.Arrival.{End, Parts, buildWith, Due, holding}
 use Rattle.promises.specs.Besides.Met.{AllMet}
 
@@ -173,10 +172,10 @@ abbrev facts : ℕ → Facts
 facts b =
     let n = length (storeOf b) in
     let d = firstOf b Dialler in
-    let past = trace step d (before ++ behind) in
-    let w = run step d before in
-    let there = trace step (firstOf b Accepter) (answering b) in
-    let v = run step (firstOf b Accepter) (answering b) in
+    let past = did d (before ++ behind) in
+    let w = run d before in
+    let there = did (firstOf b Accepter) (answering b) in
+    let v = run (firstOf b Accepter) (answering b) in
     let j = pairOf b 1 in
     let view = taking.seen (v .connection) (v .receive) j in
     let r = buildWith b 1 find-intersect (replicate 33 0) in
@@ -198,8 +197,8 @@ facts b =
       built = r .answer .number;
       front = lists.take (r .answer .len) (r .buffer);
       waits = waits w 1;
-      made = length (segments (trace step w behind));
-      closing = closingOf (run step d ((before ++ behind) ++ (feed fault ∷ [])) .connection .gate);
+      made = length (segments (did w behind));
+      closing = closingOf (run d ((before ++ behind) ++ (feed fault ∷ [])) .connection .gate);
     }
 
 abbrev wire : ℕ → List ℕ
@@ -235,7 +234,7 @@ unfolding segment pieces allBelow spelled octets baseOf laid stream headAt headB
     opensAt itemEnd keyAt versionAt elementAt walk partOf fieldsOf numberedOf messageOf flagOf build.made build.encoded given bytesOf buildOf
     wordOf countOf lowestFrom seek settingsOk inRange openOf ours judgedOf said heard taking.hand taking.takeOf putting.queue putting.putOf serve nextOf
     feeding.feedOf feeding.feedOpen feeding.used feeding.fed feeding.step feeding.kept feeding.headed feeding.admission
-    run trace step segments bytesIn acts handed handedFor flatMap flatten
+    run did step segments bytesIn acts handed handedFor flatMap flatten
 computed zero k = refl
 computed (suc zero) k = refl
 computed (suc (suc b)) k = absurd (let h : suc (suc b) < length bundles = ltb-true (suc (suc b)) (length bundles) k in omega arith)

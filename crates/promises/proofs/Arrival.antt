@@ -20,8 +20,9 @@ use Rattle.rows.specs.Spoken.{spoken, speaks}
 use Rattle.messages.specs.Reading.{messageOf}
 use Rattle.judging.specs.Besides.Judging.{leadsTo}
 use Rattle.taking.specs.Taking.{seen}
-use Rattle.promises.specs.Fairness.{queue, segments}
-use Rattle.promises.specs.History.{gave, putBy, putFor, handedFor, receivedIn}
+use Rattle.promises.specs.Effects.{gave, segments}
+use Rattle.promises.specs.Fairness.{queue}
+use Rattle.promises.specs.History.{putBy, putFor, handedFor, receivedIn}
 use Rattle.connection.specs.declared.Settings.{Settings}
 use Rattle.promises.specs.Besides.Arrival.{End, facing, pastOf, worldOf, holding, Glued, AllThere, Journey}
 use Rattle.promises.proofs.Reached.{in-range-for-ever}

@@ -10,7 +10,7 @@ use borrow.Author.Tests.{eq-eqb, ne-eqb, eqb-true, eqb-false}
 use lib.Dec.{eqb}
 use lib.ListN.{length, take, drop, length-append, length-drop, take-append-drop}
 use lib.Seq.{length-take-le, take-at, drop-at, take-append-le, drop-append-le}
-use Rattle.base.proofs.Conds.{by-test, cond-cases}
+use Rattle.base.proofs.Conds.{by-test}
 use Rattle.ring.proofs.Stores.{stream-length}
 use Rattle.wire.specs.declared.segment.Segment.{Segment}
 use Rattle.wire.specs.declared.instances.Party.{Party}
@@ -21,18 +21,17 @@ use Rattle.wire.specs.Instances.{instances, protocolOf, modeOf, routeOf}
 use Rattle.wire.specs.Besides.Instances.{otherOf, pairOf}
 use Rattle.wire.proofs.InstanceLaws.{one-way}
 use Rattle.connection.specs.declared.Settings.{Settings}
-use Rattle.sending.specs.NextSegment.{nextOf}
-use Rattle.promises.specs.Trace.{All, event, trace}
-use Rattle.promises.specs.Calls as calls
-use Rattle.promises.specs.Calls.{Call, World, step, Real, AllReal, Opened, first}
-use Rattle.promises.specs.Reached.{Reached, waits}
-use Rattle.promises.specs.Fairness.{queue, segmentOf, segments, header, payload, isOf, sentBy}
+use Rattle.promises.specs.Calls.{Call, World, All, AllReal, Opened, first}
+use Rattle.promises.specs.Effects.{Effect, did, segmentOf, segments}
+use Rattle.promises.specs.Reached.{waits}
+use Rattle.promises.specs.Fairness.{queue, header, payload, isOf, sentBy}
 use Rattle.promises.specs.History.{isFor, payloadFor, receivedIn, Segmented}
 use Rattle.promises.proofs.FairSent.{of-same, of-other}
 use Rattle.promises.proofs.HistoryLaws.{all-append, segments-next}
 use Rattle.promises.proofs.HistoryLayout.{for-append, received-head, received-in}
 use Rattle.promises.proofs.HistoryRuns.{along}
-use Rattle.promises.proofs.HistorySends.{segmented}
+use Rattle.promises.proofs.Effects.{Good, Leaves, still, shut, feeds, faults, hands, queues, serves}
+use Rattle.promises.proofs.HistorySends.{segmented-by}
 
 -- ---- segments as they are made
 
@@ -59,23 +58,23 @@ made-of s w time bs k =
       told = told ∙ sym (ap (λ (h : Segment). h .len) (k .reads));
     }
 
-made-call : (s : Settings) (w : World) (c : Call) → Real c → Reached s w → All (Made (s .party)) (segmentOf (step w c .answer))
-unfolding step
-made-call s w (calls.feed xs) real k = tt
-made-call s w (calls.take i buf) real k = tt
-made-call s w (calls.put i xs) real k = tt
-made-call s w (calls.next time buf) real k =
-    let r = nextOf (w .connection) (w .send) time buf in
-    let bs : List ℕ = take (r .answer .len) (r .buffer) in
-    cond-cases (All (Made (s .party))) (eqb (r .answer .number) 0) (λ t. (made-of s w time bs (segmented s w time buf k real bs (rw t)), tt)) (λ t. tt)
-made-call s w calls.status real k = tt
+made-by : (w : World) → Good w → {real : Type 0} {e : Effect} {w′ : World} → real → Leaves w real e w′
+    → All (Made (w .connection .settings .party)) (segmentOf e)
+made-by w g real still = tt
+made-by w g real (shut o) = tt
+made-by w g real (feeds xs o spelt) = tt
+made-by w g real (faults n i) = tt
+made-by w g real (hands i n to m buf q fits long front) = tt
+made-by w g real (queues i to m xs q o free short room) = tt
+made-by w g real (serves i time bs o who q) =
+    (made-of (w .connection .settings) w time bs (segmented-by w g real (serves i time bs o who q)), tt)
 
 pub all-made : {s : Settings} {receive send : List ℕ} → Opened s receive send → (cs : List Call) → AllReal cs
-    → All (Made (s .party)) (segments (trace step (first s receive send) cs))
+    → All (Made (s .party)) (segments (did (first s receive send) cs))
 unfolding segments flatMap
-all-made {s} opened cs real =
-    along opened (λ past w. All (Made (s .party)) (segments past))
-    (λ past w c r k k′ t. rw (segments-next past (event step w c)) (all-append (Made (s .party)) (segments past) _ t (made-call s w c r k))) cs real tt
+all-made opened cs real =
+    along (λ s past w. All (Made (s .party)) (segments past))
+    (λ past w g real e w′ r l t. rw (segments-next past e) (all-append (Made (w .connection .settings .party)) (segments past) _ t (made-by w g r l))) opened cs real tt
 
 -- ---- where they lead
 

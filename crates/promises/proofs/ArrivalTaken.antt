@@ -118,9 +118,9 @@ numbers-few (place a l ∷ xs) = omega (arith, numbers-few xs)
 
 -- ---- the take
 
-same-answer : {n n′ len len′ : ℕ} {m m′ : Message} {b b′ : List ℕ} → n ≡ n′ → len ≡ len′ → m ≡ m′ → b ≡ b′
-    → calls.taken n len m b ≡ calls.taken n′ len′ m′ b′
-same-answer p q r t = rw (p, q, r, t)
+same-answer : {n n′ len len′ at at′ : ℕ} {m m′ : Message} {b b′ : List ℕ} → n ≡ n′ → len ≡ len′ → at ≡ at′ → m ≡ m′ → b ≡ b′
+    → _≡_ {A = ℕ × calls.Taken} (n, calls.taken len at m b) (n′, calls.taken len′ at′ m′ b′)
+same-answer p q o r t = rw (p, q, o, r, t)
 
 -- the first bytes held spell one message, and a take answered 0 tells it
 tells-it : (c : Connection) (store : List ℕ) (i : ℕ) (lent : List ℕ) (n : ℕ) (m : Message) (next : ℕ) → Spells (taking.seen c store i) n m next
@@ -136,7 +136,7 @@ tells-it c store i lent n m next s z =
 takes-it : (w : World) (i : ℕ) (bs lent : List ℕ) (m : Message) (next : ℕ) → InReceive (w .connection) (w .receive) i
     → Awaited (taking.seen (w .connection) (w .receive) i) → take (length bs) (holding w i) ≡ bs → Item nesting bs
     → Says (speaks (w .connection .settings .party .bundle) i) bs m → leadsTo (taking.seen (w .connection) (w .receive) i) m ≡ To next
-    → length bs ≤ length lent → step w (calls.take i lent) .answer ≡ calls.taken 0 (length bs) m (bs ++ drop (length bs) lent)
+    → length bs ≤ length lent → step w (calls.take i lent) .answer ≡ (0, calls.taken (length bs) 0 m (bs ++ drop (length bs) lent))
 unfolding step
 takes-it w i bs lent m next asked awaited held it says row room =
     let c = w .connection in
@@ -152,7 +152,7 @@ takes-it w i bs lent m next asked awaited held it says row room =
     let number : taking.takeOf c store i lent .answer .number ≡ 0 = taking-laws.exactly c store i lent 0 .1 (done asked spells room) in
     let (len, message) = tells-it c store i lent n m next spells number in
     let at : 0 + n ≡ n = omega arith in
-    same-answer number len message
+    same-answer number len (taking-laws.which-byte-taken c store i lent .else-none (λ z. omega arith)) message
     (taking-laws.leaves c store i lent .front number
     ∙ ap (λ (k : ℕ). sets lent 0 (firstHeld c store i k)) len ∙ ap (sets lent 0) bytes
     ∙ sets-eq bs lent 0 (omega arith) ∙ ap (λ (k : ℕ). bs ++ drop k lent) at)

@@ -28,13 +28,14 @@ use Rattle.range.proofs.RangeLaws.{ranged}
 use Rattle.sending.specs.NextSegment.{chosenOf}
 use Rattle.sending.specs.Besides.Numbers.{When, all-empty, done}
 use Rattle.sending.proofs.NumberLaws as sending
-use Rattle.promises.specs.Trace.{run, trace}
-use Rattle.promises.specs.Calls.{Call, World, step, AllReal, first}
+use Rattle.promises.specs.Calls.{Call, World, step, run, AllReal, first}
+use Rattle.promises.specs.Effects.{did, segments}
 use Rattle.promises.specs.Reached.{waits, Reached}
-use Rattle.promises.specs.Fairness.{queue, segments, payload, Sent, enough, FairFrom, Serves, Fair}
+use Rattle.promises.specs.Fairness.{queue, payload, Sent, enough, FairFrom, Serves, Fair}
 use Rattle.promises.proofs.ReachedHandshake.{spare, spare-none}
+use Rattle.promises.proofs.Effects.{good, reached-sends}
+use Rattle.promises.proofs.Effects as effects
 use Rattle.promises.proofs.Reached.{toPut, handshake, Sound, sound-first, sound-step, sound-run}
-use Rattle.promises.proofs.Reached.{reached-sends}
 use Rattle.promises.proofs.FairRound.{rounds, reach, Found, it, nearer, chosen-found, chosen-zero}
 use Rattle.promises.proofs.FairCalls.{Quiet, Served, share, Moves, quiet, served, moves}
 use Rattle.promises.proofs.FairSent.{of-same, of-other, sent-now, sent-other, sent-later}
@@ -293,18 +294,18 @@ serves-always s w r =
         absurd (omega (arith, nobody-waits ws (w .connection .sending .turn) (t .0) (omega (arith, t .1, n)) .0 e i (omega (arith, n)), sending.counts-at (w .connection) i l))
 
 due : (s : Settings) (i : ℕ) → 1 ≤ i → i < instances (s .party .bundle) → (cs : List Call) (w : World) → AllReal cs → Sound s w
-    → Rest s w i (segments (trace step w cs))
-unfolding segments trace AllReal flatMap
+    → Rest s w i (segments (did w cs))
+unfolding segments did AllReal flatMap
 due s i some inside [] w a k = λ p n D h. absurd (omega (arith, D .budget))
 due s i some inside (c ∷ cs) w (b, a) k =
     let k′ = sound-step s w c b k in
-    by-move s w i some inside (moves s w k c b) k k′ (segments (trace step (step w c .world) cs)) (due s i some inside cs (step w c .world) a k′)
+    by-move s w i some inside (moves s w k b (effects.done w (good (k .reached)) c .leaves)) k k′ (segments (did (step w c .world) cs)) (due s i some inside cs (step w c .world) a k′)
 
-zeroth : (s : Settings) (cs : List Call) (w : World) → AllReal cs → Sound s w → Next s w (segments (trace step w cs))
-unfolding segments trace AllReal flatMap
+zeroth : (s : Settings) (cs : List Call) (w : World) → AllReal cs → Sound s w → Next s w (segments (did w cs))
+unfolding segments did AllReal flatMap
 zeroth s [] w a k = λ p n there h. absurd (omega arith)
 zeroth s (c ∷ cs) w (b, a) k =
-    by-next s w (moves s w k c b) k (segments (trace step (step w c .world) cs))
+    by-next s w (moves s w k b (effects.done w (good (k .reached)) c .leaves)) k (segments (did (step w c .world) cs))
     (zeroth s cs (step w c .world) a (sound-step s w c b k))
 
 -- m + 1 rounds of n segments are enough
@@ -318,7 +319,7 @@ enough-so (suc n) m d h =
 fair-from : (s : Settings) (w : World) → Sound s w → FairFrom s w
 fair-from s w k zero p l there cs a h =
     let n = enough s p in
-    let ss = segments (trace step w cs) in
+    let ss = segments (did w cs) in
     let e : suc (n - 1) ≡ n = omega arith in
     subst (λ (m : ℕ). Sent (s .party) 0 p (byteAt w 0 p) (list.take m ss)) e (zeroth s cs w a k p (n - 1) there (omega arith))
 fair-from s w k (suc i) p l there cs a h =
@@ -344,4 +345,4 @@ fair-from s w k (suc i) p l there cs a h =
 pub fair : Fair
 fair s receive send o cs a =
     let k = sound-run s (first s receive send) cs a (sound-first s receive send o) in
-    (fair-from s (run step (first s receive send) cs) k, serves-always s (run step (first s receive send) cs) (k .reached))
+    (fair-from s (run (first s receive send) cs) k, serves-always s (run (first s receive send) cs) (k .reached))

@@ -1,10 +1,10 @@
 -- Which of the segments carries a byte: one of another instance does not count, one of its own has it or brings it nearer to the front.
 -- Assumes nothing.
 use mathlib.Core.Path.{_≡_, refl, sym, ap, _∙_}
-use mathlib.Core.Bool.{true, false}
+use mathlib.Core.Bool.{true, false, cond}
 use mathlib.Core.List.{List, [], _∷_, flatMap}
 use mathlib.Core.Logic.{_≢_}
-use Prim.Native.Nat.{ℕ, _-_, _≤_, _<_}
+use Prim.Native.Nat.{ℕ, _+_, _-_, _≤_, _<_}
 use native.Mathlib.Omega.{arith}
 use lib.Dec.{eqb}
 use lib.ListN.{length, getD, length-append}
@@ -54,9 +54,10 @@ module _ (us : Party) (i b : ℕ) (bs : List ℕ) (ss : List (List ℕ)) where
         byte = e;
       }
 
-  pub sent-other : (p : ℕ) → isOf us i bs ≡ false → Sent us i p b ss → Sent us i p b (bs ∷ ss)
+  -- a byte that the segments behind carry is as much further behind as this one has of i
+  sent-behind : (p q : ℕ) → p ≡ length (cond (isOf us i bs) (payload bs) []) + q → Sent us i q b ss → Sent us i p b (bs ∷ ss)
   unfolding sentBy flatMap
-  sent-other p of k =
+  sent-behind p q e k =
       record {
         front = bs ∷ k .front;
         segment = k .segment;
@@ -65,23 +66,13 @@ module _ (us : Party) (i b : ℕ) (bs : List ℕ) (ss : List (List ℕ)) where
         of = k .of;
         whole = k .whole;
         place = k .place;
-        behind = rw of (k .behind);
+        behind = rw length-append (omega (arith, e, k .behind));
         within = k .within;
         byte = k .byte;
       }
 
+  pub sent-other : (p : ℕ) → isOf us i bs ≡ false → Sent us i p b ss → Sent us i p b (bs ∷ ss)
+  sent-other p of k = sent-behind p p (rw of (omega arith)) k
+
   pub sent-later : (p : ℕ) → isOf us i bs ≡ true → length (payload bs) ≤ p → Sent us i (p - length (payload bs)) b ss → Sent us i p b (bs ∷ ss)
-  unfolding sentBy flatMap
-  sent-later p of h k =
-      record {
-        front = bs ∷ k .front;
-        segment = k .segment;
-        back = k .back;
-        split = ap {B = List (List ℕ)} (λ rest. bs ∷ rest) (k .split);
-        of = k .of;
-        whole = k .whole;
-        place = k .place;
-        behind = rw (of, length-append) (omega (arith, k .behind));
-        within = k .within;
-        byte = k .byte;
-      }
+  sent-later p of h k = sent-behind p (p - length (payload bs)) (rw of (omega arith)) k

@@ -1,4 +1,4 @@
--- T11 and T13, by what every reached world is (T10): each call keeps the ties between history and world, and so every list of calls does.
+-- T11 and T13, by what every reached world is (T10): each effect keeps the ties between history and world, and so every list of calls does.
 -- Assumes nothing.
 use mathlib.Core.Path.{_≡_, refl, sym, ap, _∙_, subst}
 use mathlib.Core.List.{List, [], _∷_, _++_}
@@ -13,20 +13,20 @@ use Rattle.connection.specs.declared.Settings.{Settings}
 use Rattle.telling.specs.Statuses.{upTo, statusOf}
 use Rattle.telling.proofs.ShownLaws.{shown-at, shown-above}
 use Rattle.sending.proofs.NumberLaws.{counts, counts-long, counts-at}
-use Rattle.promises.specs.Trace.{Out, event, run, trace}
-use Rattle.promises.specs.Calls.{Call, Answer, told, World, step, Real, AllReal, Opened, first}
+use Rattle.promises.specs.Calls.{Call, World, step, run, AllReal, Opened, first}
+use Rattle.promises.specs.Effects.{Effect, Past, did, bytesIn}
 use Rattle.promises.specs.Reached.{Reached}
-use Rattle.promises.specs.History.{Past, bytesIn, handedFor, sentFor, Talks, Closes, Tells, Makes, History, Reports, StatusTells}
+use Rattle.promises.specs.History.{handedFor, sentFor, Talks, Closes, Tells, History, Reports, StatusTells}
+use Rattle.promises.proofs.Effects.{Good, good, Leaves}
 use Rattle.promises.proofs.Reached.{in-range-for-ever}
-use Rattle.promises.proofs.HistoryCalls.{Good, good, tells}
 use Rattle.promises.proofs.HistoryRuns.{along}
-use Rattle.promises.proofs.HistoryTalks.{talks-first, talks-next}
-use Rattle.promises.proofs.HistoryReceives.{Held, held-first, held-after, receives}
-use Rattle.promises.proofs.HistoryCloses.{closes-first, closes-after}
-use Rattle.promises.proofs.HistorySends.{Waits, waits-first, waits-after, sends, segmented}
+use Rattle.promises.proofs.HistoryTalks.{talks-first, talks-by}
+use Rattle.promises.proofs.HistoryReceives.{Held, held-first, held-by, receives-of}
+use Rattle.promises.proofs.HistoryCloses.{closes-first, closes-by}
+use Rattle.promises.proofs.HistorySends.{Waits, waits-first, waits-by, sends-of, makes}
 use Rattle.promises.proofs.HistoryItems.{AllSpelled, spelled-next, spelled-first}
 
--- all that each call keeps
+-- all that each effect keeps
 record Ties (s : Settings) (past : Past) (w : World) : Type 0 where
   held : Held s past w
   waits : Waits s past w
@@ -34,16 +34,20 @@ record Ties (s : Settings) (past : Past) (w : World) : Type 0 where
   closes : Closes s past w
   spelled : AllSpelled s past
 
-ties-next : (s : Settings) (past : Past) (w : World) (c : Call) → Real c → Reached s w → Reached s (step w c .world) → Ties s past w
-    → Ties s (past ++ (event step w c ∷ [])) (step w c .world)
-ties-next s past w c real k k′ t =
+ties-next : (past : Past) (w : World) → Good w → (real : Type 0) (e : Effect) (w′ : World) → real → Leaves w real e w′
+    → Ties (w .connection .settings) past w → Ties (w .connection .settings) (past ++ (e ∷ [])) w′
+ties-next past w g real e w′ r l t =
     record {
-      held = held-after s past w c k (t .held);
-      waits = waits-after s past w c real k (t .waits);
-      talks = talks-next s past w c k (t .talks);
-      closes = closes-after s past w c k (t .held) (t .closes);
-      spelled = spelled-next s past w c k (t .spelled);
+      held = held-by w g past (t .held) l;
+      waits = waits-by w g past (t .waits) r l;
+      talks = talks-by w g past (t .talks) l;
+      closes = closes-by w g past (t .held) l (t .closes);
+      spelled = spelled-next past w l (t .spelled);
     }
+
+tells-of : (past : Past) (w : World) → Ties (w .connection .settings) past w → Tells (w .connection .settings) past w
+tells-of past w t =
+    record { receives = receives-of past w (t .held) (t .spelled); sends = sends-of past w (t .waits); talks = t .talks; closes = t .closes }
 
 -- ---- status
 
@@ -83,45 +87,32 @@ reports-of past w k t =
       closing = t .closes;
     })
 
-reports : (s : Settings) (past : Past) (w : World) → Reached s w → Tells s past w → Reports s past (statusOf (w .connection))
-reports s past w k = subst (λ (u : Settings). Tells u past w → Reports u past (statusOf (w .connection))) (k .settings) (reports-of past w (good k))
-
 module _ (s : Settings) (receive send : List ℕ) (opened : Opened s receive send) (cs : List Call) (real : AllReal cs) where
   abbrev w : World
-  w = run step (first s receive send) cs
+  w = run (first s receive send) cs
 
   abbrev past : Past
-  past = trace step (first s receive send) cs
+  past = did (first s receive send) cs
 
   reached : Reached s w
   reached = in-range-for-ever s receive send opened cs real
 
   ties : Ties s past w
   ties =
-      along opened (Ties s) (ties-next s) cs real
+      along Ties ties-next opened cs real
       (record { held = held-first opened; waits = waits-first opened; talks = talks-first opened; closes = closes-first opened; spelled = spelled-first s })
 
   told-so : Tells s past w
-  told-so =
-      record {
-        receives = receives s past w reached (ties .held) (ties .spelled);
-        sends = sends s past w reached (ties .waits);
-        talks = ties .talks;
-        closes = ties .closes;
-      }
+  told-so = subst (λ (u : Settings). Ties u past w → Tells u past w) (reached .settings) (tells-of past w) ties
 
-  made : Makes s w
-  made time buf bs r = segmented s w time buf reached r bs
+  reports : Reports s past (statusOf (w .connection))
+  reports = subst (λ (u : Settings). Tells u past w → Reports u past (statusOf (w .connection))) (reached .settings) (reports-of past w (good reached)) told-so
 
 -- T11
 pub history : History
-history s receive send opened cs real = (told-so s receive send opened cs real, made s receive send opened cs real)
+history s receive send o cs real = (told-so s receive send o cs real, makes s (run (first s receive send) cs) (reached s receive send o cs real))
 
 -- T13
 pub status-tells : StatusTells
-status-tells s receive send opened cs real r e =
-    let w : World = run step (first s receive send) cs in
-    let q : told (statusOf (w .connection)) ≡ told r = sym (ap (λ (o : Out World Answer). o .answer) (tells w)) ∙ e in
-    let same : statusOf (w .connection) ≡ r = cc in
-    subst (Reports s (trace step (first s receive send) cs)) same
-    (reports s (trace step (first s receive send) cs) w (in-range-for-ever s receive send opened cs real) (told-so s receive send opened cs real))
+unfolding step
+status-tells = reports

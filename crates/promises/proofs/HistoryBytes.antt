@@ -22,7 +22,7 @@ use Rattle.wire.proofs.InstanceLaws.{at-most}
 use Rattle.wire.proofs.SegmentLaws.{part, add-part, part-whole, divided-on, divided-whole}
 use Rattle.connection.specs.declared.Receiving.{Receiving}
 use Rattle.connection.specs.Closings.{isOpen}
-use Rattle.feeding.specs.declared.Admission.{Admission}
+use Rattle.admitting.specs.declared.Admission.{Admission}
 use Rattle.feeding.specs.Feeding.{Reception, admitted, admission, settled, headed, kept, step, fed, used}
 use Rattle.feeding.proofs.Bytes.{step-headed, step-kept, fed-closed}
 use Rattle.feeding.proofs.Keeping.{Kept, kept-fed}

@@ -1,4 +1,4 @@
--- The closing (T11 e): each call keeps that the gate is closed by the first fault answered.
+-- The closing (T11 e): each effect keeps that the gate is closed by the first fault answered.
 -- Assumes nothing.
 use mathlib.Core.Path.{_≡_, refl, sym, ap, _∙_, subst}
 use mathlib.Core.Bool.{true, cond, _&&_}
@@ -6,7 +6,6 @@ use mathlib.Core.List.{List, [], _∷_, _++_, append-assoc, flatMap}
 use mathlib.Core.Option.{Option, none, some, orElse}
 use Prim.Native.Nat.{ℕ, _+_, _-_, _≤_, _<_}
 use native.Mathlib.Omega.{arith}
-use borrow.Author.Tests.{le-leb}
 use lib.Dec.{leb}
 use lib.ListN as lists
 use lib.ListN.{length, getD, length-append}
@@ -25,24 +24,18 @@ use Rattle.connection.specs.declared.Gate.{Gate}
 use Rattle.connection.specs.declared.Gate.the-variants.{Open, Closed}
 use Rattle.connection.specs.Closings as closings
 use Rattle.connection.specs.Closings.{closingOf, isOpen}
-use Rattle.range.proofs.RangeLaws.{ranged}
 use Rattle.connection.proofs.ClosingLaws.{closed-or, open-or}
 use Rattle.feeding.specs.Feeding as feeding
 use Rattle.feeding.specs.Feeding.{Reception, used, left, given}
 use Rattle.feeding.specs.Besides.Numbers.{Eighth}
 use Rattle.feeding.proofs.Keeping.{Kept, kept-given}
 use Rattle.feeding.proofs.Faults.{Cause, unknown, wrong, overflow, cause, Refuses, fault-found, fault-leaves, used-all}
-use Rattle.taking.specs.Taking as taking
-use Rattle.putting.specs.Putting as putting
-use Rattle.sending.specs.NextSegment as sending
-use Rattle.promises.specs.Trace.{Out, Event, event}
-use Rattle.promises.specs.Calls.{Call, feed, take, put, next, status, Answer, fed, World, step, Opened, first}
-use Rattle.promises.specs.Reached.{Reached}
-use Rattle.promises.specs.History.{Past, usedBy, bytesIn, handedFor, lastRoute, routed, faultBy, firstFault, Closes}
-use Rattle.promises.proofs.Ways.{Takes, refuses, faults, hands, Puts, queues, Nexts, serves}
-use Rattle.promises.proofs.ReachedFeed.{ends, uses, Feeds, shut, bytes}
+use Rattle.promises.specs.Calls.{World, Opened, first}
+use Rattle.promises.specs.Effects.{Effect, came, Past, usedBy, bytesIn}
+use Rattle.promises.specs.History.{handedFor, lastRoute, routed, faultBy, firstFault, Closes}
+use Rattle.promises.proofs.ReachedFeed.{ends, uses}
+use Rattle.promises.proofs.Effects.{Good, receive-some, Leaves, still, shut, feeds, faults, hands, queues, serves}
 use Rattle.promises.proofs.Reached.{opens-fresh}
-use Rattle.promises.proofs.HistoryCalls.{Good, good, feeds, takes, puts, makes, afterFeed, afterTake, afterPut, afterNext}
 use Rattle.promises.proofs.HistoryBytes.{Reading, in-head, in-pay, Tied, tied-fed}
 use Rattle.promises.proofs.HistoryReceives.{Held}
 
@@ -109,21 +102,18 @@ or-or none b c = refl
 or-or (some x) b c = refl
 
 -- a fault more is the first only if there was none
-first-next : (us : Party) (bs : List ℕ) (past : Past) (e : Event Call Answer)
-    → firstFault us bs (past ++ (e ∷ []))
-    ≡ orElse (firstFault us bs past) (faultBy us (bs ++ (bytesIn past ++ usedBy (e .call) (e .answer))) (e .call) (e .answer))
+first-next : (us : Party) (bs : List ℕ) (past : Past) (e : Effect)
+    → firstFault us bs (past ++ (e ∷ [])) ≡ orElse (firstFault us bs past) (faultBy us (bs ++ (bytesIn past ++ usedBy e)) e)
 unfolding firstFault bytesIn flatMap orElse
-first-next us bs [] e = or-none (faultBy us (bs ++ usedBy (e .call) (e .answer)) (e .call) (e .answer))
+first-next us bs [] e = or-none (faultBy us (bs ++ usedBy e) e)
 first-next us bs (d ∷ past) e =
-    let now : List ℕ = bs ++ usedBy (d .call) (d .answer) in
-    let rest : List ℕ = bytesIn past ++ usedBy (e .call) (e .answer) in
-    let long : bs ++ ((usedBy (d .call) (d .answer) ++ bytesIn past) ++ usedBy (e .call) (e .answer)) ≡ now ++ rest =
-    ap (λ (l : List ℕ). bs ++ l) (append-assoc (usedBy (d .call) (d .answer)) (bytesIn past) (usedBy (e .call) (e .answer)))
-    ∙ sym (append-assoc bs (usedBy (d .call) (d .answer)) rest) in
-    rw (first-next us now past e, long)
-    (sym (or-or (faultBy us now (d .call) (d .answer)) (firstFault us now past) (faultBy us (now ++ rest) (e .call) (e .answer))))
+    let now : List ℕ = bs ++ usedBy d in
+    let rest : List ℕ = bytesIn past ++ usedBy e in
+    let long : bs ++ ((usedBy d ++ bytesIn past) ++ usedBy e) ≡ now ++ rest =
+    ap (λ (l : List ℕ). bs ++ l) (append-assoc (usedBy d) (bytesIn past) (usedBy e)) ∙ sym (append-assoc bs (usedBy d) rest) in
+    rw (first-next us now past e, long) (sym (or-or (faultBy us now d) (firstFault us now past) (faultBy us (now ++ rest) e)))
 
--- ---- a call
+-- ---- an effect
 
 -- the closing that feed leaves, by its number and the last header
 cause-tells : {caps held : List ℕ} {n : ℕ} {r : Route} {x : Closing} → Cause caps held n r x
@@ -136,58 +126,36 @@ module _ (w : World) (g : Good w) (past : Past) (t : Held (w .connection .settin
   abbrev us : Party
   us = w .connection .settings .party
 
-  -- the closing after a call
-  abbrev Gated : Call → Out World Answer → Type 0
-  Gated a o =
-      closingOf (o .world .connection .gate)
-      ≡ orElse (closingOf (w .connection .gate)) (faultBy us (bytesIn past ++ usedBy a (o .answer)) a (o .answer))
+  -- the closing after an effect
+  abbrev Gated : Effect → World → Type 0
+  Gated e w′ = closingOf (w′ .connection .gate) ≡ orElse (closingOf (w .connection .gate)) (faultBy us (bytesIn past ++ usedBy e) e)
 
-  gated-feed : (xs : List ℕ) {x : feeding.Told} → Feeds (w .connection) (w .receive) xs x → Gated (feed xs) (afterFeed w x)
-  gated-feed xs (shut y) = sym (or-none (closingOf (w .connection .gate)))
-  gated-feed xs (bytes y) = of (ends (w .connection) (w .receive) xs .gate) refl ∙ sym (open-or (w .connection .gate) _ y)
+  same : closingOf (w .connection .gate) ≡ orElse (closingOf (w .connection .gate)) none
+  same = sym (or-none (closingOf (w .connection .gate)))
+
+  gated : {real : Type 0} {e : Effect} {w′ : World} → Leaves w real e w′ → Gated e w′
+  gated still = same
+  gated (shut o) = same
+  gated (feeds xs o spelt) = of (ends (w .connection) (w .receive) xs .gate) refl ∙ sym (open-or (w .connection .gate) _ o)
     where
       of : (q : Gate) → ends (w .connection) (w .receive) xs .gate ≡ q
-          → let n = uses (w .connection) (w .receive) xs in closingOf q ≡ faultBy us (bytesIn past ++ lists.take n xs) (feed xs) (fed (left q) n)
+          → let bs = lists.take (uses (w .connection) (w .receive) xs) xs in closingOf q ≡ faultBy us (bytesIn past ++ bs) (came (left q) bs)
       of Open e = refl
       of (Closed x) e =
           cause-tells
           (refused-last us (w .connection .settings .receive) (λ i. handedFor i past)
-          (λ i l. let q = ranged (w .connection) (g .ranged) .set .receive i l in omega arith) xs (bytesIn past)
+          (receive-some g) xs (bytesIn past)
           (given (w .connection) (w .receive)) (w .connection .receiving .starts) (length (w .receive)) x (t .tied)
-          (kept-given (w .connection) (w .receive) (g .ranged)) (g .receive) y e .2)
+          (kept-given (w .connection) (w .receive) (g .ranged)) (g .receive) o e .2)
+  gated (faults n i) = closed-or (w .connection .gate) (Of n i)
+  gated (hands j n to m buf q fits long front) = same
+  gated (queues j to m xs q o free short room) = same
+  gated (serves j time bs o who q) = same
 
-  gated-take : (j : ℕ) (buf : List ℕ) {x : taking.Told} → Takes (w .connection) (w .receive) j buf x → Gated (take j buf) (afterTake w x)
-  gated-take j buf (refuses n z y f) = rw f (sym (or-none (closingOf (w .connection .gate))))
-  gated-take j buf (faults n low high h) = rw (le-leb 14 n low, le-leb n 17 high) (closed-or (w .connection .gate) (Of n j))
-  gated-take j buf (hands n m to h e l b r q) = sym (or-none (closingOf (w .connection .gate)))
-
-  gated-put : (j : ℕ) (xs : List ℕ) {x : putting.Told} → Puts (w .connection) (w .send) j xs x → Gated (put j xs) (afterPut w x)
-  gated-put j xs (refuses n z y) = sym (or-none (closingOf (w .connection .gate)))
-  gated-put j xs (queues m to h y free u r q short fit) = sym (or-none (closingOf (w .connection .gate)))
-
-  gated-next : (time : ℕ) (buf : List ℕ) {x : sending.Told} → Nexts (w .connection) (w .send) time buf x → Gated (next time buf) (afterNext w x)
-  gated-next time buf (refuses n z y) = sym (or-none (closingOf (w .connection .gate)))
-  gated-next time buf (serves i who l) = sym (or-none (closingOf (w .connection .gate)))
-
-  gated : (a : Call) → Gated a (step w a)
-  unfolding step
-  gated (feed xs) = gated-feed xs (feeds w g xs)
-  gated (take j buf) = gated-take j buf (takes w g j buf)
-  gated (put j xs) = gated-put j xs (puts w g j xs)
-  gated (next time buf) = gated-next time buf (makes w g time buf)
-  gated status = sym (or-none (closingOf (w .connection .gate)))
-
-  closes-call : (a : Call) → Closes (w .connection .settings) past w
-      → Closes (w .connection .settings) (past ++ (event step w a ∷ [])) (step w a .world)
-  closes-call a e =
-      let new : Option (ℕ × Option ℕ) = faultBy us (bytesIn past ++ usedBy a (step w a .answer)) a (step w a .answer) in
-      gated a ∙ ap (λ (q : Option (ℕ × Option ℕ)). orElse q new) e ∙ sym (first-next us [] past (event step w a))
-
-pub closes-after : (s : Settings) (past : Past) (w : World) (a : Call) → Reached s w → Held s past w → Closes s past w
-    → Closes s (past ++ (event step w a ∷ [])) (step w a .world)
-closes-after s past w a k =
-    subst (λ (u : Settings). Held u past w → Closes u past w → Closes u (past ++ (event step w a ∷ [])) (step w a .world)) (k .settings)
-    (λ t. closes-call w (good k) past t a)
+  pub closes-by : {real : Type 0} {e : Effect} {w′ : World} → Leaves w real e w′ → Closes (w .connection .settings) past w
+      → Closes (w .connection .settings) (past ++ (e ∷ [])) w′
+  closes-by {e = e} l f =
+      gated l ∙ ap (λ (q : Option (ℕ × Option ℕ)). orElse q (faultBy us (bytesIn past ++ usedBy e) e)) f ∙ sym (first-next us [] past e)
 
 pub closes-first : {s : Settings} {receive send : List ℕ} → Opened s receive send → Closes s [] (first s receive send)
 unfolding firstFault

@@ -1,7 +1,7 @@
 -- Demand 2 (T11 a): each message handed out is one item, spelled as the answer told; and bytes begin with so many items in one way.
 -- Assumes nothing.
-use mathlib.Core.Path.{_≡_, refl, sym, ap, _∙_, subst}
-use mathlib.Core.Bool.{Bool, true, false, cond, _&&_}
+use mathlib.Core.Path.{_≡_, refl, sym, ap, _∙_}
+use mathlib.Core.Bool.{Bool, true, false, cond}
 use mathlib.Core.List.{List, [], _∷_, _++_, append-assoc, flatMap, flatten}
 use Prim.Native.Nat.{ℕ}
 use native.Mathlib.Omega.{arith}
@@ -9,9 +9,8 @@ use borrow.Author.Tests.{eqb-true}
 use lib.Dec.{eqb}
 use lib.ListN as lists
 use lib.ListN.{length, length-append}
-use lib.Seq.{sets, length-sets, take-at, drop-at}
+use lib.Seq.{take-at, drop-at}
 use Rattle.base.proofs.Conds.{by-test}
-use Rattle.ring.proofs.Stores.{stream-length}
 use Rattle.item.specs.declared.Verdict.the-variants.{Whole}
 use Rattle.item.specs.Grammar.{Item, nesting}
 use Rattle.item.specs.Verdict.{verdict}
@@ -22,16 +21,11 @@ use Rattle.messages.specs.declared.Message.{Message}
 use Rattle.messages.specs.Reading.{messageOf, read}
 use Rattle.messages.proofs.Theorem.{reads-forms, message-is-item}
 use Rattle.connection.specs.declared.Settings.{Settings}
-use Rattle.connection.specs.Parts.{firstHeld}
-use Rattle.taking.specs.Taking as taking
-use Rattle.promises.specs.Trace.{All, event}
-use Rattle.promises.specs.Calls as calls
-use Rattle.promises.specs.Calls.{Call, World, step}
-use Rattle.promises.specs.Reached.{Reached, numberOf}
-use Rattle.promises.specs.History.{Past, Act, gave, got, actsBy, acts, handedBy, handed, handedFor, Spelled, Messages}
-use Rattle.promises.proofs.Ways.{Takes, refuses, faults, hands}
-use Rattle.promises.proofs.HistoryCalls.{Good, good, takes, afterTake}
-use Rattle.promises.proofs.HistoryLaws.{all-append, no-act, front, acts-next}
+use Rattle.promises.specs.Calls.{All, World}
+use Rattle.promises.specs.Effects.{Act, gave, got, Effect, Past, actsBy, acts}
+use Rattle.promises.specs.History.{handedBy, handed, handedFor, Spelled, Messages}
+use Rattle.promises.proofs.Effects.{Leaves, still, shut, feeds, faults, hands, queues, serves}
+use Rattle.promises.proofs.HistoryLaws.{all-append, acts-next}
 
 -- ---- one item
 
@@ -41,43 +35,29 @@ message-item p bs m e = let (kind, xs, k, q) = reads-forms p bs m .0 e in messag
 
 -- ---- as the answers spelled them
 
-spelled-take : (w : World) (i j : ℕ) (buf : List ℕ) {x : taking.Told} → Takes (w .connection) (w .receive) j buf x
-    → All (Spelled (speaks (w .connection .settings .party .bundle) i)) (actsBy i (calls.take j buf) (afterTake w x .answer))
-spelled-take w i j buf (refuses n z y f) = rw (no-act (eqb j i) n (got _ _ _) z) tt
-spelled-take w i j buf (faults n low high h) = rw (no-act (eqb j i) n (got _ _ _) (λ z. omega arith)) tt
-spelled-take w i j buf (hands n m to h e l b r q) =
-    let p = speaks (w .connection .settings .party .bundle) in
-    let xs : List ℕ = firstHeld (w .connection) (w .receive) j n in
-    let at-front : lists.take n (sets buf 0 xs) ≡ xs = front buf xs n (stream-length _ _ _ _ n) b in
-    by-test (eqb j i)
-    (λ t.
-    let same : j ≡ i = eqb-true j i t in
-    rw (t, at-front, ← same) ((rw length-sets b, message-item (p j) xs m r, r), tt))
-    (λ t. rw t tt)
-
 spelled-put : (p : Protocol) (xs : List ℕ) (mine : Bool) → All (Spelled p) (cond mine (gave xs ∷ []) [])
 spelled-put p xs true = (tt, tt)
 spelled-put p xs false = tt
 
-spelled-call : (w : World) → Good w → (i : ℕ) (c : Call)
-    → All (Spelled (speaks (w .connection .settings .party .bundle) i)) (actsBy i c (step w c .answer))
-unfolding step
-spelled-call w g i (calls.feed xs) = tt
-spelled-call w g i (calls.take j buf) = spelled-take w i j buf (takes w g j buf)
-spelled-call w g i (calls.put j xs) =
-    spelled-put (speaks (w .connection .settings .party .bundle) i) xs (eqb j i && eqb (numberOf (step w (calls.put j xs) .answer)) 0)
-spelled-call w g i (calls.next time buf) = tt
-spelled-call w g i calls.status = tt
+spelled-by : {w : World} {real : Type 0} {e : Effect} {w′ : World} → Leaves w real e w′ → (i : ℕ)
+    → All (Spelled (speaks (w .connection .settings .party .bundle) i)) (actsBy i e)
+spelled-by still i = tt
+spelled-by (shut o) i = tt
+spelled-by (feeds xs o spelt) i = tt
+spelled-by (faults n j) i = tt
+spelled-by {w} (hands j n to m buf q fits long front) i =
+    by-test (eqb j i)
+    (λ t. let same : j ≡ i = eqb-true j i t in rw (t, ← same) ((long, message-item _ (lists.take n buf) m (q .reads), q .reads), tt)) (λ t. rw t tt)
+spelled-by (queues j to m xs q o free short room) i = spelled-put _ xs (eqb j i)
+spelled-by (serves j time bs o who q) i = tt
 
 -- every message of every instance
 abbrev pub AllSpelled : Settings → Past → Type 0
 AllSpelled s past = (i : ℕ) → All (Spelled (speaks (s .party .bundle) i)) (acts i past)
 
-pub spelled-next : (s : Settings) (past : Past) (w : World) (c : Call) → Reached s w → AllSpelled s past → AllSpelled s (past ++ (event step w c ∷ []))
-spelled-next s past w c k t i =
-    rw (acts-next past (event step w c) i)
-    (all-append (Spelled (speaks (s .party .bundle) i)) (acts i past) (actsBy i c (step w c .answer)) (t i)
-    (subst (λ (u : Settings). All (Spelled (speaks (u .party .bundle) i)) (actsBy i c (step w c .answer))) (k .settings) (spelled-call w (good k) i c)))
+pub spelled-next : (past : Past) (w : World) {real : Type 0} {e : Effect} {w′ : World} → Leaves w real e w′
+    → AllSpelled (w .connection .settings) past → AllSpelled (w .connection .settings) (past ++ (e ∷ []))
+spelled-next past w {e = e} l t i = rw (acts-next past e i) (all-append _ (acts i past) (actsBy i e) (t i) (spelled-by l i))
 
 pub spelled-first : (s : Settings) → AllSpelled s []
 unfolding acts flatMap

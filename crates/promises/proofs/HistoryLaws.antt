@@ -2,19 +2,16 @@
 -- Assumes nothing.
 use mathlib.Core.Path.{_≡_, refl, ap, _∙_}
 use mathlib.Core.List.{List, [], _∷_, _++_, append-nil, append-assoc, flatMap, flatten}
-use mathlib.Core.Bool.{Bool, true, false, cond, _&&_}
-use mathlib.Core.Logic.{_≢_}
+use mathlib.Core.Bool.{Bool, true, false, cond}
 use Prim.Native.Nat.{ℕ, _+_, _≤_}
 use native.Mathlib.Omega.{arith}
-use borrow.Author.Tests.{ne-eqb}
-use lib.Dec.{eqb}
 use lib.ListN.{length, take, drop}
 use lib.Seq.{sets, sets-eq, take-at}
 use Rattle.wire.specs.declared.instances.Party.{Party}
-use Rattle.promises.specs.Trace.{All, Event}
-use Rattle.promises.specs.Calls.{Call, Answer}
-use Rattle.promises.specs.Fairness.{segmentOf, segments, payload, isOf, sentBy}
-use Rattle.promises.specs.History.{Past, usedBy, bytesIn, Act, actsBy, acts, putBy, putFor, handedBy, handed, handedFor, sentFor}
+use Rattle.promises.specs.Calls.{All}
+use Rattle.promises.specs.Effects.{Act, Effect, Past, usedBy, bytesIn, actsBy, acts, segmentOf, segments}
+use Rattle.promises.specs.Fairness.{payload, isOf, sentBy}
+use Rattle.promises.specs.History.{putBy, putFor, handedBy, handed, handedFor, sentFor}
 
 pub flat-append : {A B : Type 0} (f : A → List B) (xs ys : List A) → flatMap f (xs ++ ys) ≡ flatMap f xs ++ flatMap f ys
 unfolding flatMap
@@ -40,22 +37,9 @@ all-append P (x ∷ xs) ys (h, m) n = (h, all-append P xs ys m n)
 
 -- ---- one event
 
--- a call that did not answer 0 is no act; one that did is one of its instance
-pub no-act : (mine : Bool) (n : ℕ) (a : Act) → n ≢ 0 → cond (mine && eqb n 0) (a ∷ []) [] ≡ []
-no-act true n a z = rw (ne-eqb n 0 z)
-no-act false n a z = refl
-
-pub an-act : (mine : Bool) (a : Act) → cond (mine && true) (a ∷ []) [] ≡ cond mine (a ∷ []) []
-an-act true a = refl
-an-act false a = refl
-
--- what such an act adds to what is gathered by f: nothing; what it has; nothing, if f sees nothing in it
+-- what an act adds to what is gathered by f: what it has; nothing, if f sees nothing in it
 module _ {B : Type 0} (f : Act → List B) where
-  pub no-act-adds : (mine : Bool) (n : ℕ) (a : Act) → n ≢ 0 → flatMap f (cond (mine && eqb n 0) (a ∷ []) []) ≡ []
-  unfolding flatMap
-  no-act-adds mine n a z = ap (flatMap f) (no-act mine n a z)
-
-  pub act-adds : (mine : Bool) (a : Act) → flatMap f (cond (mine && true) (a ∷ []) []) ≡ cond mine (f a) []
+  pub act-adds : (mine : Bool) (a : Act) → flatMap f (cond mine (a ∷ []) []) ≡ cond mine (f a) []
   unfolding flatMap
   act-adds true a = append-nil (f a)
   act-adds false a = refl
@@ -71,40 +55,39 @@ front buf xs n e h = rw (sets-eq xs buf 0 (omega arith)) (take-at xs (drop (0 + 
 
 -- ---- one event more
 
-pub segments-next : (past : Past) (e : Event Call Answer) → segments (past ++ (e ∷ [])) ≡ segments past ++ segmentOf (e .answer)
-unfolding segments
-segments-next past e = flat-next (λ (d : Event Call Answer). segmentOf (d .answer)) past e
-
 pub sent-append : (us : Party) (i : ℕ) (ss ts : List (List ℕ)) → sentBy us i (ss ++ ts) ≡ sentBy us i ss ++ sentBy us i ts
 unfolding sentBy
 sent-append us i ss ts = flat-append (λ (bs : List ℕ). cond (isOf us i bs) (payload bs) []) ss ts
 
-pub sent-next : (us : Party) (i : ℕ) (past : Past) (e : Event Call Answer)
-    → sentFor us i (past ++ (e ∷ [])) ≡ sentFor us i past ++ sentBy us i (segmentOf (e .answer))
-sent-next us i past e = rw (segments-next past e, sent-append us i (segments past) (segmentOf (e .answer)))
+module _ (past : Past) (e : Effect) where
+  pub segments-next : segments (past ++ (e ∷ [])) ≡ segments past ++ segmentOf e
+  unfolding segments
+  segments-next = flat-next segmentOf past e
 
-module _ (past : Past) (e : Event Call Answer) where
-  pub bytes-next : bytesIn (past ++ (e ∷ [])) ≡ bytesIn past ++ usedBy (e .call) (e .answer)
+  pub bytes-next : bytesIn (past ++ (e ∷ [])) ≡ bytesIn past ++ usedBy e
   unfolding bytesIn
-  bytes-next = flat-next (λ (d : Event Call Answer). usedBy (d .call) (d .answer)) past e
+  bytes-next = flat-next usedBy past e
 
   module _ (i : ℕ) where
-    pub acts-next : acts i (past ++ (e ∷ [])) ≡ acts i past ++ actsBy i (e .call) (e .answer)
+    pub sent-next : (us : Party) → sentFor us i (past ++ (e ∷ [])) ≡ sentFor us i past ++ sentBy us i (segmentOf e)
+    sent-next us = rw (segments-next, sent-append us i (segments past) (segmentOf e))
+
+    pub acts-next : acts i (past ++ (e ∷ [])) ≡ acts i past ++ actsBy i e
     unfolding acts
-    acts-next = flat-next (λ (d : Event Call Answer). actsBy i (d .call) (d .answer)) past e
+    acts-next = flat-next (actsBy i) past e
 
-    pub put-next : putFor i (past ++ (e ∷ [])) ≡ putFor i past ++ flatMap putBy (actsBy i (e .call) (e .answer))
+    pub put-next : putFor i (past ++ (e ∷ [])) ≡ putFor i past ++ flatMap putBy (actsBy i e)
     unfolding putFor
-    put-next = rw (acts-next, flat-append putBy (acts i past) (actsBy i (e .call) (e .answer)))
+    put-next = rw (acts-next, flat-append putBy (acts i past) (actsBy i e))
 
-    handed-next : handedFor i (past ++ (e ∷ [])) ≡ handedFor i past ++ flatten (flatMap handedBy (actsBy i (e .call) (e .answer)))
+    handed-next : handedFor i (past ++ (e ∷ [])) ≡ handedFor i past ++ flatten (flatMap handedBy (actsBy i e))
     unfolding handedFor handed
     handed-next =
-        rw (acts-next, flat-append handedBy (acts i past) (actsBy i (e .call) (e .answer)))
-        (flatten-append (flatMap handedBy (acts i past)) (flatMap handedBy (actsBy i (e .call) (e .answer))))
+        rw (acts-next, flat-append handedBy (acts i past) (actsBy i e))
+        (flatten-append (flatMap handedBy (acts i past)) (flatMap handedBy (actsBy i e)))
 
     -- with one message more, or none
-    pub handed-more : (mine : Bool) (xs : List ℕ) → flatMap handedBy (actsBy i (e .call) (e .answer)) ≡ cond mine (xs ∷ []) []
+    pub handed-more : (mine : Bool) (xs : List ℕ) → flatMap handedBy (actsBy i e) ≡ cond mine (xs ∷ []) []
         → handedFor i (past ++ (e ∷ [])) ≡ handedFor i past ++ cond mine xs []
     handed-more mine xs q = handed-next ∙ ap (λ (r : List ℕ). handedFor i past ++ r) (ap flatten q ∙ one mine)
       where
@@ -112,5 +95,5 @@ module _ (past : Past) (e : Event Call Answer) where
         one true = unfold flatten in append-nil xs
         one false = unfold flatten in refl
 
-    pub handed-still : flatMap handedBy (actsBy i (e .call) (e .answer)) ≡ [] → handedFor i (past ++ (e ∷ [])) ≡ handedFor i past
+    pub handed-still : flatMap handedBy (actsBy i e) ≡ [] → handedFor i (past ++ (e ∷ [])) ≡ handedFor i past
     handed-still q = handed-more false [] q ∙ append-nil (handedFor i past)

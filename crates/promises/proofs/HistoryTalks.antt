@@ -1,115 +1,34 @@
--- The states (T11 c): each call moves no state, or that of one instance by one row, and notes it as an act of that instance.
+-- The states (T11 c): each effect moves no state, or is an act of one instance, whose state it moves by one row.
 -- Assumes nothing.
-use mathlib.Core.Path.{_≡_, refl, sym, ap, subst}
-use mathlib.Core.Bool.{Bool, true, false, true≢false, cond, not, _&&_, _||_, or-false}
+use mathlib.Core.Path.{_≡_, refl, sym, ap}
+use mathlib.Core.Bool.{false, cond, _&&_, _||_, or-false}
 use mathlib.Core.List.{List, [], _∷_, _++_, append-nil, flatMap}
-use mathlib.Core.Logic.{_≢_}
 use Prim.Native.Nat.{ℕ, _<_}
 use native.Mathlib.Omega.{arith}
 use borrow.Author.Tests.{eq-eqb, ne-eqb, eqb-true}
 use lib.Dec.{eqb}
 use lib.ListN as lists
-use lib.ListN.{length, getD, getD-replicate}
-use lib.Seq.{sets}
+use lib.ListN.{getD, getD-replicate}
 use Rattle.base.proofs.Conds.{by-test}
-use Rattle.ring.proofs.Stores.{stream-length}
+use Rattle.base.proofs.ListLaws.{at-set}
 use Rattle.wire.specs.declared.instances.Party.{Party}
-use Rattle.wire.specs.Instances.{instances, most, roleOf, initiates}
+use Rattle.wire.specs.Instances.{instances, most}
 use Rattle.wire.proofs.InstanceLaws.{at-most}
-use Rattle.rows.specs.declared.Agency.{Agency}
-use Rattle.rows.specs.declared.Agency.the-variants.{Initiator, Responder, Nobody}
 use Rattle.rows.specs.declared.Protocol.the-variants.{Handshake}
-use Rattle.rows.specs.declared.Next.the-variants.{To}
-use Rattle.rows.specs.Rows.{nextOf, agencyOf, doneOf}
+use Rattle.rows.specs.Rows.{doneOf}
 use Rattle.rows.specs.Spoken.{speaks}
-use Rattle.rows.proofs.RowLaws.{rows-say}
+use Rattle.messages.specs.declared.Message.{Message}
 use Rattle.messages.specs.Reading.{messageOf, read, flagOf}
 use Rattle.connection.specs.declared.Settings.{Settings}
 use Rattle.range.proofs.RangeLaws.{ranged}
-use Rattle.connection.specs.Parts.{firstHeld}
 use Rattle.judging.proofs.Moving.{leads-low, first-speaks}
-use Rattle.judging.specs.Judging.{holds, ours, movedBy}
-use Rattle.taking.specs.Taking as taking
-use Rattle.feeding.specs.Feeding as feeding
-use Rattle.putting.specs.Putting as putting
-use Rattle.sending.specs.NextSegment as sending
-use Rattle.promises.specs.Trace.{Out, event}
-use Rattle.promises.specs.Calls.{Call, feed, take, put, next, status, Answer, World, step, Opened, first}
-use Rattle.promises.specs.Reached.{Reached}
-use Rattle.promises.specs.History.{Past, Act, gave, got, messageIn, actsBy, acts, theirs, Moves, Walks, rests, moves, endsInAccept, Talks}
-use Rattle.promises.proofs.Ways.{Takes, refuses, faults, hands, Puts, queues, Nexts, serves}
-use Rattle.base.proofs.ListLaws.{at-set}
-use Rattle.promises.proofs.ReachedFeed.{Feeds, shut, bytes}
+use Rattle.judging.specs.Judging.{movedBy}
+use Rattle.promises.specs.Calls.{World, Opened, first}
+use Rattle.promises.specs.Effects.{Act, gave, got, messageIn, Effect, came, sent, faulted, nothing, acted, Past, actsBy, acts}
+use Rattle.promises.specs.History.{Moves, Walks, rests, moves, endsInAccept, Talks}
+use Rattle.promises.proofs.Effects.{Good, Steps, Leaves, still, shut, feeds, faults, hands, queues, serves}
 use Rattle.promises.proofs.Reached.{opens-fresh}
-use Rattle.promises.proofs.HistoryCalls.{good, feeds, takes, puts, makes, afterFeed, afterTake, afterPut, afterNext}
-use Rattle.promises.proofs.HistoryLaws.{no-act, an-act, front, acts-next}
-
--- ---- rows
-
--- where the one has no agency, and somebody has, the other has
-other-holds : (b : Bool) (a : Agency) → holds b a ≡ false → a ≢ Nobody → holds (not b) a ≡ true
-other-holds true Initiator e n = absurd (true≢false e)
-other-holds false Initiator e n = refl
-other-holds true Responder e n = refl
-other-holds false Responder e n = absurd (true≢false e)
-other-holds b Nobody e n = absurd (n refl)
-
-their-turn : (us : Party) (i s k f n : ℕ) → ours us i s ≡ false → nextOf (speaks (us .bundle) i) s k f ≡ To n → theirs us i s ≡ true
-unfolding ours
-their-turn us i s k f n e q =
-    other-holds (initiates (us .side) (roleOf (us .bundle) i)) (agencyOf (speaks (us .bundle) i) s) e (rows-say .going (speaks (us .bundle) i) s (leads-low (speaks (us .bundle) i) s k f n q .0))
-
--- ---- what a call does to the states
-
-data Talked (s : Settings) (w : World) (c : Call) (o : Out World Answer) : Type 0 where
-  quiet : o .world .connection .talk ≡ w .connection .talk → ((i : ℕ) → actsBy i c (o .answer) ≡ []) → Talked s w c o
-  acted : (j : ℕ) (a : Act) (to : ℕ) → j < instances (s .party .bundle) → (k : Moves (s .party) j (getD (w .connection .talk .states) j 0) a to)
-      → o .world .connection .talk ≡ movedBy (w .connection .talk) j (k .message .kind) to
-      → ((i : ℕ) → actsBy i c (o .answer) ≡ cond (eqb j i) (a ∷ []) []) → Talked s w c o
-
--- a world with its own settings
-module _ (w : World) (k : Reached (w .connection .settings) w) where
-  abbrev s : Settings
-  s = w .connection .settings
-
-  talked-take : (j : ℕ) (buf : List ℕ) {x : taking.Told} → Takes (w .connection) (w .receive) j buf x → Talked s w (take j buf) (afterTake w x)
-  talked-take j buf (refuses n z y f) = quiet refl (λ i. no-act (eqb j i) n _ z)
-  talked-take j buf (faults n low high h) = quiet refl (λ i. no-act (eqb j i) n _ (λ z. omega arith))
-  talked-take j buf (hands n m to h e l b r q) =
-      let xs : List ℕ = firstHeld (w .connection) (w .receive) j n in
-      let long : length xs ≡ n = stream-length _ _ _ _ n in
-      let at-front : lists.take n (sets buf 0 xs) ≡ xs = front buf xs n long b in
-      acted j (got n m (sets buf 0 xs)) to h
-      (record {
-        message = m;
-        reads = rw at-front r;
-        agency =
-            their-turn (s .party) j (getD (w .connection .talk .states) j 0) (m .kind) (flagOf (speaks (s .party .bundle) j) m) to e q;
-        row = q;
-      })
-      refl (λ i. an-act (eqb j i) (got n m (sets buf 0 xs)))
-
-  talked-put : (j : ℕ) (xs : List ℕ) {x : putting.Told} → Puts (w .connection) (w .send) j xs x → Talked s w (put j xs) (afterPut w x)
-  talked-put j xs (refuses n z y) = quiet refl (λ i. no-act (eqb j i) n (gave xs) z)
-  talked-put j xs (queues m to h g free u r q short fit) =
-      acted j (gave xs) to h (record { message = m; reads = r; agency = u; row = q }) refl
-      (λ i. an-act (eqb j i) (gave xs))
-
-  talked-feed : (xs : List ℕ) {x : feeding.Told} → Feeds (w .connection) (w .receive) xs x → Talked s w (feed xs) (afterFeed w x)
-  talked-feed xs (shut y) = quiet refl (λ i. refl)
-  talked-feed xs (bytes y) = quiet refl (λ i. refl)
-
-  talked-next : (time : ℕ) (buf : List ℕ) {x : sending.Told} → Nexts (w .connection) (w .send) time buf x → Talked s w (next time buf) (afterNext w x)
-  talked-next time buf (refuses n z y) = quiet refl (λ i. refl)
-  talked-next time buf (serves j who l) = quiet refl (λ i. refl)
-
-  talked : (c : Call) → Talked s w c (step w c)
-  unfolding step
-  talked (feed xs) = talked-feed xs (feeds w (good k) xs)
-  talked (take j buf) = talked-take j buf (takes w (good k) j buf)
-  talked (put j xs) = talked-put j xs (puts w (good k) j xs)
-  talked (next time buf) = talked-next time buf (makes w (good k) time buf)
-  talked status = quiet refl (λ i. refl)
+use Rattle.promises.proofs.HistoryLaws.{acts-next}
 
 -- ---- T11 (c)
 
@@ -124,7 +43,7 @@ ends-next [] a = refl
 ends-next (b ∷ []) a = refl
 ends-next (b ∷ d ∷ before) a = ends-next (d ∷ before) a
 
-module _ (w : World) (k : Reached (w .connection .settings) w) (past : Past) (t : Talks (w .connection .settings) past w) where
+module _ (w : World) (k : Good w) (past : Past) (t : Talks (w .connection .settings) past w) where
   abbrev given : Settings
   given = w .connection .settings
 
@@ -154,23 +73,33 @@ module _ (w : World) (k : Reached (w .connection .settings) w) (past : Past) (t 
       rw (q, not-yet, ends-next (acts 0 past) a, read-so))
       (λ q. rw (q, or-false, append-nil) (t .accepted))
 
-  talks-by : (c : Call) {o : Out World Answer} → Talked given w c o → Talks given (past ++ (record { call = c; answer = o .answer } ∷ [])) (o .world)
-  talks-by c {o} (quiet e n) =
+  -- an effect that is no act
+  quiet : (e : Effect) {w′ : World} → w′ .connection .talk ≡ w .connection .talk → ((i : ℕ) → actsBy i e ≡ []) → Talks given (past ++ (e ∷ [])) w′
+  quiet e {w′} f n =
       record {
-        states = λ i l. rw (acts-next past (record { call = c; answer = o .answer }) i, n i, append-nil, e) (t .states i l);
-        accepted = rw (acts-next past (record { call = c; answer = o .answer }) 0, n 0, append-nil, e) (t .accepted);
-      }
-  talks-by c {o} (acted j a to h m e n) =
-      record {
-        states = λ i l. rw (acts-next past (record { call = c; answer = o .answer }) i, n i, e) (walks-on j to a h m i l);
-        accepted = rw (acts-next past (record { call = c; answer = o .answer }) 0, n 0, e) (marks-on j to a m);
+        states = λ i l. rw (acts-next past e i, n i, append-nil, f) (t .states i l);
+        accepted = rw (acts-next past e 0, n 0, append-nil, f) (t .accepted);
       }
 
-pub talks-next : (s : Settings) (past : Past) (w : World) (c : Call) → Reached s w → Talks s past w
-    → Talks s (past ++ (event step w c ∷ [])) (step w c .world)
-talks-next s past w c k t =
-    subst (λ (x : Settings). Reached x w → Talks x past w → Talks x (past ++ (event step w c ∷ [])) (step w c .world)) (k .settings)
-    (λ k t. talks-by w k past t c (talked w k c)) k t
+  -- and an act
+  acts-on : {w′ : World} (j to : ℕ) (a : Act) (m : Message) → Steps w j a m to → w′ .connection .talk ≡ movedBy (w .connection .talk) j (m .kind) to
+      → Talks given (past ++ (acted j a ∷ [])) w′
+  acts-on {w′} j to a m q f =
+      let k : Moves (given .party) j (getD (w .connection .talk .states) j 0) a to =
+      record { message = m; reads = q .reads; agency = q .agency; row = q .row } in
+      record {
+        states = λ i l. rw (acts-next past (acted j a) i, f) (walks-on j to a (q .within) k i l);
+        accepted = rw (acts-next past (acted j a) 0, f) (marks-on j to a k);
+      }
+
+  pub talks-by : {real : Type 0} {e : Effect} {w′ : World} → Leaves w real e w′ → Talks given (past ++ (e ∷ [])) w′
+  talks-by still = quiet nothing refl (λ i. refl)
+  talks-by (shut o) = quiet (came 20 []) refl (λ i. refl)
+  talks-by {e = e} (feeds xs o spelt) = quiet e refl (λ i. refl)
+  talks-by (faults n j) = quiet (faulted n j) refl (λ i. refl)
+  talks-by (hands j n to m buf q fits long front) = acts-on j to (got n m buf) m q refl
+  talks-by (queues j to m xs q o free short room) = acts-on j to (gave xs) m q refl
+  talks-by (serves j time bs o who q) = quiet (sent time bs) refl (λ i. refl)
 
 pub talks-first : {s : Settings} {receive send : List ℕ} → Opened s receive send → Talks s [] (first s receive send)
 unfolding acts endsInAccept flatMap

@@ -1,5 +1,5 @@
 pub mod ExampleLaws
-pub mod Ways
+pub mod Effects
 pub mod ReachedFeed
 pub mod ReachedHandshake
 pub mod Reached
@@ -9,7 +9,6 @@ pub mod FairRound
 pub mod FairCalls
 pub mod FairSent
 pub mod Fair
-pub mod HistoryCalls
 pub mod Tied
 pub mod HistoryRuns
 pub mod HistoryShut

@@ -15,7 +15,7 @@ use Rattle.promises.proofs.Reached.{in-range-for-ever, never-23}
 use Rattle.promises.proofs.Fair.{fair}
 use Rattle.promises.proofs.History.{history, status-tells}
 use Rattle.promises.proofs.HistoryShut.{after-fault}
-use Rattle.promises.proofs.Alone.{alone, alike}
+use Rattle.promises.proofs.Alone.{alone, alike, which-byte}
 use Rattle.promises.proofs.ArrivalTaken.{built-is-taken}
 use Rattle.promises.proofs.AllMet.{all-met}
 use Rattle.promises.proofs.Arrival.{glued, all-there, journey}
@@ -52,5 +52,6 @@ further =
       built-is-taken = built-is-taken;
       journey = journey;
       alike = alike;
+      which-byte = which-byte;
       examples = examples.examples;
     }

@@ -1,7 +1,7 @@
 -- What feeding leaves of a record besides its range, byte by byte: its shape, and that what has not come is 0.
 -- Assumes nothing.
 use mathlib.Core.Path.{_≡_, _∙_}
-use mathlib.Core.Bool.{true, false, cond}
+use mathlib.Core.Bool.{cond}
 use mathlib.Core.List.{List, [], _∷_}
 use Prim.Native.Nat.{ℕ, _+_, _-_, _≤_}
 use native.Mathlib.Omega.{arith}
@@ -17,10 +17,9 @@ use Rattle.wire.specs.Segments.{headerLength, empty, added}
 use Rattle.wire.specs.Instances.{most}
 use Rattle.connection.specs.declared.Connection.{Connection}
 use Rattle.connection.specs.Closings.{isOpen}
-use Rattle.range.specs.Ranges.{receives}
-use Rattle.feeding.specs.declared.Admission.{Admission}
-use Rattle.feeding.specs.declared.Admission.the-variants.{Fault, Payload}
-use Rattle.feeding.specs.Feeding.{Reception, admission, settled, headed, kept, step, fed, used, Told, told, given, answered, refused, feedOpen, feedOf}
+use Rattle.admitting.specs.declared.Admission.{Admission}
+use Rattle.admitting.specs.declared.Admission.the-variants.{Fault, Payload}
+use Rattle.feeding.specs.Feeding.{Reception, admission, settled, headed, kept, step, fed, used, given}
 
 abbrev pub Blank : Header → Type 0
 Blank h = (k : ℕ) → h .count ≤ k → getD (h .bytes) k 0 ≡ 0
@@ -83,12 +82,3 @@ ends c st xs = fed (c .settings .party) (c .settings .receive) (given c st) xs
 
 abbrev pub uses : Connection → List ℕ → List ℕ → ℕ
 uses c st xs = used (c .settings .party) (c .settings .receive) (given c st) xs
-
--- A feed to a record in range with its store: the gate is closed and nothing changes, or bytes are fed.
-pub data Feeds (c : Connection) (st xs : List ℕ) : Told → Type 0 where
-  shut : isOpen (c .gate) ≡ false → Feeds c st xs (told (refused c 20) st)
-  bytes : isOpen (c .gate) ≡ true → Feeds c st xs (answered c (uses c st xs) (ends c st xs))
-
-pub feed-way : (c : Connection) (st xs : List ℕ) → receives c (length st) ≡ true → Feeds c st xs (feedOf c st xs)
-unfolding feedOf feedOpen
-feed-way c st xs r = rw r (cond-cases (Feeds c st xs) (isOpen (c .gate)) (λ o. bytes o) (λ o. shut o))

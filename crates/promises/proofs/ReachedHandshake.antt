@@ -12,15 +12,20 @@ use Rattle.base.proofs.Table.{every}
 use Rattle.wire.specs.declared.instances.Side.{Side}
 use Rattle.wire.specs.declared.instances.Party.{Party}
 use Rattle.wire.specs.declared.instances.Side.the-variants.{Dialler, Accepter}
+use Rattle.rows.specs.declared.Protocol.{Protocol}
 use Rattle.rows.specs.declared.Protocol.the-variants.{Handshake}
+use Rattle.rows.specs.declared.Next.the-variants.{To}
 use Rattle.wire.specs.Instances.{Role, initiator, responder, ofSide, sided, Instance, bundles, known, roleOf, initiates}
 use Rattle.wire.proofs.InstanceLaws.{of-instances, at-least}
-use Rattle.rows.specs.Rows.{placeIn, agencyIn, agencyOf, fits, rowsOf}
+use Rattle.rows.specs.Rows.{nextOf, placeIn, agencyIn, agencyOf, fits, rowsOf}
 use Rattle.rows.specs.Besides.Rows.{rowIn}
 use Rattle.rows.proofs.RowLaws.{rows-say}
 use Rattle.judging.specs.Judging.{holds, ours}
 use Rattle.judging.proofs.Moving.{first-speaks}
-use Rattle.promises.proofs.Ways.{Row}
+
+-- a message leads from a state of a protocol to another
+abbrev pub Row : Protocol → ℕ → ℕ → Type 0
+Row p state to = (k : ℕ) × (f : ℕ) × (nextOf p state k f ≡ To to)
 
 -- a message of Handshake leads from Propose to Confirm, and from there to Done
 pub data Shakes : ℕ → ℕ → Type 0 where

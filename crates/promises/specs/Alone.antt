@@ -11,9 +11,9 @@ use Rattle.wire.specs.Segments.{Carried, Divided}
 use Rattle.rows.specs.Spoken.{speaks}
 use Rattle.connection.specs.declared.Settings.{Settings}
 use Rattle.judging.specs.Judging.{View, judgedOf}
-use Rattle.promises.specs.Trace.{run, trace}
-use Rattle.promises.specs.Calls.{Call, take, Answer, fed, taken, queued, made, told, step, AllReal, Opened, first}
-use Rattle.promises.specs.History.{Past, bytesIn, Act, messageIn, acts, handedFor, receivedIn, endsInAccept, firstFault}
+use Rattle.promises.specs.Calls.{Call, take, Taken, step, run, AllReal, Opened, first}
+use Rattle.promises.specs.Effects.{Act, messageIn, Past, did, bytesIn, acts}
+use Rattle.promises.specs.History.{handedFor, receivedIn, endsInAccept, firstFault}
 
 -- the state that acts of instance i lead to from a state, one after the other, each by its row
 unfoldable pub stateAfter : Party → ℕ → ℕ → List Act → ℕ
@@ -44,19 +44,15 @@ abbrev pub but : View → Bool → View
 but v closed = record { party = v .party; instance = v .instance; state = v .state; accepted = v .accepted; closed = closed; bytes = v .bytes }
 
 -- 20 for 1
-abbrev pub twentyForOne : Answer → Answer
-twentyForOne (taken n len m buf) = taken (cond (eqb n 1) 20 n) len m buf
-twentyForOne (fed n used) = fed n used
-twentyForOne (queued n) = queued n
-twentyForOne (made n len buf) = made n len buf
-twentyForOne (told r) = told r
+abbrev pub twentyForOne : ℕ × Taken → ℕ × Taken
+twentyForOne (n, a) = (cond (eqb n 1) 20 n, a)
 
 -- One function gives the answer and the buffer of every take after every list of calls from open on, whatever the settings, from the view that the
 -- history gives and the lent buffer; and that the connection is closed only turns 1 into 20.
 pub record Alone : Type 0 where
-  pub answer : View → List ℕ → Answer
+  pub answer : View → List ℕ → ℕ × Taken
   pub takes : (s : Settings) (receive send : List ℕ) → Opened s receive send → (cs : List Call) → AllReal cs
       → let w = first s receive send in
-      (segments : List Carried) (left : List ℕ) → Divided (bytesIn (trace step w cs)) segments left
-      → (i : ℕ) (buf : List ℕ) → step (run step w cs) (take i buf) .answer ≡ answer (seenBy (s .party) (trace step w cs) segments left i) buf
+      (segments : List Carried) (left : List ℕ) → Divided (bytesIn (did w cs)) segments left
+      → (i : ℕ) (buf : List ℕ) → step (run w cs) (take i buf) .answer ≡ answer (seenBy (s .party) (did w cs) segments left i) buf
   pub closes : (v : View) (buf : List ℕ) → answer (but v true) buf ≡ twentyForOne (answer (but v false) buf)

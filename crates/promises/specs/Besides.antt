@@ -4,3 +4,4 @@ pub mod Arrival
 pub mod Examples
 pub mod Further
 pub mod Met
+pub mod WhichByte

@@ -1,7 +1,7 @@
 -- Calls on one connection, from open on: the caller hands record and stores back untouched.
 use Prim.Native.Nat.{ℕ, _<_, _^_}
 use mathlib.Core.Path.{_≡_}
-use mathlib.Core.List.{List}
+use mathlib.Core.List.{List, [], _∷_}
 use lib.ListN.{length}
 use Rattle.base.specs.Numbers.{Bytes}
 use Rattle.wire.specs.Instances.{most}
@@ -15,7 +15,6 @@ use Rattle.feeding.specs.Feeding.{feedOf}
 use Rattle.taking.specs.Taking.{takeOf}
 use Rattle.putting.specs.Putting.{putOf}
 use Rattle.sending.specs.NextSegment.{nextOf}
-use Rattle.promises.specs.Trace.{All, Out}
 
 -- A call, with what the caller lends or gives: bytes; an instance and a buffer; an instance and a message; a time and a buffer. Build has neither
 -- record nor store, and so no part in what follows.
@@ -26,13 +25,23 @@ pub data Call : Type 0 where
   next : ℕ → List ℕ → Call
   status : Call
 
--- What the caller sees: the number and what comes with it, and the lent buffer after the call.
-pub data Answer : Type 0 where
-  fed : (number used : ℕ) → Answer
-  taken : (number len : ℕ) (message : Message) (buffer : List ℕ) → Answer
-  queued : (number : ℕ) → Answer
-  made : (number len : ℕ) (buffer : List ℕ) → Answer
-  told : Report → Answer
+-- What the caller sees: the number, and what comes with it. Of feed the bytes used; of take a message's length or the offset of a bad byte, what the message
+-- says, and the lent buffer after the call; of put nothing; of next segment a segment's length and the lent buffer; of status the report.
+pub data Taken : Type 0 where
+  taken : (len offset : ℕ) (message : Message) (buffer : List ℕ) → Taken
+
+pub data Made : Type 0 where
+  made : (len : ℕ) (buffer : List ℕ) → Made
+
+abbrev pub With : Call → Type 0
+With (feed xs) = ℕ
+With (take i buf) = Taken
+With (put i xs) = Unit {0}
+With (next time buf) = Made
+With status = Report
+
+abbrev pub Answer : Call → Type 0
+Answer c = ℕ × With c
 
 -- Record and stores, which are handed on from call to call.
 pub record World : Type 0 where
@@ -43,24 +52,38 @@ pub record World : Type 0 where
 abbrev pub world : Connection → List ℕ → List ℕ → World
 world c receive send = record { connection = c; receive = receive; send = send }
 
+-- what a call gives
+pub record Out (c : Call) : Type 0 where
+  pub world : World
+  pub answer : Answer c
+
 -- One call, by the definitions that the operations' contracts equal (`Contracts.Tied`).
-unfoldable pub step : World → Call → Out World Answer
+unfoldable pub step : World → (c : Call) → Out c
 step w (feed xs) =
     let r = feedOf (w .connection) (w .receive) xs in
-    record { world = world (r .answer .connection) (r .store) (w .send); answer = fed (r .answer .number) (r .answer .used) }
+    record { world = world (r .answer .connection) (r .store) (w .send); answer = (r .answer .number, r .answer .used) }
 step w (take i buf) =
     let r = takeOf (w .connection) (w .receive) i buf in
     record {
       world = world (r .answer .connection) (w .receive) (w .send);
-      answer = taken (r .answer .number) (r .answer .len) (r .answer .message) (r .buffer);
+      answer = (r .answer .number, taken (r .answer .len) (r .answer .offset) (r .answer .message) (r .buffer));
     }
 step w (put i xs) =
     let r = putOf (w .connection) (w .send) i xs in
-    record { world = world (r .answer .connection) (w .receive) (r .store); answer = queued (r .answer .number) }
+    record { world = world (r .answer .connection) (w .receive) (r .store); answer = (r .answer .number, tt) }
 step w (next time buf) =
     let r = nextOf (w .connection) (w .send) time buf in
-    record { world = world (r .answer .connection) (w .receive) (w .send); answer = made (r .answer .number) (r .answer .len) (r .buffer) }
-step w status = record { world = w; answer = told (statusOf (w .connection)) }
+    record { world = world (r .answer .connection) (w .receive) (w .send); answer = (r .answer .number, made (r .answer .len) (r .buffer)) }
+step w status = let r = statusOf (w .connection) in record { world = w; answer = (r .number, r) }
+
+-- the number that a call answers
+abbrev pub answers : World → Call → ℕ
+answers w c = step w c .answer .0
+
+-- the world that calls, one after the other, leave
+unfoldable pub run : World → List Call → World
+run w [] = w
+run w (c ∷ cs) = run (step w c .world) cs
 
 -- What every call is that can be made: its bytes are bytes, and the time has 32 bits.
 abbrev pub Real : Call → Type 0
@@ -69,6 +92,11 @@ Real (take i buf) = Bytes buf
 Real (put i xs) = Bytes xs
 Real (next time buf) = (time < 2 ^ 32) × Bytes buf
 Real status = Unit {0}
+
+-- each of a list
+abbrev pub All : {A : Type 0} → (A → Type 0) → List A → Type 0
+All P [] = Unit {0}
+All P (x ∷ xs) = P x × All P xs
 
 unfoldable pub AllReal : List Call → Type 0
 AllReal cs = All Real cs

@@ -14,27 +14,15 @@ use Rattle.wire.specs.Instances.{instances, protocolOf, modeOf}
 use Rattle.connection.specs.declared.Settings.{Settings}
 use Rattle.connection.specs.Closings.{isOpen}
 use Rattle.connection.specs.Parts.{waitingOf}
-use Rattle.promises.specs.Trace.{Event, run, trace}
-use Rattle.promises.specs.Calls.{Call, next, Answer, fed, taken, queued, made, told, World, step, AllReal, Opened, first}
-use Rattle.promises.specs.Reached.{waits, numberOf}
+use Rattle.promises.specs.Calls.{Call, next, World, answers, run, AllReal, Opened, first}
+use Rattle.promises.specs.Reached.{waits}
+use Rattle.promises.specs.Effects.{did, segments}
 
 -- the bytes of instance i that wait: those of its stream from its start place on
 abbrev pub queue : World → ℕ → List ℕ
 queue w i = waitingOf (w .connection) (w .send) i
 
 -- ---- segments
-
--- the segment that an answer of next segment, with number 0, says is at the front of the lent buffer
-abbrev pub segmentOf : Answer → List (List ℕ)
-segmentOf (made number len buffer) = cond (eqb number 0) (list.take len buffer ∷ []) []
-segmentOf (fed number used) = []
-segmentOf (taken number len message buffer) = []
-segmentOf (queued number) = []
-segmentOf (told report) = []
-
--- the segments made, in order
-unfoldable pub segments : List (Event Call Answer) → List (List ℕ)
-segments past = flatMap (λ e. segmentOf (e .answer)) past
 
 -- what a segment's header says, and what follows it
 abbrev pub header : List ℕ → Segment
@@ -76,19 +64,19 @@ enough s p = instances (s .party .bundle) * (p / s .limit + 1)
 abbrev pub FairFrom : Settings → World → Type 0
 FairFrom s w =
     (i p : ℕ) → i < instances (s .party .bundle) → p < waits w i → (cs : List Call) → AllReal cs
-    → let ss = segments (trace step w cs) in
+    → let ss = segments (did w cs) in
     enough s p ≤ length ss → Sent (s .party) i p (getD (queue w i) p 0) (list.take (enough s p) ss)
 
 -- While the gate is open and a byte waits, a segment is made by every call of next segment that lends room for header and S bytes;
 -- and notice 4 is given exactly if the gate is open and nothing waits.
 pub record Serves (s : Settings) (w : World) : Type 0 where
   pub made : (i : ℕ) → i < instances (s .party .bundle) → 0 < waits w i → isOpen (w .connection .gate) ≡ true
-      → (time : ℕ) (buf : List ℕ) → headerLength + s .limit ≤ length buf → numberOf (step w (next time buf) .answer) ≡ 0
+      → (time : ℕ) (buf : List ℕ) → headerLength + s .limit ≤ length buf → answers w (next time buf) ≡ 0
   pub nothing : (time : ℕ) (buf : List ℕ)
-      → (numberOf (step w (next time buf) .answer) ≡ 4) ↔ ((isOpen (w .connection .gate) ≡ true) × ((i : ℕ) → i < instances (s .party .bundle) → waits w i ≡ 0))
+      → (answers w (next time buf) ≡ 4) ↔ ((isOpen (w .connection .gate) ≡ true) × ((i : ℕ) → i < instances (s .party .bundle) → waits w i ≡ 0))
 
 -- both, after every list of calls from open on
 abbrev pub Fair : Type 0
 Fair =
     (s : Settings) (receive send : List ℕ) → Opened s receive send → (cs : List Call) → AllReal cs
-    → let w = run step (first s receive send) cs in FairFrom s w × Serves s w
+    → let w = run (first s receive send) cs in FairFrom s w × Serves s w

@@ -24,67 +24,17 @@ use Rattle.messages.specs.declared.Message.{Message}
 use Rattle.messages.specs.Reading.{messageOf, read, flagOf}
 use Rattle.connection.specs.declared.Settings.{Settings}
 use Rattle.telling.specs.declared.Report.{Report}
-use Rattle.connection.specs.Closings.{closingOf, takeFault}
+use Rattle.connection.specs.Closings.{closingOf}
 use Rattle.judging.specs.Judging.{holds, ours}
 use Rattle.connection.specs.Parts.{heldOf}
-use Rattle.promises.specs.Trace.{All, Event, run, trace}
 use Rattle.promises.specs.Calls as calls
-use Rattle.promises.specs.Calls.{Call, Answer, World, step, Real, AllReal, Opened, first}
-use Rattle.promises.specs.Reached.{waits, numberOf}
-use Rattle.promises.specs.Fairness.{queue, segmentOf, segments, header, payload, sentBy}
+use Rattle.promises.specs.Calls.{Call, World, step, run, Real, All, AllReal, Opened, first}
+use Rattle.promises.specs.Effects as effects
+use Rattle.promises.specs.Effects.{Act, gave, got, messageIn, Effect, does, Past, did, usedBy, bytesIn, acts, segments}
+use Rattle.promises.specs.Reached.{waits}
+use Rattle.promises.specs.Fairness.{queue, header, payload, sentBy}
 
--- what was asked and answered, in order
-abbrev pub Past : Type 0
-Past = List (Event Call Answer)
-
--- ---- what the calls did
-
--- how many bytes a feed used
-abbrev pub usedIn : Answer → ℕ
-usedIn (calls.fed n used) = used
-usedIn (calls.taken n len m buf) = 0
-usedIn (calls.queued n) = 0
-usedIn (calls.made n len buf) = 0
-usedIn (calls.told r) = 0
-
--- the bytes that feeds used, end to end
-abbrev pub usedBy : Call → Answer → List ℕ
-usedBy (calls.feed xs) a = take (usedIn a) xs
-usedBy (calls.take j buf) a = []
-usedBy (calls.put j xs) a = []
-usedBy (calls.next time buf) a = []
-usedBy calls.status a = []
-
-unfoldable pub bytesIn : Past → List ℕ
-bytesIn past = flatMap (λ e. usedBy (e .call) (e .answer)) past
-
--- an accepted put, with its message; and a take answered 0, with the length and the message that it answered, and the lent buffer after it
-pub data Act : Type 0 where
-  gave : List ℕ → Act
-  got : (len : ℕ) (message : Message) (buffer : List ℕ) → Act
-
--- the bytes of its message: those handed out are at the front of the lent buffer
-abbrev pub messageIn : Act → List ℕ
-messageIn (gave xs) = xs
-messageIn (got len m buf) = take len buf
-
-abbrev pub gotIn : Answer → List Act
-gotIn (calls.fed n used) = []
-gotIn (calls.taken n len m buf) = got len m buf ∷ []
-gotIn (calls.queued n) = []
-gotIn (calls.made n len buf) = []
-gotIn (calls.told r) = []
-
--- the accepted puts and takes of instance i, in order
-abbrev pub actsBy : ℕ → Call → Answer → List Act
-actsBy i (calls.feed xs) a = []
-actsBy i (calls.take j buf) a = cond (eqb j i && eqb (numberOf a) 0) (gotIn a) []
-actsBy i (calls.put j xs) a = cond (eqb j i && eqb (numberOf a) 0) (gave xs ∷ []) []
-actsBy i (calls.next time buf) a = []
-actsBy i calls.status a = []
-
-unfoldable pub acts : ℕ → Past → List Act
-acts i past = flatMap (λ e. actsBy i (e .call) (e .answer)) past
+-- ---- what was put, and what was handed out
 
 -- the messages of instance i that were put, end to end
 abbrev pub putBy : Act → List ℕ
@@ -224,19 +174,19 @@ routed (route.To j) = some j
 
 -- The closing of a fault that a call answered, if it answered one, where bs are the bytes so far: of 11 to 13 from feed, whose last used bytes are
 -- the refused header, with the instance that it names; and of 14 to 17 from take.
-abbrev pub faultBy : Party → List ℕ → Call → Answer → Option (ℕ × Option ℕ)
-faultBy us bs (calls.feed xs) a = cond (leb 11 (numberOf a) && leb (numberOf a) 13) (some (numberOf a, routed (lastRoute us bs))) none
-faultBy us bs (calls.take j buf) a = cond (takeFault (numberOf a)) (some (numberOf a, some j)) none
-faultBy us bs (calls.put j xs) a = none
-faultBy us bs (calls.next time buf) a = none
-faultBy us bs calls.status a = none
+abbrev pub faultBy : Party → List ℕ → Effect → Option (ℕ × Option ℕ)
+faultBy us bs (effects.came n xs) = cond (leb 11 n && leb n 13) (some (n, routed (lastRoute us bs))) none
+faultBy us bs (effects.acted j a) = none
+faultBy us bs (effects.sent time xs) = none
+faultBy us bs (effects.faulted n j) = some (n, some j)
+faultBy us bs effects.nothing = none
 
 -- the closing of the first fault answered, with bs the bytes before
 unfoldable pub firstFault : Party → List ℕ → Past → Option (ℕ × Option ℕ)
 firstFault us bs [] = none
 firstFault us bs (e ∷ past) =
-    let now = bs ++ usedBy (e .call) (e .answer) in
-    orElse (faultBy us now (e .call) (e .answer)) (firstFault us now past)
+    let now = bs ++ usedBy e in
+    orElse (faultBy us now e) (firstFault us now past)
 
 -- The connection is closed by the first fault answered, and open if none was.
 abbrev pub Closes : Settings → Past → World → Type 0
@@ -253,14 +203,13 @@ pub record Tells (s : Settings) (past : Past) (w : World) : Type 0 where
 
 -- and a segment that is made there is of what waited
 abbrev pub Makes : Settings → World → Type 0
-Makes s w =
-    (time : ℕ) (buf bs : List ℕ) → Real (calls.next time buf) → segmentOf (step w (calls.next time buf) .answer) ≡ bs ∷ [] → Segmented s w time bs
+Makes s w = (c : Call) → Real c → (time : ℕ) (bs : List ℕ) → does w c ≡ effects.sent time bs → Segmented s w time bs
 
 -- after every list of calls from open on
 abbrev pub History : Type 0
 History =
     (s : Settings) (receive send : List ℕ) → Opened s receive send → (cs : List Call) → AllReal cs
-    → let w = run step (first s receive send) cs in Tells s (trace step (first s receive send) cs) w × Makes s w
+    → let w = run (first s receive send) cs in Tells s (did (first s receive send) cs) w × Makes s w
 
 -- ---- T13: status
 
@@ -283,22 +232,21 @@ pub record Reports (s : Settings) (past : Past) (r : Report) : Type 0 where
 abbrev pub StatusTells : Type 0
 StatusTells =
     (s : Settings) (receive send : List ℕ) → Opened s receive send → (cs : List Call) → AllReal cs
-    → let w = run step (first s receive send) cs in
-    (r : Report) → step w calls.status .answer ≡ calls.told r → Reports s (trace step (first s receive send) cs) r
+    → Reports s (did (first s receive send) cs) (step (run (first s receive send) cs) calls.status .answer .1)
 
 -- ---- T15: after a fault
 
--- A closed connection: feed, put and next segment answer 20, but put to an instance that there is not 10, and change nothing. A take writes to
--- no store and leaves what is to be sent and the closing; and it changes nothing if it hands nothing out.
+-- A closed connection: feed, put and next segment answer 20, but put to an instance that there is not 10, and change nothing. No call writes to
+-- a store, or changes what is to be sent or the closing; and it changes nothing at all if it hands nothing out.
 pub record Shut (w : World) : Type 0 where
-  pub feeds : (xs : List ℕ) → step w (calls.feed xs) ≡ record { world = w; answer = calls.fed 20 0 }
-  pub puts : (i : ℕ) (xs : List ℕ) → step w (calls.put i xs) ≡ record { world = w; answer = calls.queued (cond (ltb i (instances (w .connection .settings .party .bundle))) 20 10) }
-  pub makes : (time : ℕ) (buf : List ℕ) → step w (calls.next time buf) ≡ record { world = w; answer = calls.made 20 0 buf }
-  pub takes : (i : ℕ) (buf : List ℕ)
-      → let v = step w (calls.take i buf) .world in
+  pub feeds : (xs : List ℕ) → step w (calls.feed xs) ≡ record { world = w; answer = (20, 0) }
+  pub puts : (i : ℕ) (xs : List ℕ) → step w (calls.put i xs) ≡ record { world = w; answer = (cond (ltb i (instances (w .connection .settings .party .bundle))) 20 10, tt) }
+  pub makes : (time : ℕ) (buf : List ℕ) → step w (calls.next time buf) ≡ record { world = w; answer = (20, calls.made 0 buf) }
+  pub leaves : (c : Call)
+      → let v = step w c .world in
       (v .receive ≡ w .receive) × (v .send ≡ w .send) × (v .connection .sending ≡ w .connection .sending)
       × (closingOf (v .connection .gate) ≡ closingOf (w .connection .gate))
-  pub refuses : (i : ℕ) (buf : List ℕ) → (numberOf (step w (calls.take i buf) .answer) ≡ 0 → ⊥) → step w (calls.take i buf) .world ≡ w
+  pub refuses : (c : Call) → ((i : ℕ) (a : Act) → does w c ≡ effects.acted i a → ⊥) → step w c .world ≡ w
 
 -- nothing comes in, nothing is put and nothing is sent
 pub record Nothing (past : Past) : Type 0 where
@@ -310,6 +258,6 @@ pub record Nothing (past : Past) : Type 0 where
 abbrev pub AfterFault : Type 0
 AfterFault =
     (s : Settings) (receive send : List ℕ) → Opened s receive send → (cs ds : List Call) → AllReal cs → AllReal ds
-    → let w = run step (first s receive send) cs in
+    → let w = run (first s receive send) cs in
     (closing : ℕ × Option ℕ) → closingOf (w .connection .gate) ≡ some closing
-    → Shut w × Nothing (trace step w ds) × (closingOf (run step w ds .connection .gate) ≡ some closing)
+    → Shut w × Nothing (did w ds) × (closingOf (run w ds .connection .gate) ≡ some closing)

@@ -1,7 +1,7 @@
 pub mod Contracts
 pub mod Promises
-pub mod Trace
 pub mod Calls
+pub mod Effects
 pub mod Reached
 pub mod Fairness
 pub mod History

@@ -1,5 +1,6 @@
 -- What the front promises over several calls. Each that speaks of calls holds after every list of calls from an open answered 0 on (`Calls`), where
--- the caller hands record and stores back untouched. This is the file to open first; the words of each promise stand at its statement.
+-- the caller hands record and stores back untouched; what the calls did is read off them and their answers (`Effects`). This is the file to open
+-- first; the words of each promise stand at its statement.
 use Rattle.promises.specs.Contracts.{Contracts, Tied}
 use Rattle.promises.specs.Reached.{InRangeForEver, Never23}
 use Rattle.promises.specs.Fairness.{Fair}

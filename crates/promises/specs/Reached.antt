@@ -8,8 +8,7 @@ use Rattle.connection.specs.declared.Settings.{Settings}
 use Rattle.connection.specs.Shapes.{Shaped}
 use Rattle.range.specs.Ranges.{receiveLength, sendLength, inRange}
 use Rattle.feeding.specs.Feeding.{Spelt}
-use Rattle.promises.specs.Trace.{run}
-use Rattle.promises.specs.Calls.{Call, Answer, fed, taken, queued, made, told, World, step, AllReal, Opened, first}
+use Rattle.promises.specs.Calls.{Call, World, answers, run, AllReal, Opened, first}
 
 -- how many bytes of instance i wait
 abbrev pub waits : World → ℕ → ℕ
@@ -33,18 +32,10 @@ pub record Reached (s : Settings) (w : World) : Type 0 where
 
 abbrev pub InRangeForEver : Type 0
 InRangeForEver =
-    (s : Settings) (receive send : List ℕ) → Opened s receive send → (cs : List Call) → AllReal cs → Reached s (run step (first s receive send) cs)
-
--- the number of an answer
-abbrev pub numberOf : Answer → ℕ
-numberOf (fed n used) = n
-numberOf (taken n len message buffer) = n
-numberOf (queued n) = n
-numberOf (made n len buffer) = n
-numberOf (told r) = r .number
+    (s : Settings) (receive send : List ℕ) → Opened s receive send → (cs : List Call) → AllReal cs → Reached s (run (first s receive send) cs)
 
 -- so no call answers 23
 abbrev pub Never23 : Type 0
 Never23 =
     (s : Settings) (receive send : List ℕ) → Opened s receive send → (cs : List Call) → AllReal cs → (c : Call)
-    → numberOf (step (run step (first s receive send) cs) c .answer) ≡ 23 → ⊥
+    → answers (run (first s receive send) cs) c ≡ 23 → ⊥

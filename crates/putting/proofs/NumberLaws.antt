@@ -27,7 +27,7 @@ use Rattle.range.specs.Besides.Ranges.{InSend}
 use Rattle.range.proofs.RangeLaws as RangeLaws
 use Rattle.range.proofs.RangeLaws.{ranged, in-range, sends-both}
 use Rattle.judging.specs.declared.Judged.{Judged}
-use Rattle.judging.specs.Judging.{View, viewOf, spoken, led, said}
+use Rattle.judging.specs.Judging.{outcomeNumber, View, viewOf, spoken, led, said}
 use Rattle.judging.specs.Besides.Saying.{Moves, Utters, refusal, message}
 use Rattle.judging.proofs.SayingLaws.{utters, said-exactly, unsaid-number}
 use Rattle.judging.proofs.Moving.{moved-ranged, moved-shaped}
@@ -78,9 +78,9 @@ module _ (c : Connection) (store : List ℕ) (i : ℕ) (xs : List ℕ) where
   goes : {n : ℕ} → When c store i xs n → Way n
   goes (out-of-range r) = unfit r (put-range c store i xs r)
   goes (no-instance r h) = stays 10 (λ z. omega arith) (λ z. omega arith) (put-instance c store i xs r h)
-  goes (unsaid {n = n} a u) =
+  goes (unsaid {o = o} a u) =
       let (low, high) = unsaid-number u in
-      stays n (λ z. omega arith) (λ z. omega arith) (put-refused c store i xs a _ (said-as (refusal u)) (λ z. omega arith))
+      stays (outcomeNumber o) (λ z. omega arith) (λ z. omega arith) (put-refused c store i xs a _ (said-as (refusal u)) (λ z. omega arith))
   goes (above-limit a v z l) =
       stays 24 (λ z. omega arith) (λ z. omega arith)
       (too-long c store i xs _ (rw (eq-eqb i 0 z, lt-ltb (c .settings .limit) (length xs) l)) ∙ put-judged c store i xs a _ (said-as (message v)) refl)
@@ -110,7 +110,7 @@ module _ (c : Connection) (store : List ℕ) (i : ℕ) (xs : List ℕ) where
       (λ q. by-area (record { asked = a; moves = v; short = λ z. absurd (eqb-false i 0 q z) }))
 
   by-said : InSend c store i → {j : Judged} → Utters view j → Some
-  by-said a (refusal {n = n} u) = (n, unsaid a u)
+  by-said a (refusal {o = o} u) = (outcomeNumber o, unsaid a u)
   by-said a (message v) = by-length a v
 
   when : Some

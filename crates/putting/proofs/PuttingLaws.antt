@@ -18,7 +18,7 @@ use Rattle.range.specs.Besides.Ranges.{InSend}
 use Rattle.range.proofs.StoreLaws.{send-area}
 use Rattle.range.proofs.RangeLaws.{ranged, sends-both}
 use Rattle.judging.specs.declared.Judged.{Judged}
-use Rattle.judging.specs.Judging.{viewOf, said, marks}
+use Rattle.judging.specs.Judging.{outcomeNumber, viewOf, said, marks}
 use Rattle.putting.specs.Inside.{Waits}
 use Rattle.putting.specs.Putting.{told, refused, queued, stored, queue, putOf}
 
@@ -65,13 +65,13 @@ module _ (c : Connection) (store : List ℕ) (i : ℕ) (xs : List ℕ) where
   put-instance r h = rw (r, le-ltb i (instances (c .settings .party .bundle)) h)
 
   module _ (a : InSend c store i) (j : Judged) (e : j ≡ said (viewOf c i xs)) where
-    pub put-refused : j .number ≢ 0 → told (refused c (j .number)) store ≡ putOf c store i xs
+    pub put-refused : outcomeNumber (j .outcome) ≢ 0 → told (refused c (outcomeNumber (j .outcome))) store ≡ putOf c store i xs
     unfolding putOf
-    put-refused ne = rw (a .0, lt-ltb i (instances (c .settings .party .bundle)) (a .1), ← e, ne-eqb (j .number) 0 ne)
+    put-refused ne = rw (a .0, lt-ltb i (instances (c .settings .party .bundle)) (a .1), ← e, ne-eqb (outcomeNumber (j .outcome)) 0 ne)
 
-    pub put-judged : j .number ≡ 0 → queue c store i xs j ≡ putOf c store i xs
+    pub put-judged : outcomeNumber (j .outcome) ≡ 0 → queue c store i xs j ≡ putOf c store i xs
     unfolding putOf
-    put-judged z = rw (a .0, lt-ltb i (instances (c .settings .party .bundle)) (a .1), ← e, eq-eqb (j .number) 0 z)
+    put-judged z = rw (a .0, lt-ltb i (instances (c .settings .party .bundle)) (a .1), ← e, eq-eqb (outcomeNumber (j .outcome)) 0 z)
 
 -- ---- the ways out of queueing
 

@@ -12,7 +12,7 @@ use Rattle.connection.specs.Areas.{laidIn}
 use Rattle.connection.specs.Parts.{withSending, withTalk}
 use Rattle.range.specs.Ranges.{sends}
 use Rattle.judging.specs.declared.Judged.{Judged}
-use Rattle.judging.specs.Judging.{viewOf, said, movedBy}
+use Rattle.judging.specs.Judging.{viewOf, outcomeNumber, said, movedBy}
 use Rattle.putting.specs.declared.Queued.{Queued}
 
 -- an answer, and the send store as the call leaves it
@@ -52,7 +52,7 @@ queue c store i xs j =
 -- ---- a call
 
 abbrev pub byJudged : Connection → List ℕ → ℕ → List ℕ → Judged → Told
-byJudged c store i xs j = cond (eqb (j .number) 0) (queue c store i xs j) (told (refused c (j .number)) store)
+byJudged c store i xs j = cond (eqb (outcomeNumber (j .outcome)) 0) (queue c store i xs j) (told (refused c (outcomeNumber (j .outcome))) store)
 
 unfoldable pub putOf : Connection → List ℕ → ℕ → List ℕ → Told
 putOf c store i xs =

@@ -73,8 +73,10 @@ pub fn put(c: Connection, store: &mut [u8], instance: u64, message: &[u8]) -> Qu
     let mut states = t.states;
     let closed = base::not(is_open(gate));
     let j = judging::said(party, i, states[i], t.accepted, closed, message);
-    if j.number != 0 {
-        return refused(c, j.number);
+    let outcome = j.outcome;
+    let number = judging::number_of(outcome);
+    if number != 0 {
+        return refused(c, number);
     }
     let n = message.len() as u64;
     if base::and(i == HANDSHAKE, s.limit < n) {

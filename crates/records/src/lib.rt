@@ -1,4 +1,4 @@
-// The point log over a slice of records: what crate `log` does over parallel slices. The functions are few and thin, for each is
+// The point log over a slice of records: what crate `slices` does over parallel slices. The functions are few and thin, for each is
 // proved by a walk of its code; what numbers and points decide is left to `log::decide`.
 use log::decide::Done;
 use log::decide::Found;

@@ -51,23 +51,23 @@ pub fn filled(name: &[u8], n: u64, count: usize, buf: &[u8]) -> bool {
     output::end(out, p)
 }
 
-// What a message says, its length, and the lent buffer.
-pub fn taken(number: u64, len: usize, m: Message, buf: &[u8]) -> bool {
+// What a take is answered: the number, what the message says, its length, the offset, and the lent buffer.
+pub fn taken(number: u64, len: usize, offset: usize, m: Message, buf: &[u8]) -> bool {
     let mut space = [0u8; OUT];
     let out: &mut [u8] = &mut space;
-    let mut p = message(out, number, len, m);
+    let mut p = begun(out, b"take", &[number, m.kind, len as u64, offset as u64]);
+    p = message(out, p, m);
     p = output::run(out, p, buf);
     output::end(out, p)
 }
 
 // The numbers and the places of a message.
-fn message(out: &mut [u8], number: u64, len: usize, m: Message) -> Pen {
-    let mut p = begun(out, b"take", &[number, m.kind, len as u64]);
+fn message(out: &mut [u8], p: Pen, m: Message) -> Pen {
     let numbers = m.numbers;
-    p = listed(out, p, &numbers, m.count);
+    let q = listed(out, p, &numbers, m.count);
     let places = places_of(m);
     let parts = smaller(m.parts, MOST_PLACES);
-    listed(out, p, &places, parts + parts)
+    listed(out, q, &places, parts + parts)
 }
 
 // The first n of some numbers, of which there are so many.

@@ -295,7 +295,7 @@ fn taken(c: Connection, g: Given, receive: &[u8], i: u64, buf: &mut [u8]) -> Mad
     let connection = t.connection;
     Made {
         connection,
-        written: answering::taken(t.number, t.len, m, buf),
+        written: answering::taken(t.number, t.len, t.offset, m, buf),
     }
 }
 

@@ -28,7 +28,7 @@ use Rattle.range.specs.Besides.Ranges.{InReceive}
 use Rattle.range.proofs.StoreLaws.{receive-area}
 use Rattle.range.proofs.RangeLaws.{ranged, receives-both}
 use Rattle.judging.specs.declared.Judged.{Judged}
-use Rattle.judging.specs.Judging.{heard, marks}
+use Rattle.judging.specs.Judging.{outcomeNumber, heard, marks}
 use Rattle.judging.proofs.JudgingLaws.{whole-within}
 use Rattle.judging.proofs.HearingLaws.{heard-within}
 use Rattle.taking.specs.Inside.{Held}
@@ -110,13 +110,13 @@ module _ (c : Connection) (store : List ℕ) (i : ℕ) (buf : List ℕ) where
   take-instance r h = rw (r, le-ltb i (instances (c .settings .party .bundle)) h)
 
   module _ (a : InReceive c store i) (j : Judged) (e : j ≡ heard (seen c store i)) where
-    pub take-refused : j .number ≢ 0 → told (undone c i (j .number)) buf ≡ takeOf c store i buf
+    pub take-refused : outcomeNumber (j .outcome) ≢ 0 → told (undone c i (j .outcome)) buf ≡ takeOf c store i buf
     unfolding takeOf
-    take-refused ne = rw (a .0, lt-ltb i (instances (c .settings .party .bundle)) (a .1), ← e, ne-eqb (j .number) 0 ne)
+    take-refused ne = rw (a .0, lt-ltb i (instances (c .settings .party .bundle)) (a .1), ← e, ne-eqb (outcomeNumber (j .outcome)) 0 ne)
 
-    pub take-handed : j .number ≡ 0 → hand c store i buf j ≡ takeOf c store i buf
+    pub take-handed : outcomeNumber (j .outcome) ≡ 0 → hand c store i buf j ≡ takeOf c store i buf
     unfolding takeOf
-    take-handed z = rw (a .0, lt-ltb i (instances (c .settings .party .bundle)) (a .1), ← e, eq-eqb (j .number) 0 z)
+    take-handed z = rw (a .0, lt-ltb i (instances (c .settings .party .bundle)) (a .1), ← e, eq-eqb (outcomeNumber (j .outcome)) 0 z)
 
 -- ---- handing out
 
@@ -126,7 +126,7 @@ module _ (c : Connection) (store : List ℕ) (i : ℕ) (buf : List ℕ) (j : Jud
   hand-short h = rw (lt-ltb (length buf) (j .len) h)
 
   pub hand-made : (k : Connection) (full : List ℕ) → j .len ≤ length buf → k ≡ handed c i j → full ≡ sets buf 0 (firstHeld c store i (j .len))
-      → told (record { number = 0; len = j .len; message = j .message; connection = k }) full ≡ hand c store i buf j
+      → told (record { number = 0; len = j .len; offset = 0; message = j .message; connection = k }) full ≡ hand c store i buf j
   unfolding hand
   hand-made k full l e f = rw (le-ltb (length buf) (j .len) l, e, f)
 

@@ -1,4 +1,4 @@
--- Take (document 01, "Numbers and their order", and document 02, K1: 10 above the bundle's last instance; then what is heard of the instance, from 19
+-- Take (document 01, "Numbers and their order"; document 02, K1 and K3: 10 above the bundle's last instance; then what is heard of the instance, from 19
 -- to 16; 18; 23 before all others).
 use Prim.Native.Nat.{ℕ}
 use mathlib.Core.Bool.{cond}
@@ -16,7 +16,8 @@ use Rattle.range.specs.Ranges.{receives}
 use Rattle.connection.specs.Areas.{startsPast, countsLess}
 use Rattle.connection.specs.Parts.{withReceiving, withTalk, withGate, firstHeld, heldOf}
 use Rattle.judging.specs.declared.Judged.{Judged}
-use Rattle.judging.specs.Judging.{View, viewOf, heard, movedBy}
+use Rattle.judging.specs.declared.Outcome.{Outcome}
+use Rattle.judging.specs.Judging.{View, viewOf, outcomeNumber, outcomeOffset, heard, movedBy}
 use Rattle.taking.specs.declared.Taken.{Taken}
 
 -- an answer, and what the lent buffer then holds
@@ -33,13 +34,21 @@ seen c store i = viewOf c i (heldOf c store i)
 
 -- ---- refusals
 
+-- an answer without a message: a number, and with 14 an offset (K3)
+abbrev pub without : Connection → ℕ → ℕ → Taken
+without c n at = record { number = n; len = 0; offset = at; message = begun 0; connection = c }
+
 -- a refusal changes nothing
 abbrev pub refused : Connection → ℕ → Taken
-refused c n = record { number = n; len = 0; message = begun 0; connection = c }
+refused c n = without c n 0
 
--- but a fault closes
-abbrev pub undone : Connection → ℕ → ℕ → Taken
-undone c i n = cond (takeFault n) (refused (withGate c (closedBy (c .gate) (Of n i))) n) (refused c n)
+-- a fault closes, with its number and instance; any other number changes nothing
+abbrev pub shut : Connection → ℕ → ℕ → Connection
+shut c i n = cond (takeFault n) (withGate c (closedBy (c .gate) (Of n i))) c
+
+-- what was heard is no message that may be handed out
+abbrev pub undone : Connection → ℕ → Outcome → Taken
+undone c i o = without (shut c i (outcomeNumber o)) (outcomeNumber o) (outcomeOffset o)
 
 -- ---- handing out
 
@@ -64,12 +73,12 @@ handed c i j =
 unfoldable pub hand : Connection → List ℕ → ℕ → List ℕ → Judged → Told
 hand c store i buf j =
     cond (ltb (length buf) (j .len)) (told (refused c 18) buf)
-    (told (record { number = 0; len = j .len; message = j .message; connection = handed c i j }) (sets buf 0 (firstHeld c store i (j .len))))
+    (told (record { number = 0; len = j .len; offset = 0; message = j .message; connection = handed c i j }) (sets buf 0 (firstHeld c store i (j .len))))
 
 -- ---- a call
 
 abbrev pub byJudged : Connection → List ℕ → ℕ → List ℕ → Judged → Told
-byJudged c store i buf j = cond (eqb (j .number) 0) (hand c store i buf j) (told (undone c i (j .number)) buf)
+byJudged c store i buf j = cond (eqb (outcomeNumber (j .outcome)) 0) (hand c store i buf j) (told (undone c i (j .outcome)) buf)
 
 unfoldable pub takeOf : Connection → List ℕ → ℕ → List ℕ → Told
 takeOf c store i buf =

@@ -14,6 +14,9 @@ use connection::closings::is_open;
 use connection::closings::take_fault;
 use connection::parts::with_gate;
 use judging::Judged;
+use judging::Outcome;
+use judging::number_of;
+use judging::offset_of;
 use messages::Message;
 use range::Marks;
 use range::in_range;
@@ -27,38 +30,48 @@ ghost use Rattle.wire.specs.Instances.{instances};
 ghost use Rattle.connection.specs.Areas.{bytesOf};
 ghost use Rattle.judging.specs.Judging.{heard};
 ghost use Rattle.taking.specs.Inside.{Held};
-ghost use Rattle.taking.specs.Taking.{told, refused, undone, takeOf};
+ghost use Rattle.taking.specs.Taking.{told, without, shut, undone, takeOf};
 
-// The number; where it is 0, the message's length and what it says; and the record.
+// The number; where it is 0, the message's length and what it says; where it is 14, the offset of the first byte after
+// which no message is possible, counted from the message's first byte; and the record.
 pub struct Taken {
     pub number: u64,
     pub len: usize,
+    pub offset: usize,
     pub message: Message,
     pub connection: Connection,
 }
 
-// A refusal or a notice that changes nothing.
-fn refused(c: Connection, number: u64) -> Taken
-    ensures { λ r. ⌜ r ≡ refused c number ⌝ }
+// An answer without a message.
+fn without(c: Connection, number: u64, offset: usize) -> Taken
+    ensures { λ r. ⌜ r ≡ without c number offset ⌝ }
 {
     Taken {
         number,
         len: 0,
+        offset,
         message: messages::begin(0),
         connection: c,
     }
 }
 
 // A fault closes the connection, with its number and instance; any other number changes nothing.
-fn undone(c: Connection, instance: u64, number: u64) -> Taken
-    ensures { λ r. ⌜ r ≡ undone c instance number ⌝ }
+fn shut(c: Connection, instance: u64, number: u64) -> Connection
+    ensures { λ r. ⌜ r ≡ shut c instance number ⌝ }
 {
     if take_fault(number) {
         let gate = c.gate;
-        let closed = with_gate(c, close(gate, Closing::Of(number, instance)));
-        return refused(closed, number);
+        return with_gate(c, close(gate, Closing::Of(number, instance)));
     }
-    refused(c, number)
+    c
+}
+
+// What was heard is no message that may be handed out.
+fn undone(c: Connection, instance: u64, outcome: Outcome) -> Taken
+    ensures { λ r. ⌜ r ≡ undone c instance outcome ⌝ }
+{
+    let number = number_of(outcome);
+    without(shut(c, instance, number), number, offset_of(outcome))
 }
 
 // What is heard of instance i, whose bytes held lie around its area, from the place `start` on. Nothing is changed, and no
@@ -131,10 +144,10 @@ pub fn take(c: Connection, store: &[u8], instance: u64, buf: &mut [u8]) -> Taken
         marks,
     );
     if !base::and(range.ok, store.len() as u64 == range.receive) {
-        return refused(c, 23);
+        return without(c, 23, 0);
     }
     if count(party.bundle) as u64 <= instance {
-        return refused(c, 10);
+        return without(c, 10, 0);
     }
     let i = instance as usize;
     let mut starts = r.starts;
@@ -152,11 +165,12 @@ pub fn take(c: Connection, store: &[u8], instance: u64, buf: &mut [u8]) -> Taken
         starts[i],
         held[i],
     );
-    if j.number != 0 {
-        return undone(c, instance, j.number);
+    let outcome = j.outcome;
+    if number_of(outcome) != 0 {
+        return undone(c, instance, outcome);
     }
     if buf.len() < j.len {
-        return refused(c, 18);
+        return without(c, 18, 0);
     }
     read(buf, 0, store, &s.receive, i, starts[i], j.len);
     leave(&s.receive, &mut starts, &mut held, i, j.len as u64);
@@ -176,6 +190,7 @@ pub fn take(c: Connection, store: &[u8], instance: u64, buf: &mut [u8]) -> Taken
     Taken {
         number: 0,
         len: j.len,
+        offset: 0,
         message,
         connection: Connection {
             settings: s,

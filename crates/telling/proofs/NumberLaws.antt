@@ -1,18 +1,20 @@
 -- Which number status answers: the range decides.
 -- Assumes nothing.
-use mathlib.Core.Path.{_≡_, refl, sym, _∙_}
-use mathlib.Core.Bool.{Bool, true, false, true≢false}
-use mathlib.Core.Logic.{_↔_}
-use native.Mathlib.Omega.{arith}
+use mathlib.Core.Path.{_≡_}
+use Prim.Native.Nat.{ℕ}
+use Rattle.base.proofs.Conds.{by-test, exactly-when}
 use Rattle.connection.specs.declared.Connection.{Connection}
 use Rattle.range.specs.Ranges.{inRange}
 use Rattle.telling.specs.Statuses.{statusOf}
-use Rattle.telling.specs.Besides.Numbers.{StatusExactly}
+use Rattle.telling.specs.Besides.Numbers.{When, out-of-range, done, Exactly}
 
-by-range : (c : Connection) (t : Bool) → inRange c ≡ t → ((statusOf c .number ≡ 0) ↔ (inRange c ≡ true)) × ((statusOf c .number ≡ 23) ↔ (inRange c ≡ false))
+pub answered : (c : Connection) {n : ℕ} → When c n → statusOf c .number ≡ n
 unfolding statusOf
-by-range c true e = ((λ q. e, λ q. rw e), (λ q. absurd (omega (arith, rw e at q)), λ q. absurd (true≢false (sym e ∙ q))))
-by-range c false e = ((λ q. absurd (omega (arith, rw e at q)), λ q. absurd (true≢false (sym q ∙ e))), (λ q. e, λ q. rw e))
+answered c (out-of-range r) = rw r
+answered c (done r) = rw r
 
-pub status-exactly : StatusExactly
-status-exactly c = by-range c (inRange c) refl
+when : (c : Connection) → (n : ℕ) × When c n
+when c = by-test (inRange c) (λ t. (0, done t)) (λ t. (23, out-of-range t))
+
+pub exactly : Exactly
+exactly c n = let (k, w) = when c in exactly-when (When c) (answered c w) w (answered c)

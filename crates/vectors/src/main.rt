@@ -1,9 +1,11 @@
-// CBOR vectors, each measured: all examples of RFC 8949's appendices A and F, P7 to P10, and what is easy to get wrong. They
-// are the lines on standard input, in hex; a line that begins with `# ` is a remark, and one with `: ` a title.
+// CBOR vectors, each measured: all examples of RFC 8949's appendices A and F, P7 to P10, what is easy to get wrong, and bytes
+// that go bad at a place of every sort (K3). They are the lines on standard input, in hex; a line that begins with `# ` is a
+// remark, and one with `: ` a title.
 //
-// A line for each: its bytes; the verdict, with the item's length or the bad byte's offset; of how many of its proper
-// prefixes the verdict is incomplete; and from how many of the 32 places of a ring on the verdict is the same as that
-// on the bytes in one piece.
+// A line for each: its bytes; the verdict, with the item's length or the bad byte's offset; for what is bad, whether the
+// longest prefix that is incomplete agrees, whose length the offset is by definition, and for which every prefix is tried;
+// how many proper prefixes are incomplete; and from how many of the 32 places of a ring on the verdict, with its number,
+// is the same as that on the bytes in one piece.
 //
 // Appendix A has 81 examples, appendix F 94. Both lists are those of the RFC's text, as Debian's package doc-rfc-std
 // 20230121-1 has it, complete and in its order: taken out of that text and compared, hex for hex. All of A are whole; of
@@ -113,26 +115,35 @@ fn show(bytes: &[u8]) -> bool
     requires { ⌜ length (now bytes) ≤ 32 ⌝ }
 {
     let v = cbor::measure_slice(bytes);
+    let t = prefixes(bytes);
     let mut space = [0u8; LINE];
     let out: &mut [u8] = &mut space;
     let mut p = output::hex(out, output::begin(), bytes);
-    p = verdict(out, p, v);
-    p = count(out, p, b", prefixes", prefixes(bytes));
+    p = verdict(out, p, v, t.longest);
+    p = count(out, p, b", prefixes", t.count);
     p = count(out, p, b", rings", rings(bytes, v));
     output::end(out, p)
 }
 
-// How many proper prefixes are incomplete.
-fn prefixes(bytes: &[u8]) -> usize
+// What trying every proper prefix tells: how many are incomplete, and how long the longest of these is.
+struct Tried {
+    count: usize,
+    longest: usize,
+}
+
+fn prefixes(bytes: &[u8]) -> Tried
     requires { ⌜ length (now bytes) ≤ 32 ⌝ }
 {
     let mut count: usize = 0;
+    let mut longest: usize = 0;
     let mut k: usize = 0;
     while k < bytes.len() {
-        count += as_count(incomplete(cbor::measure_slice(&bytes[..k])));
+        let so = incomplete(cbor::measure_slice(&bytes[..k]));
+        count += as_count(so);
+        longest = chosen(so, k, longest);
         k += 1;
     }
-    count
+    Tried { count, longest }
 }
 
 // From how many places of a ring on the verdict is the same.
@@ -208,13 +219,30 @@ fn as_count(so: bool) -> usize
     0
 }
 
+// The first where it is so, and else the second.
+fn chosen(so: bool, first: usize, second: usize) -> usize {
+    if so {
+        return first;
+    }
+    second
+}
+
 // A verdict in words, with its number.
-fn verdict(out: &mut [u8], p: Pen, v: Verdict) -> Pen {
+fn verdict(out: &mut [u8], p: Pen, v: Verdict, longest: usize) -> Pen {
     match v {
         Verdict::Whole(n) => count(out, p, b" whole", n),
-        Verdict::Bad(n) => count(out, p, b" bad", n),
+        Verdict::Bad(at) => offset(out, p, at, longest),
         Verdict::Incomplete => output::words(out, p, b" incomplete"),
     }
+}
+
+// The bad byte's offset, and whether it is what it is defined to be.
+fn offset(out: &mut [u8], p: Pen, at: usize, longest: usize) -> Pen {
+    let q = count(out, p, b" bad at", at);
+    if at == longest {
+        return output::words(out, q, b", longest prefix agrees");
+    }
+    output::words(out, q, b", longest prefix differs")
 }
 
 // Words and a number.

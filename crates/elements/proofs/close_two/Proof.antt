@@ -1,7 +1,6 @@
 -- `elements::close_two` meets its contract: the test decides.
 -- Assumes nothing.
 use mathlib.Core.Path.{sym, ap, _∙_}
-use Prim.Native.Nat.{ℕ}
 use native.Mathlib.Omega.{arith}
 use denote.Ref.{now}
 use Rattle.ring.specs.Inside.{around}

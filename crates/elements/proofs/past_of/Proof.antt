@@ -1,7 +1,7 @@
 -- `elements::past_of` meets its contract: a break stands behind the elements.
 -- Assumes nothing.
 use Prim.Native.Nat.{_≤_}
-use mathlib.Core.Path.{sym, refl, ap, subst, _∙_}
+use mathlib.Core.Path.{sym, ap, subst}
 use native.Mathlib.Omega.{arith}
 use Rattle.elements.specs.declared.Extent.{Extent}
 use Rattle.elements.specs.Matching.{past}

@@ -12,7 +12,8 @@ use Rattle.range.specs.Ranges.{inRange, receives}
 use Rattle.range.proofs.RangeLaws.{receives-is}
 use Rattle.feeding.specs.declared.Fed.{Fed}
 use Rattle.feeding.specs.Feeding.{Reception, told, answered}
-use Rattle.feeding.specs.Inside.{reception, Sound}
+use Rattle.admitting.specs.Inside.{reception}
+use Rattle.feeding.specs.Inside.{Sound}
 use Rattle.feeding.proofs.Bytes.{open-is, open-parts, sound-given, open-by, feed-range, feed-closed, feed-open}
 use borrow.Author.Needs.{needs}
 use Rattle.feeding.proofs.feed.Statement.{statement}

@@ -7,7 +7,7 @@ use native.Mathlib.Nat.{zero-add}
 use lib.ListN.{length}
 use borrow.Author.Tests.{not-true, not-false}
 use Rattle.connection.specs.declared.Gate.the-variants.{Open}
-use Rattle.feeding.specs.Inside.{reception}
+use Rattle.admitting.specs.Inside.{reception}
 use Rattle.feeding.proofs.Bytes.{Running, run-more, run-shut, run-end}
 use borrow.Author.Needs.{needs}
 use Rattle.feeding.proofs.steps.Statement.{statement}

@@ -18,7 +18,7 @@ use Rattle.connection.specs.declared.Gate.the-variants.{Closed}
 use Rattle.connection.specs.Closings.{closingNumber, isOpen}
 use Rattle.connection.specs.Parts.{withReceiving}
 use Rattle.range.specs.Ranges.{receives}
-use Rattle.feeding.specs.declared.Admission.the-variants.{Fault}
+use Rattle.admitting.specs.declared.Admission.the-variants.{Fault}
 use Rattle.feeding.specs.Feeding.{Reception, admitted, withHeader, fed, Told, told, refused, given, feedOf, Spelt}
 
 -- A byte of the run, reached while the connection is open and no payload under way, makes a header whole; of the held counts there, and of

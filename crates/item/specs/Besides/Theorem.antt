@@ -36,6 +36,15 @@ BadIsNeither =
     (d : ℕ) (bs : List ℕ)
     → ((n : ℕ) × (judge bs 0 (start d) ≡ Bad n)) ↔ ((Begun d bs → ⊥) × ((n : ℕ) → Begins d bs n → ⊥))
 
+-- Which byte (document 02, K3): where the verdict is bad at n, the first n bytes are incomplete, and with one more they are bad. That holds of no
+-- other n, so n is one number, whatever comes behind.
+pub record FirstBad (d : ℕ) (bs : List ℕ) (n : ℕ) : Type 0 where
+  pub so : judge bs 0 (start d) ≡ Bad n → (judge (take n bs) 0 (start d) ≡ Incomplete) × (judge (take (suc n) bs) 0 (start d) ≡ Bad n)
+  pub only : (m : ℕ) → judge (take n bs) 0 (start d) ≡ Incomplete → judge (take (suc n) bs) 0 (start d) ≡ Bad m → judge bs 0 (start d) ≡ Bad n
+
+abbrev pub WhichByte : Type 0
+WhichByte = (d : ℕ) (bs : List ℕ) (n : ℕ) → FirstBad d bs n
+
 -- An item within a nesting is one within a greater nesting.
 abbrev pub NestingMonotone : Type 0
 NestingMonotone = (d : ℕ) (bs : List ℕ) → Item d bs → Item (suc d) bs

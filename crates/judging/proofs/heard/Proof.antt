@@ -10,6 +10,7 @@ use Rattle.ring.proofs.Around.{around-length}
 use Rattle.item.specs.Verdict.{verdict}
 use Rattle.rows.specs.declared.Protocol.{Protocol}
 use Rattle.rows.specs.Rows.{doneOf}
+use Rattle.judging.specs.declared.Outcome.the-variants.{OurTurn, Finished, AfterDone, NoAccept}
 use Rattle.judging.specs.Judging.{View, spoken, oursNow, barred, unjudged, byVerdict}
 use Rattle.judging.specs.Besides.Hearing.{refusal, no-accept, our-turn}
 use Rattle.judging.proofs.JudgingLaws.{ours-spoken}
@@ -48,21 +49,21 @@ returns : tie.Need-returns
 returns c =
     let b = c .before .before in
     let bars = sym (b .barred .ensures) ∙ c .before .if1 .taken in
-    c .unjudged .ensures ∙ sym (heard-exactly (view (b .before .before)) (unjudged 19) .1 (refusal (no-accept bars)))
+    c .unjudged .ensures ∙ sym (heard-exactly (view (b .before .before)) (unjudged NoAccept) .1 (refusal (no-accept bars)))
 
 returns-2 : tie.Need-returns-2
 returns-2 c =
     let b = c .before .before .before in
     let s = start b in
     let long = around-length (s .args .area .now) (s .args .start) (s .args .n) (s .pre .2) in
-    c .unjudged2 .ensures ∙ ap unjudged (c .before .choose .ensures ∙ ap (λ (k : ℕ). cond (eqb k 0) 3 17) (sym long))
+    c .unjudged2 .ensures ∙ ap unjudged (c .before .ended .ensures ∙ ap (λ (k : ℕ). cond (eqb k 0) Finished AfterDone) (sym long))
     ∙ sym (heard-done (view s) (unbarred b) (c .before .before .if2 .taken ∙ last b))
 
 returns-3 : tie.Need-returns-3
 returns-3 c =
     let b = c .before .before .before .before in
     let ours-now = sym (turn (c .before .before)) ∙ c .before .if3 .taken in
-    c .unjudged3 .ensures ∙ sym (heard-exactly (view (start b)) (unjudged 2) .1 (refusal (our-turn (unbarred b) (going (c .before .before .before)) ours-now)))
+    c .unjudged3 .ensures ∙ sym (heard-exactly (view (start b)) (unjudged OurTurn) .1 (refusal (our-turn (unbarred b) (going (c .before .before .before)) ours-now)))
 
 returns-4 : tie.Need-returns-4
 returns-4 c =

@@ -26,13 +26,13 @@ returns c =
 
 returns-2 : tie.Need-returns-2
 returns-2 c =
-    let e = sym (c .before .before .before .measure .ensures) ∙ c .before .enum-told .given .1 in
+    let e = sym (c .before .before .before .before .measure .ensures) ∙ c .before .before .v2 .given .1 in
     rw e (c .unjudged .ensures)
 
 returns-3 : tie.Need-returns-3
 returns-3 c =
-    let e = sym (c .before .before .before .before .measure .ensures) ∙ c .before .before .enum-told2 .given .1 in
-    rw e (c .unjudged2 .ensures ∙ ap unjudged (c .before .choose .ensures))
+    let e = sym (c .before .before .before .before .measure .ensures) ∙ c .before .before .enum-told .given .1 in
+    rw e (c .unjudged2 .ensures ∙ ap unjudged (c .before .not-whole .ensures))
 
 pub measured-spec : {M : Type 1} → statement M
 measured-spec =

@@ -3,6 +3,7 @@
 use mathlib.Core.Path.{_≡_, sym, ap, _∙_}
 use mathlib.Core.Bool.{false}
 use Rattle.rows.specs.declared.Protocol.{Protocol}
+use Rattle.judging.specs.declared.Outcome.the-variants.{NoAccept, Closed, NotOurTurn}
 use Rattle.judging.specs.Judging.{View, oursNow, barred, unjudged, judgedOf}
 use Rattle.judging.specs.Besides.Saying.{refusal, closed, no-accept, not-our-turn}
 use Rattle.judging.proofs.JudgingLaws.{ours-spoken}
@@ -29,13 +30,13 @@ turn c = let a = start c .args in c .ours .ensures ∙ ours-spoken (a .party) (a
 
 returns : tie.Need-returns
 returns c =
-    c .unjudged .ensures ∙ sym (said-exactly (view (c .before .before .before)) (unjudged 20) .1 (refusal (closed (c .before .if1 .taken))))
+    c .unjudged .ensures ∙ sym (said-exactly (view (c .before .before .before)) (unjudged Closed) .1 (refusal (closed (c .before .if1 .taken))))
 
 returns-2 : tie.Need-returns-2
 returns-2 c =
     let b = c .before .before in
     let bars = sym (b .barred .ensures) ∙ c .before .if2 .taken in
-    c .unjudged2 .ensures ∙ sym (said-exactly (view (b .before .before .before)) (unjudged 19) .1 (refusal (no-accept (b .before .if1 .left) bars)))
+    c .unjudged2 .ensures ∙ sym (said-exactly (view (b .before .before .before)) (unjudged NoAccept) .1 (refusal (no-accept (b .before .if1 .left) bars)))
 
 returns-3 : tie.Need-returns-3
 returns-3 c =
@@ -50,7 +51,7 @@ returns-4 c =
     let b = c .before .before in
     let theirs = sym (turn b) ∙ c .before .if3 .left in
     c .unjudged3 .ensures
-    ∙ sym (said-exactly (view (start b)) (unjudged 21) .1 (refusal (not-our-turn (b .before .before .before .before .if1 .left) (unbarred b) theirs)))
+    ∙ sym (said-exactly (view (start b)) (unjudged NotOurTurn) .1 (refusal (not-our-turn (b .before .before .before .before .if1 .left) (unbarred b) theirs)))
 
 pub said-spec : {M : Type 1} → statement M
 said-spec =

@@ -1,4 +1,4 @@
--- T2 for what take asks of a view: which number is told, exactly when (document 01, "Numbers and their order").
+-- T2 for what take asks of a view: which outcome is told, exactly when (document 01, "Numbers and their order").
 use Prim.Native.Nat.{ℕ}
 use mathlib.Core.Path.{_≡_}
 use mathlib.Core.Bool.{true, false}
@@ -9,7 +9,11 @@ use Rattle.item.specs.Verdict.{verdict}
 use Rattle.rows.specs.declared.Next.the-variants.{To, None}
 use Rattle.rows.specs.Rows.{doneOf}
 use Rattle.messages.specs.declared.Message.{Message}
+use Rattle.messages.specs.declared.Reading.{Reading}
+use Rattle.messages.specs.Reading.{messageOf}
 use Rattle.messages.specs.Besides.Theorem.{Says}
+use Rattle.judging.specs.declared.Outcome.{Outcome}
+use Rattle.judging.specs.declared.Outcome.the-variants.{Waiting, OurTurn, Finished, BytesBad, NoMessage, NoRow, AfterDone, NoAccept, Closed}
 use Rattle.judging.specs.declared.Judged.{Judged}
 use Rattle.judging.specs.Judging.{View, spoken, oursNow, barred, unjudged, led, heard}
 use Rattle.judging.specs.Besides.Judging.{leadsTo}
@@ -29,22 +33,23 @@ pub record Spells (v : View) (n : ℕ) (m : Message) (next : ℕ) : Type 0 where
   pub row : leadsTo v m ≡ To next
 
 -- when each refusal or notice is told
-pub data Unheard (v : View) : ℕ → Type 0 where
-  no-accept : barred v ≡ true → Unheard v 19
+pub data Unheard (v : View) : Outcome → Type 0 where
+  no-accept : barred v ≡ true → Unheard v NoAccept
   -- at Done, notice 3 with nothing held, else 17
-  finished : barred v ≡ false → v .state ≡ doneOf (spoken v) → length (v .bytes) ≡ 0 → Unheard v 3
-  after-done : barred v ≡ false → v .state ≡ doneOf (spoken v) → (length (v .bytes) ≡ 0 → ⊥) → Unheard v 17
-  our-turn : barred v ≡ false → (v .state ≡ doneOf (spoken v) → ⊥) → oursNow v ≡ true → Unheard v 2
+  finished : barred v ≡ false → v .state ≡ doneOf (spoken v) → length (v .bytes) ≡ 0 → Unheard v Finished
+  after-done : barred v ≡ false → v .state ≡ doneOf (spoken v) → (length (v .bytes) ≡ 0 → ⊥) → Unheard v AfterDone
+  our-turn : barred v ≡ false → (v .state ≡ doneOf (spoken v) → ⊥) → oursNow v ≡ true → Unheard v OurTurn
   -- incomplete, notice 1, or 20 if closed
-  waiting : Awaited v → verdict (v .bytes) ≡ Incomplete → v .closed ≡ false → Unheard v 1
-  closed : Awaited v → verdict (v .bytes) ≡ Incomplete → v .closed ≡ true → Unheard v 20
-  bytes-bad : {at : ℕ} → Awaited v → verdict (v .bytes) ≡ Bad at → Unheard v 14
-  no-message : {n : ℕ} → Awaited v → verdict (v .bytes) ≡ Whole n → ((m : Message) → Says (spoken v) (take n (v .bytes)) m → ⊥) → Unheard v 15
-  no-row : {n : ℕ} {m : Message} → Awaited v → verdict (v .bytes) ≡ Whole n → Says (spoken v) (take n (v .bytes)) m → leadsTo v m ≡ None → Unheard v 16
+  waiting : Awaited v → verdict (v .bytes) ≡ Incomplete → v .closed ≡ false → Unheard v Waiting
+  closed : Awaited v → verdict (v .bytes) ≡ Incomplete → v .closed ≡ true → Unheard v Closed
+  bytes-bad : {at : ℕ} → Awaited v → verdict (v .bytes) ≡ Bad at → Unheard v (BytesBad at)
+  no-message : {n : ℕ} {r : Reading} → Awaited v → verdict (v .bytes) ≡ Whole n → messageOf (spoken v) (take n (v .bytes)) .reading ≡ r
+      → ((m : Message) → Says (spoken v) (take n (v .bytes)) m → ⊥) → Unheard v (NoMessage r)
+  no-row : {n : ℕ} {m : Message} → Awaited v → verdict (v .bytes) ≡ Whole n → Says (spoken v) (take n (v .bytes)) m → leadsTo v m ≡ None → Unheard v NoRow
 
 -- a refusal or notice, or a message
 pub data Hears (v : View) : Judged → Type 0 where
-  refusal : {n : ℕ} → Unheard v n → Hears v (unjudged n)
+  refusal : {o : Outcome} → Unheard v o → Hears v (unjudged o)
   message : {n next : ℕ} {m : Message} → Spells v n m next → Hears v (led n m next)
 
 abbrev pub HeardExactly : Type 0

@@ -1,16 +1,15 @@
 -- What the log holds after any calls: "After any sequence its content is what the history says" (document 02, K10).
-use Prim.Native.Nat.{ℕ, _<_, _≤_}
+use Prim.Native.Nat.{ℕ, _≤_}
 use mathlib.Core.Path.{_≡_}
-use mathlib.Core.Bool.{cond, true}
+use mathlib.Core.Bool.{cond}
 use mathlib.Core.List.{List, [], _∷_, _++_}
 use lib.Dec.{eqb}
-use lib.ListN.{length, getD, take}
+use lib.ListN.{length, take}
 use Rattle.points.specs.declared.Point.{Point}
 use Rattle.points.specs.declared.Place.{Place}
 use Rattle.points.specs.declared.Place.the-variants.{Origin, Block}
 use Rattle.points.specs.Points.{pointOf}
 use Rattle.log.specs.Log.{slotsOf, same, backOf, addOf}
-use Rattle.log.specs.Parallel.{match, records, backIn, addIn}
 use Rattle.log.specs.Inside.{Rising}
 
 -- a call, with the item that it is given
@@ -78,39 +77,3 @@ pub record Kept (run : List Point) (cs : List Call) (l : Log) : Type 0 where
 
 abbrev pub History : Type 0
 History = (run : List Point) (cs : List Call) → Kept run cs (afterAll (fresh run) cs)
-
--- ---- parallel slices: the same log, at every call
-
-pub record Slices : Type 0 where
-  pub slots : List ℕ
-  pub hashes : List ℕ
-  pub count : ℕ
-
-abbrev pub logOf : Slices → Log
-logOf l = record { run = records (l .slots) (l .hashes); count = l .count }
-
-abbrev pub answerIn : Slices → Call → ℕ
-answerIn l (adds item) = addIn (l .slots) (l .hashes) (l .count) item .answer .number
-answerIn l (backs item) = backIn (l .slots) (l .hashes) (l .count) item .number
-
-abbrev pub afterIn : Slices → Call → Slices
-afterIn l (adds item) =
-    let t = addIn (l .slots) (l .hashes) (l .count) item in record { slots = t .slots; hashes = t .hashes; count = t .answer .count }
-afterIn l (backs item) = record { slots = l .slots; hashes = l .hashes; count = backIn (l .slots) (l .hashes) (l .count) item .count }
-
-unfoldable pub afterAllIn : Slices → List Call → Slices
-afterAllIn l [] = l
-afterAllIn l (c ∷ cs) = afterAllIn (afterIn l c) cs
-
-unfoldable pub answersIn : Slices → List Call → List ℕ
-answersIn l [] = []
-answersIn l (c ∷ cs) = answerIn l c ∷ answersIn (afterIn l c) cs
-
-unfoldable pub answers : Log → List Call → List ℕ
-answers l [] = []
-answers l (c ∷ cs) = answer l c ∷ answers (after l c) cs
-
--- slices that match answer every call as their records do, and hold what these hold
-abbrev pub Alike : Type 0
-Alike = (l : Slices) (cs : List Call) → match (l .slots) (l .hashes) ≡ true
-    → (answersIn l cs ≡ answers (logOf l) cs) × (logOf (afterAllIn l cs) ≡ afterAll (logOf l) cs)

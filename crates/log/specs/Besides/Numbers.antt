@@ -1,8 +1,6 @@
--- Which number each call answers, exactly when (document 02, K10: 23, 29, 30, 31, 32, in this order), and what it leaves, as statements: of a run of records, and of parallel
--- slices. `PointAt item 0 place (length item)` says that the item is exactly one point.
+-- Which number each call answers, exactly when (document 02, K10: 23, 29, 30, 31, 32, in this order), and what it leaves, as statements. `PointAt item 0 place (length item)` says that the item is exactly one point.
 use Prim.Native.Nat.{ℕ, _+_, _-_, _≤_, _<_}
 use mathlib.Core.Path.{_≡_}
-use mathlib.Core.Bool.{true, false}
 use mathlib.Core.List.{List}
 use mathlib.Core.Logic.{_≢_, _↔_}
 use lib.ListN.{length, getD, set}
@@ -13,7 +11,6 @@ use Rattle.points.specs.Besides.Standing.{PointAt}
 use Rattle.log.specs.declared.decide.Done.{Done}
 use Rattle.log.specs.declared.decide.Found.{Found}
 use Rattle.log.specs.Log.{empty, slotsOf, placeAt, lost, findOf, done, backOf, Told, told, addOf}
-use Rattle.log.specs.Parallel.{match, records, findIn, backIn, ToldIn, toldIn, addIn}
 
 -- the item is exactly this point, or no point
 abbrev pub Spells : List ℕ → Place → Type 0
@@ -90,19 +87,3 @@ pub record Calls (run : List Point) (n : ℕ) : Type 0 where
 
 abbrev pub AllCalls : Type 0
 AllCalls = (run : List Point) (n : ℕ) → Calls run n
-
--- ---- of parallel slices: 23 where they do not match, and then nothing changes; else what is said of the records
-
-pub record CallsIn (slots hashes : List ℕ) (n : ℕ) : Type 0 where
-  pub apart : match slots hashes ≡ false
-      → ((slot : ℕ) → findIn slots hashes n slot ≡ lost) × ((item : List ℕ) → backIn slots hashes n item ≡ done 23 n)
-      × ((item : List ℕ) → addIn slots hashes n item ≡ toldIn (done 23 n) slots hashes)
-  pub together : match slots hashes ≡ true
-      → ((slot : ℕ) → findIn slots hashes n slot ≡ findOf (records slots hashes) n slot)
-      × ((item : List ℕ) → backIn slots hashes n item ≡ backOf (records slots hashes) n item)
-      × ((item : List ℕ) → let t = addIn slots hashes n item in (t .answer ≡ addOf (records slots hashes) n item .answer)
-      × (records (t .slots) (t .hashes) ≡ addOf (records slots hashes) n item .run) × (match (t .slots) (t .hashes) ≡ true))
-  pub kept : (item : List ℕ) → let t = addIn slots hashes n item in t .answer .number ≢ 0 → (t .slots ≡ slots) × (t .hashes ≡ hashes) × (t .answer .count ≡ n)
-
-abbrev pub AllCallsIn : Type 0
-AllCallsIn = (slots hashes : List ℕ) (n : ℕ) → CallsIn slots hashes n

@@ -1,34 +1,48 @@
--- `messages::filled` meets its contract: the test decides whether the array has as many elements as the form.
+-- `messages::filled` meets its contract: the fields are read, and where that stopped, it is told whether the array has as many elements as the form.
 -- Assumes nothing.
-use Prim.Native.Nat.{ℕ, _+_, _-_}
-use mathlib.Core.Path.{_≡_, ap, subst, sym, _∙_}
-use lib.ListN.{length}
-use denote.Ref.{now}
-use Rattle.ring.specs.Inside.{around}
+use mathlib.Core.Path.{_≡_, _∙_}
 use native.Mathlib.Omega.{arith}
-use Rattle.elements.specs.Besides.Matching.{ItemsAt}
-use Rattle.elements.specs.Matching.{inMessage}
+use denote.Ref.{now}
+use lib.ListN.{length}
+use Rattle.ring.specs.Inside.{around}
+use Rattle.ring.proofs.Around.{around-length}
+use Rattle.messages.specs.Reading.{countFrom}
 use Rattle.messages.specs.Inside.{formAt}
-use Rattle.messages.proofs.FieldLaws.{count-right, count-wrong}
+use Rattle.messages.proofs.FieldLaws.{kind-item, last-known, count-told, count-right, count-wrong}
 use borrow.Author.Needs.{needs}
 use Rattle.messages.proofs.filled.Statement.{statement}
 use Rattle.messages.proofs.filled.Tie as tie
 
 fields-requires-2 : tie.Need-fields-requires-2
 fields-requires-2 c κs =
-    let a = c .before .before .before .args in
-    let e : a .count - 1 ≡ length (formAt (a .row) .fields) = omega (arith, c .if1 .taken, c .before .fields .ensures .0) in
-    ((search needs, search needs, c .before .before .before .pre .0 .2), subst (λ (k : ℕ). ItemsAt (around (now (a .s)) (a .from) (a .n)) inMessage k (a .next) (a .end)) e (c .before .before .before .pre .1))
+    let s = c .before .before .before in
+    let a = s .args in
+    let bs = around (now (a .s)) (a .from) (a .n) in
+    let long : length bs ≡ a .n = around-length (now (a .s)) (a .from) (a .n) (omega arith) in (
+      (search needs, search needs, s .pre .0 .2, omega (arith, long, kind-item bs (s .pre .1) .inside)),
+      λ q e. last-known bs (a .x) (c .before .fields .ensures .0) (s .pre .1) long (c .last-end .ensures) e,
+    )
 
 returns : tie.Need-returns
-returns c = count-right _ _ _ _ _ (c .before .if1 .taken ∙ ap (λ (k : ℕ). k + 1) (c .before .before .fields .ensures .0)) (c .fields2 .ensures)
+returns c =
+    let s = c .before .before .before .before .before .before .before in
+    let a = s .args in
+    let bs = around (now (a .s)) (a .from) (a .n) in
+    let stop = c .before .before .before .fields2 in
+    count-right bs (formAt (a .row) .fields) (countFrom bs (a .x) (a .first)) (a .kind) (a .next)
+    (count-told bs (a .x) (c .before .before .before .before .before .fields .ensures .0) (s .pre .1) (c .before .before .has-count .ensures) (stop .ensures .1))
+    (c .before .if1 .taken) (stop .ensures .0)
 
 returns-2 : tie.Need-returns-2
 returns-2 c =
-    let a = c .before .before .before .before .args in
+    let s = c .before .before .before .before .before .before .before in
+    let a = s .args in
+    let bs = around (now (a .s)) (a .from) (a .n) in
+    let stop = c .before .before .before .fields2 in
     c .fail .ensures
-    ∙ count-wrong (around (now (a .s)) (a .from) (a .n)) (formAt (a .row) .fields) (a .count) (a .kind) (a .next)
-    (λ e. c .before .if1 .left (e ∙ ap (λ (k : ℕ). k + 1) (sym (c .before .before .fields .ensures .0))))
+    ∙ count-wrong bs (formAt (a .row) .fields) (countFrom bs (a .x) (a .first)) (a .kind) (a .next)
+    (count-told bs (a .x) (c .before .before .before .before .before .fields .ensures .0) (s .pre .1) (c .before .before .has-count .ensures) (stop .ensures .1))
+    (c .before .if1 .left)
 
 pub filled-spec : {M : Type 1} → statement M
 filled-spec =
@@ -36,7 +50,9 @@ filled-spec =
     (tie.spec
     (λ c κs. search needs)
     (λ c. search needs)
+    (λ c κs. search needs)
     fields-requires-2
+    (λ c κs. search needs)
     returns
     (λ c κs. search needs)
     returns-2)

@@ -1,49 +1,38 @@
--- `messages::opened` meets its contract: the bytes are one item, so that the array has its elements up to its end.
+-- `messages::opened` meets its contract: the kind, or that there is none, as the definition goes by.
 -- Assumes nothing.
-use Prim.Native.Nat.{ℕ, _<_}
-use mathlib.Core.Path.{_≡_, sym, ap, subst, subst⁻¹, _∙_}
+use mathlib.Core.Path.{sym, ap, _∙_}
 use native.Mathlib.Omega.{arith}
 use denote.Ref.{now}
-use lib.ListN.{length}
-use Rattle.ring.specs.Inside.{around}
 use Rattle.ring.proofs.Around.{around-length}
 use Rattle.item.specs.declared.Verdict.the-variants.{Whole}
-use Rattle.elements.specs.Besides.Matching.{ItemsAt}
-use Rattle.elements.specs.Matching.{inMessage}
-use Rattle.elements.specs.Inside.{before}
-use Rattle.messages.specs.Reading.{numberedOf}
-use Rattle.messages.proofs.FieldLaws.{array-left, array-some}
+use Rattle.messages.proofs.FieldLaws.{kind-named, kind-none}
 use borrow.Author.Needs.{needs}
 use Rattle.messages.proofs.opened.Statement.{statement}
 use Rattle.messages.proofs.opened.Tie as tie
 
-numbered-requires : tie.Need-numbered-requires
-numbered-requires c κs =
-    let s = c .before .before .before in
+formed-requires : tie.Need-formed-requires
+formed-requires c κs =
+    let s = c .before .before .before .before .before in
     let a = s .args in
-    let bs = around (now (a .s)) (a .from) (a .n) in
-    let long : length bs ≡ a .n = around-length (now (a .s)) (a .from) (a .n) (omega arith) in
-    let whole = s .pre .0 .2 ∙ ap Whole (sym long) in
-    let count = c .before .count-from in
-    let end : before (a .x) (length bs) ≡ c .before-of .result = ap (before (a .x)) long ∙ sym (c .before-of .ensures) in (
+    let long = around-length (now (a .s)) (a .from) (a .n) (omega arith) in (
       (search needs, search needs),
-      (
-        subst (λ (q : ℕ). ItemsAt bs inMessage (count .result) (a .first) q) end
-            (subst⁻¹ (λ (k : ℕ). ItemsAt bs inMessage k (a .first) (before (a .x) (length bs))) (count .ensures) (array-left bs (a .x) whole (s .pre .1))),
-        λ v b e. subst⁻¹ (λ (k : ℕ). 0 < k) (count .ensures) (array-some bs (a .x) whole (s .pre .1) e),
-      ),
+      (s .pre .0 .2 ∙ ap Whole (sym long), s .pre .1, sym (c .before .before .before .unsigned-at .ensures) ∙ c .before .kind .given .1),
     )
 
 returns : tie.Need-returns
-returns c =
-    let a = c .before .before .before .before .args in
-    c .numbered .ensures ∙ ap (λ (k : ℕ). numberedOf (a .p) (around (now (a .s)) (a .from) (a .n)) k (a .first)) (c .before .before .count-from .ensures)
+returns c = kind-named _ _ _ _ (c .before .before .before .before .unsigned-at .ensures) (c .before .before .kind .given .1) (c .formed .ensures)
+
+returns-2 : tie.Need-returns-2
+returns-2 c = c .fail .ensures ∙ kind-none _ _ _ _ (c .before .before .before .unsigned-at .ensures) (c .before .enum-told .given .1)
 
 pub opened-spec : {M : Type 1} → statement M
 opened-spec =
     tie.close
     (tie.spec
     (λ c κs. search needs)
+    (λ c. search needs)
+    formed-requires
+    (λ c. search needs)
     (λ c κs. search needs)
-    numbered-requires
-    returns)
+    returns
+    returns-2)

@@ -11,16 +11,16 @@ use Rattle.opening.specs.Openings.{refusedOpen, openOf}
 abbrev pub Opens : Settings → ℕ → ℕ → Type 0
 Opens s n m = (settingsOk s ≡ true) × (n ≡ receiveLength s) × (m ≡ sendLength s)
 
--- T2 for open: 23 otherwise, with all numbers 0 and no closing
-pub record OpenNumbers (s : Settings) (n m : ℕ) : Type 0 where
-  pub n0 : (openOf s n m .number ≡ 0) ↔ Opens s n m
-  pub n23 : (openOf s n m .number ≡ 23) ↔ (Opens s n m → ⊥)
-  pub zeros : (Opens s n m → ⊥) → openOf s n m ≡ refusedOpen
+-- T2: when each number is answered
+pub data When (s : Settings) (n m : ℕ) : ℕ → Type 0 where
+  out-of-range : (Opens s n m → ⊥) → When s n m 23
+  done : Opens s n m → When s n m 0
 
-abbrev pub OpenExactly : Type 0
-OpenExactly = (s : Settings) (n m : ℕ) → OpenNumbers s n m
+abbrev pub Exactly : Type 0
+Exactly = (s : Settings) (n m k : ℕ) → (openOf s n m .number ≡ k) ↔ When s n m k
 
--- an opened record is in range; that of a refused open is not, so every later call on it answers 23
+-- T3: a refused open hands back all numbers 0 and no closing. An opened record is in range; that of a refused open is not.
 pub record Opening : Type 0 where
+  pub zeros : (s : Settings) (n m : ℕ) → (openOf s n m .number ≡ 0 → ⊥) → openOf s n m ≡ refusedOpen
   pub opened : (s : Settings) (n m : ℕ) → openOf s n m .number ≡ 0 → inRange (openOf s n m .connection) ≡ true
   pub refused : inRange (refusedOpen .connection) ≡ false

@@ -5,9 +5,8 @@ use mathlib.Core.Bool.{true, false}
 use mathlib.Core.List.{List}
 use Rattle.wire.specs.Segments.{Carried, Divided}
 use Rattle.connection.specs.declared.Settings.{Settings}
-use Rattle.promises.specs.Trace.{run, trace}
-use Rattle.promises.specs.Calls.{Call, take, step, AllReal, Opened, first}
-use Rattle.promises.specs.History.{bytesIn}
+use Rattle.promises.specs.Calls.{Call, take, step, run, AllReal, Opened, first}
+use Rattle.promises.specs.Effects.{did, bytesIn}
 use Rattle.promises.specs.Alone.{seenBy, but, twentyForOne}
 
 -- Two connections, whatever their settings and whatever else was called: where a take may see the same, it answers and writes the same; and where
@@ -19,10 +18,10 @@ Alike =
     → let w = first s receive send in
     let w′ = first s′ receive′ send′ in
     (segments segments′ : List Carried) (left left′ : List ℕ)
-    → Divided (bytesIn (trace step w cs)) segments left → Divided (bytesIn (trace step w′ cs′)) segments′ left′
+    → Divided (bytesIn (did w cs)) segments left → Divided (bytesIn (did w′ cs′)) segments′ left′
     → (i : ℕ) (buf : List ℕ)
-    → let v = seenBy (s .party) (trace step w cs) segments left i in
-    let v′ = seenBy (s′ .party) (trace step w′ cs′) segments′ left′ i in
-    let a = step (run step w cs) (take i buf) .answer in
-    let a′ = step (run step w′ cs′) (take i buf) .answer in
+    → let v = seenBy (s .party) (did w cs) segments left i in
+    let v′ = seenBy (s′ .party) (did w′ cs′) segments′ left′ i in
+    let a = step (run w cs) (take i buf) .answer in
+    let a′ = step (run w′ cs′) (take i buf) .answer in
     (v ≡ v′ → a ≡ a′) × (v .closed ≡ false → v′ ≡ but v true → a′ ≡ twentyForOne a)

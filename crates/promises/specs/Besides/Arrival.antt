@@ -19,11 +19,11 @@ use Rattle.judging.specs.Besides.Judging.{leadsTo}
 use Rattle.judging.specs.Besides.Hearing.{Awaited}
 use Rattle.connection.specs.Parts.{heldOf}
 use Rattle.taking.specs.Taking.{seen}
-use Rattle.promises.specs.Trace.{run, trace}
 use Rattle.promises.specs.Calls as calls
-use Rattle.promises.specs.Calls.{Call, World, step, AllReal, Opened, first}
-use Rattle.promises.specs.Fairness.{queue, segments}
-use Rattle.promises.specs.History.{Past, bytesIn, Act, gave, acts, putBy, putFor, handedFor}
+use Rattle.promises.specs.Calls.{Call, World, step, run, AllReal, Opened, first}
+use Rattle.promises.specs.Effects.{Act, gave, Past, did, bytesIn, acts, segments}
+use Rattle.promises.specs.Fairness.{queue}
+use Rattle.promises.specs.History.{putBy, putFor, handedFor}
 
 -- ---- two ends
 
@@ -41,10 +41,10 @@ abbrev pub start : End → World
 start e = first (e .settings) (e .receive) (e .send)
 
 abbrev pub pastOf : End → Past
-pastOf e = trace step (start e) (e .calls)
+pastOf e = did (start e) (e .calls)
 
 abbrev pub worldOf : End → World
-worldOf e = run step (start e) (e .calls)
+worldOf e = run (start e) (e .calls)
 
 -- the bytes of instance i that are held, in a world
 abbrev pub holding : World → ℕ → List ℕ
@@ -124,7 +124,7 @@ runsIn bs m = runsAt bs (m .places) (m .parts)
 -- message are the parts that build was given: kind, numbers, and the runs at its places.
 pub record TakenAs (p : Parts) (bs : List ℕ) (w : World) (i : ℕ) (lent : List ℕ) : Type 0 where
   pub message : Message
-  pub answer : step w (calls.take i lent) .answer ≡ calls.taken 0 (length bs) message (bs ++ drop (length bs) lent)
+  pub answer : step w (calls.take i lent) .answer ≡ (0, calls.taken (length bs) 0 message (bs ++ drop (length bs) lent))
   pub kind : message .kind ≡ p .kind
   pub numbers : numbersIn message ≡ p .numbers
   pub runs : some (runsIn bs message) ≡ given (p .runs) (p .one) (p .two)

@@ -2,6 +2,7 @@
 use Rattle.promises.specs.Besides.Met.{AllMet}
 use Rattle.promises.specs.Besides.Arrival.{Glued, AllThere, BuiltIsTaken, Journey}
 use Rattle.promises.specs.Besides.Alike.{Alike}
+use Rattle.promises.specs.Besides.WhichByte.{WhichByteCame}
 use Rattle.promises.specs.Besides.Examples.{Examples}
 
 pub record Further : Type 0 where
@@ -16,5 +17,7 @@ pub record Further : Type 0 where
   pub journey : Journey
   -- T14's corollary for two connections
   pub alike : Alike
+  -- K3: which byte of what came for an instance is bad
+  pub which-byte : WhichByteCame
   -- T16: P1 to P12
   pub examples : Examples

@@ -9,10 +9,10 @@ use Rattle.base.specs.Numbers.{Bytes}
 use Rattle.wire.specs.declared.instances.Side.the-variants.{Dialler}
 use Rattle.wire.specs.Instances.{known}
 use Rattle.connection.specs.Closings.{closingOf}
-use Rattle.promises.specs.Trace.{run, trace}
-use Rattle.promises.specs.Calls.{Call, feed, step}
+use Rattle.promises.specs.Calls.{Call, feed, run}
+use Rattle.promises.specs.Effects.{did, segments}
 use Rattle.promises.specs.Reached.{waits}
-use Rattle.promises.specs.Fairness.{segments, enough}
+use Rattle.promises.specs.Fairness.{enough}
 use Rattle.promises.specs.Besides.Arrival.{End, start, Parts, Due}
 
 -- Two ends after Accept: the dialler put a message to instance 1 and sent it, and the accepter was fed it.
@@ -28,12 +28,12 @@ pub record Met (b : ℕ) : Type 0 where
   pub before : List Call
   pub behind : List Call
   pub calls : dialler .calls ≡ before ++ behind
-  pub waiting : 0 < waits (run step (start dialler) before) 1
-  pub made : enough (dialler .settings) 0 ≤ length (segments (trace step (run step (start dialler) before) behind))
+  pub waiting : 0 < waits (run (start dialler) before) 1
+  pub made : enough (dialler .settings) 0 ≤ length (segments (did (run (start dialler) before) behind))
   -- `AfterFault`: one feed more, and a fault has closed the dialler
   pub fault : List ℕ
   pub real : Bytes fault
-  pub closes : closingOf (run step (start dialler) (dialler .calls ++ (feed fault ∷ [])) .connection .gate) ≡ some (11, none)
+  pub closes : closingOf (run (start dialler) (dialler .calls ++ (feed fault ∷ [])) .connection .gate) ≡ some (11, none)
 
 abbrev pub AllMet : Type 0
 AllMet = (b : ℕ) → known b ≡ true → Met b

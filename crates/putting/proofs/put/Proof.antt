@@ -78,8 +78,9 @@ returns-3 : tie.Need-returns-3
 returns-3 c =
     let j = c .before .before .before in
     let a = call (ways j) .args in
-    rw (c .refused3 .ensures)
-    (put-refused (a .c) (a .store .now) (a .instance) (a .message .now) (within (ways j)) (j .said .result) (says j) (c .before .if3 .taken))
+    let number = c .before .before .number-of .ensures in
+    rw (c .refused3 .ensures, number)
+    (put-refused (a .c) (a .store .now) (a .instance) (a .message .now) (within (ways j)) (j .said .result) (says j) (λ z. c .before .if3 .taken (number ∙ z)))
 
 -- ---- queueing
 
@@ -88,7 +89,7 @@ queues : (c : tie.Else3) → let j = c .before .before in let a = call (ways j) 
 queues c =
     let j = c .before .before in
     let a = call (ways j) .args in
-    put-judged (a .c) (a .store .now) (a .instance) (a .message .now) (within (ways j)) (j .said .result) (says j) (c .if3 .left)
+    put-judged (a .c) (a .store .now) (a .instance) (a .message .now) (within (ways j)) (j .said .result) (says j) (sym (c .before .number-of .ensures) ∙ c .if3 .left)
 
 returns-4 : tie.Need-returns-4
 returns-4 c =
@@ -165,6 +166,7 @@ put-spec =
     (λ c. search (needs, low (c .before .before .before)))
     (λ c. search (needs, low (c .before .before .before)))
     (λ c κs. within (c .before .before .before) .1)
+    (λ c κs. search needs)
     (λ c κs. search needs)
     returns-3
     (λ c κs. search needs)

@@ -11,7 +11,8 @@ use Rattle.connection.specs.declared.Connection.{Connection}
 use Rattle.connection.specs.Shapes.{Shaped}
 use Rattle.range.specs.Ranges.{sends}
 use Rattle.range.specs.Besides.Ranges.{InSend}
-use Rattle.judging.specs.Judging.{viewOf}
+use Rattle.judging.specs.declared.Outcome.{Outcome}
+use Rattle.judging.specs.Judging.{viewOf, outcomeNumber}
 use Rattle.judging.specs.Besides.Saying.{Moves, Unsaid}
 use Rattle.putting.specs.declared.Queued.{Queued}
 use Rattle.putting.specs.Putting.{Told, told, putOf}
@@ -27,7 +28,7 @@ pub data When (c : Connection) (store : List ℕ) (i : ℕ) (xs : List ℕ) : �
   out-of-range : sends c (length store) ≡ false → When c store i xs 23
   no-instance : sends c (length store) ≡ true → instances (c .settings .party .bundle) ≤ i → When c store i xs 10
   -- 20; 19; 21; 15; 16: `Unsaid` says when
-  unsaid : {n : ℕ} → InSend c store i → Unsaid (viewOf c i xs) n → When c store i xs n
+  unsaid : {o : Outcome} → InSend c store i → Unsaid (viewOf c i xs) o → When c store i xs (outcomeNumber o)
   -- a Handshake message above S
   above-limit : {m : Message} {next : ℕ} → InSend c store i → Moves (viewOf c i xs) m next → i ≡ handshake → c .settings .limit < length xs
       → When c store i xs 24

@@ -34,7 +34,7 @@ returns : tie.Need-returns
 returns c =
     let tested = c .before .before in
     let a = start (tested .before .before) .args in
-    rw (c .refused .ensures) (take-range (a .c) (a .store .now) (a .instance) (a .buf .now) (sym (asks tested) ∙ not-true _ (c .before .if1 .taken)))
+    rw (c .without .ensures) (take-range (a .c) (a .store .now) (a .instance) (a .buf .now) (sym (asks tested) ∙ not-true _ (c .before .if1 .taken)))
 
 -- behind the first test, and behind the second
 abbrev began : tie.Else1 → tie.Start
@@ -48,7 +48,7 @@ returns-2 c =
     let b = c .before .before .before in
     let a = began b .args in
     let above : instances (a .c .settings .party .bundle) ≤ a .instance = omega (arith, c .before .if2 .taken, c .before .before .count .ensures .0) in
-    rw (c .refused2 .ensures) (take-instance (a .c) (a .store .now) (a .instance) (a .buf .now) (fit b) above)
+    rw (c .without2 .ensures) (take-instance (a .c) (a .store .now) (a .instance) (a .buf .now) (fit b) above)
 
 abbrev call : tie.Else2 → tie.Start
 call c = began (c .before .before)
@@ -86,7 +86,7 @@ returns-3 c =
     let h = c .before .before .before in
     let a = call (ways h) .args in
     rw (c .undone .ensures)
-    (take-refused (a .c) (a .store .now) (a .instance) (a .buf .now) (within (ways h)) (h .hear .result) (hears h) (c .before .if3 .taken))
+    (take-refused (a .c) (a .store .now) (a .instance) (a .buf .now) (within (ways h)) (h .hear .result) (hears h) (λ z. c .before .if3 .taken (c .before .before .number-of .ensures ∙ z)))
 
 -- ---- handing out
 
@@ -95,14 +95,14 @@ hands : (c : tie.Else3) → let h = c .before .before in let a = call (ways h) .
 hands c =
     let h = c .before .before in
     let a = call (ways h) .args in
-    take-handed (a .c) (a .store .now) (a .instance) (a .buf .now) (within (ways h)) (h .hear .result) (hears h) (c .if3 .left)
+    take-handed (a .c) (a .store .now) (a .instance) (a .buf .now) (within (ways h)) (h .hear .result) (hears h) (sym (c .before .number-of .ensures) ∙ c .if3 .left)
 
 returns-4 : tie.Need-returns-4
 returns-4 c =
     let e = c .before .before .before in
     let h = e .before .before in
     let a = call (ways h) .args in
-    rw (c .refused3 .ensures) (hand-short (a .c) (a .store .now) (a .instance) (a .buf .now) (h .hear .result) (c .before .if4 .taken) ∙ hands e)
+    rw (c .without3 .ensures) (hand-short (a .c) (a .store .now) (a .instance) (a .buf .now) (h .hear .result) (c .before .if4 .taken) ∙ hands e)
 
 read-requires : tie.Need-read-requires
 read-requires c κs =
@@ -151,6 +151,7 @@ take-spec =
     (λ c. search (needs, low (c .before .before .before .before .before .before .before)))
     (λ c. search (needs, low (c .before .before .before .before .before .before .before)))
     hear-requires
+    (λ c κs. search needs)
     (λ c κs. search needs)
     returns-3
     (λ c κs. search needs)

@@ -1,28 +1,11 @@
--- `taking::undone` meets its contract: a fault closes, and another number does not.
+-- `taking::undone` meets its contract: number and offset are the outcome's.
 -- Assumes nothing.
-use mathlib.Core.Path.{sym, _∙_}
 use borrow.Author.Needs.{needs}
 use Rattle.taking.proofs.undone.Statement.{statement}
 use Rattle.taking.proofs.undone.Tie as tie
 
 returns : tie.Need-returns
-returns c =
-    let e = sym (c .before .before .before .before .take-fault .ensures) ∙ c .before .before .before .if1 .taken in
-    rw (e, c .refused .ensures, c .before .with-gate .ensures, c .before .before .close .ensures)
-
-returns-2 : tie.Need-returns-2
-returns-2 c =
-    let e = sym (c .before .before .take-fault .ensures) ∙ c .before .if1 .left in
-    rw (e, c .refused2 .ensures)
+returns c = rw (c .without .ensures, c .before .offset-of .ensures, c .before .before .shut .ensures, c .before .before .before .number-of .ensures)
 
 pub undone-spec : {M : Type 1} → statement M
-undone-spec =
-    tie.close
-    (tie.spec
-    (λ c κs. search needs)
-    (λ c κs. search needs)
-    (λ c κs. search needs)
-    (λ c κs. search needs)
-    returns
-    (λ c κs. search needs)
-    returns-2)
+undone-spec = tie.close (tie.spec (λ c κs. search needs) (λ c κs. search needs) (λ c κs. search needs) (λ c κs. search needs) returns)

@@ -1,4 +1,5 @@
 -- Which number status answers, exactly when (document 01, "Numbers and their order"), as a statement.
+use Prim.Native.Nat.{ℕ}
 use mathlib.Core.Path.{_≡_}
 use mathlib.Core.Bool.{true, false}
 use mathlib.Core.Logic.{_↔_}
@@ -6,6 +7,10 @@ use Rattle.connection.specs.declared.Connection.{Connection}
 use Rattle.range.specs.Ranges.{inRange}
 use Rattle.telling.specs.Statuses.{statusOf}
 
--- T2 for status
-abbrev pub StatusExactly : Type 0
-StatusExactly = (c : Connection) → ((statusOf c .number ≡ 0) ↔ (inRange c ≡ true)) × ((statusOf c .number ≡ 23) ↔ (inRange c ≡ false))
+-- T2: when each number is answered
+pub data When (c : Connection) : ℕ → Type 0 where
+  out-of-range : inRange c ≡ false → When c 23
+  done : inRange c ≡ true → When c 0
+
+abbrev pub Exactly : Type 0
+Exactly = (c : Connection) (n : ℕ) → (statusOf c .number ≡ n) ↔ When c n

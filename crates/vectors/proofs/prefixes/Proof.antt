@@ -8,10 +8,10 @@ use Rattle.vectors.proofs.prefixes.Statement.{statement}
 use Rattle.vectors.proofs.prefixes.Tie as tie
 
 abbrev Inv-loop : tie.InvT-loop
-Inv-loop bytes count₀ k₀ count k = (k ≤ length bytes) × (count ≤ k)
+Inv-loop bytes count₀ longest₀ k₀ count longest k = (k ≤ length bytes) × (count ≤ k)
 
 abbrev μ-loop : tie.MeasureT-loop
-μ-loop bytes count₀ k₀ count k = length bytes - k
+μ-loop bytes count₀ longest₀ k₀ count longest k = length bytes - k
 
 slice-aggregate-measure-slice : tie.Need-slice-aggregate-measure-slice Inv-loop μ-loop
 slice-aggregate-measure-slice c = simp length-take (omega arith)
@@ -28,6 +28,7 @@ prefixes-spec =
     (λ c κs. search needs)
     (λ c κs. search needs)
     (λ c. search needs)
+    (λ c κs. search needs)
     (λ c. search needs)
     (λ c. search needs)
     (λ c. search needs)

@@ -1,0 +1,2 @@
+pub mod Admitting
+pub mod Inside

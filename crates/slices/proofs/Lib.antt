@@ -1,0 +1,5 @@
+pub mod RecordLaws
+pub mod CallLaws
+pub mod NumberLaws
+pub mod HistoryLaws
+pub mod Once

@@ -1,0 +1,2 @@
+pub mod Parallel
+pub mod Besides
