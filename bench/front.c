@@ -13,24 +13,25 @@
     extern uint64_t who##_feed(uint8_t *, size_t, const uint8_t *, size_t, const uint8_t *, size_t, size_t, uint64_t);            \
     extern uint64_t who##_next(const uint8_t *, size_t, const uint8_t *, size_t, uint8_t *, size_t, uint64_t, uint64_t, uint64_t, \
                                uint64_t, uint64_t);                                                                               \
-    extern uint64_t who##_take(const uint8_t *, size_t, const uint8_t *, size_t, uint8_t *, size_t, uint64_t, uint64_t, uint64_t); \
+    extern uint64_t who##_look(const uint8_t *, size_t, const uint8_t *, size_t, uint8_t *, size_t, uint64_t, uint64_t, uint64_t); \
     extern uint64_t who##_put(const uint8_t *, size_t, uint8_t *, size_t, const uint8_t *, size_t, uint64_t);                     \
     extern uint64_t who##_way(uint8_t *, size_t, uint8_t *, size_t, uint8_t *, size_t, uint8_t *, size_t, uint8_t *, size_t,      \
-                              uint8_t *, size_t, const uint8_t *, size_t, const uint8_t *, size_t, uint64_t);
+                              uint8_t *, size_t, const uint8_t *, size_t, const uint8_t *, size_t, uint64_t, uint64_t);
 PATHS(front)
 PATHS(plain)
 extern size_t cbor_end(const uint8_t *, size_t, size_t);
 extern uint64_t front_reply(const uint8_t *, size_t, uint8_t *, size_t, const uint8_t *, size_t, uint64_t);
 
 enum { CAPACITY = 131072, STORE = 9 * CAPACITY, HEADER = 8, FETCHES = 3, SERVES = 4, RUNS = 31 };
-enum { FEED, NEXT, TAKE, PUT, WAY };
-enum { PROVED, PLAIN, COPY, MEASURE, WAYS };
-enum { NO_GOAL, TO_PLAIN, TO_COPY, TO_MEASURE };
+enum { FEED, NEXT, LOOK, PUT, WAY };
+enum { PROVED, PLAIN, COPY, LESS, WAYS };
+enum { NO_GOAL, TO_PLAIN, TO_COPY, TO_LESS, TO_LESS_AND_COPIES };
 
-/* A path, its work, and the goal: at most so many times plain C; at least so much of memcpy's speed; at most measure and
-   so many copies. For feed, `size` bytes to a segment, `count` segments (0: as many as fit), and runs of `cut` bytes (0:
-   all at once). For next segment, the payload limit and how many queues are busy. For take and put, the item's size, and
-   whether it wraps. */
+/* A path, its work, and the goal: at most so many times plain C; at least so much of memcpy's speed; at most so many times
+   a part of the work (the proved measure of the same item; Keep-alive's way without looks), or that part and so many copies.
+   For feed, `size` bytes to a segment, `count` segments (0: as many as fit), and runs of `cut` bytes (0: all at once). For
+   next segment, the payload limit and how many queues are busy. For look and put, the item's size, and whether it wraps.
+   For Keep-alive's way, whether there is a look before each drop. */
 struct work {
     const char *what;
     int path;
@@ -59,10 +60,11 @@ static const struct work works[] = {
     { "next segment, S 1,000, eight queues", NEXT, 1000, 8, 0, TO_PLAIN, 6 },
     { "next segment, S 65,535, one queue", NEXT, 65535, 1, 0, TO_COPY, 0.6 },
     { "next segment, S 65,535, eight queues", NEXT, 65535, 8, 0, TO_COPY, 0.6 },
-    { "take, a Block of 64 kB", TAKE, 65000, 0, 0, TO_MEASURE, 1.5 },
-    { "take, a Block of 64 kB, wrapped", TAKE, 65000, 1, 0, TO_MEASURE, 1.5 },
+    { "look, a Block of 64 kB", LOOK, 65000, 0, 0, TO_LESS, 1.05 },
+    { "look, a Block of 64 kB, wrapped", LOOK, 65000, 1, 0, TO_LESS_AND_COPIES, 1.2 },
     { "put, a Block of 64 kB", PUT, 65000, 0, 0, NO_GOAL, 0 },
-    { "a Keep-alive message and its answer: put, next segment, feed, take", WAY, 5, 0, 0, TO_PLAIN, 5.5 },
+    { "a Keep-alive message and its answer: put, next segment, feed, drop", WAY, 5, 0, 0, TO_PLAIN, 5.5 },
+    { "the same with a look before each drop", WAY, 5, 1, 0, TO_LESS, 1.35 },
 };
 
 /* Pairs of works of which the second has so many times the first's bytes and segments: its time should grow no more. */
@@ -73,7 +75,7 @@ static const struct {
 } growths[] = {
     { "feed, segments of 16 bytes in one run: 8,000 to 500", { "", FEED, 16, 500, 0, 0, 0 }, { "", FEED, 16, 8000, 0, 0, 0 }, 16 },
     { "feed, segments of 1,024 bytes in one run: 128 to 8", { "", FEED, 1024, 8, 0, 0, 0 }, { "", FEED, 1024, 128, 0, 0, 0 }, 16 },
-    { "take, a Block of 128 kB to one of 8 kB", { "", TAKE, 8000, 0, 0, 0, 0 }, { "", TAKE, 128000, 0, 0, 0, 0 }, 0 },
+    { "look, a Block of 128 kB to one of 8 kB", { "", LOOK, 8000, 0, 0, 0, 0 }, { "", LOOK, 128000, 0, 0, 0, 0 }, 0 },
 };
 
 static uint8_t receive[STORE], sending[STORE], far_receive[STORE], far_send[STORE], stream[1 << 19], message[1 << 18], buf[1 << 18], wire[1 << 17];
@@ -102,7 +104,7 @@ static void made(const struct work *w)
         }
         stream_size = at;
     }
-    if (w->path == TAKE || w->path == PUT) {
+    if (w->path == LOOK || w->path == PUT) {
         message[0] = 0x82;
         message[1] = 4;
         message_size = 2 + build(message + 2, w->size, 0);
@@ -141,16 +143,16 @@ static uint64_t sent(const struct work *w, int way, uint64_t times)
     return 0;
 }
 
-static uint64_t taken(int way, uint64_t times)
+static uint64_t looked(int way, uint64_t times)
 {
     const uint8_t *area = receive + FETCHES * CAPACITY;
     size_t ahead = message_size < CAPACITY - start ? message_size : CAPACITY - start;
     if (way == PROVED)
-        return front_take(receive, STORE, sending, STORE, buf, sizeof buf, start, message_size, times);
+        return front_look(receive, STORE, sending, STORE, buf, sizeof buf, start, message_size, times);
     if (way == PLAIN)
-        return plain_take(receive, STORE, sending, STORE, buf, sizeof buf, start, message_size, times);
+        return plain_look(receive, STORE, sending, STORE, buf, sizeof buf, start, message_size, times);
     for (; times; times--) {
-        if (way == MEASURE) {
+        if (way == LESS) {
             sink += cbor_end(area, CAPACITY, start);
             continue;
         }
@@ -167,7 +169,7 @@ static uint64_t put(int way, uint64_t times)
     if (way == PLAIN)
         return plain_put(receive, STORE, sending, STORE, message, message_size, times);
     for (; times; times--) {
-        if (way == MEASURE)
+        if (way == LESS)
             sink += cbor_end(message, message_size, 0);
         else
             copied(sending + SERVES * CAPACITY, message, message_size);
@@ -175,14 +177,14 @@ static uint64_t put(int way, uint64_t times)
     return 0;
 }
 
-static uint64_t exchanged(int way, uint64_t times)
+static uint64_t exchanged(const struct work *w, int way, uint64_t times)
 {
-    if (way == PROVED)
+    if (way == PROVED || way == LESS)
         return front_way(receive, STORE, sending, STORE, far_receive, STORE, far_send, STORE, wire, sizeof wire, buf, sizeof buf, ask, sizeof ask,
-                         answer, sizeof answer, times);
+                         answer, sizeof answer, way == PROVED ? w->count : 0, times);
     if (way == PLAIN)
         return plain_way(receive, STORE, sending, STORE, far_receive, STORE, far_send, STORE, wire, sizeof wire, buf, sizeof buf, ask, sizeof ask,
-                         answer, sizeof answer, times);
+                         answer, sizeof answer, w->count, times);
     for (; times; times--) {
         for (size_t k = 0; k < 4; k++)
             copied(buf, ask, sizeof ask);
@@ -199,16 +201,16 @@ static uint64_t done(const struct work *w, int way, uint64_t times)
         return fed(w, way, times);
     case NEXT:
         return sent(w, way, times);
-    case TAKE:
-        return taken(way, times);
+    case LOOK:
+        return looked(way, times);
     case PUT:
         return put(way, times);
     default:
-        return exchanged(way, times);
+        return exchanged(w, way, times);
     }
 }
 
-/* What a path writes: feed to the receive store, put to the send store, next segment and take to the buffers. */
+/* What a path writes: feed to the receive store, put to the send store, next segment and look to the buffers. */
 static void cleared(const struct work *w)
 {
     if (w->path == FEED)
@@ -228,7 +230,7 @@ static int agree(const struct work *w)
     memcpy(seen_buf, w->path == NEXT ? wire : buf, sizeof wire);
     cleared(w);
     uint64_t b = done(w, PLAIN, times);
-    size_t wanted = w->path == FEED ? segments_of(w) * w->size : w->path == PUT ? message_size : w->path == WAY ? 20001 * sizeof answer : 0;
+    size_t wanted = w->path == FEED ? segments_of(w) * w->size : w->path == NEXT ? 0 : w->path == WAY ? 20001 * sizeof answer : message_size;
     return a == b && a == wanted && !memcmp(seen, w->path == PUT ? sending : receive, STORE)
            && !memcmp(seen_buf, w->path == NEXT ? wire : buf, sizeof wire);
 }
@@ -245,7 +247,7 @@ static void timed(const struct work *w, double *least)
     for (double begun = now(); done(w, PROVED, times), now() - begun < 1000; begun = now())
         times *= 2;
     for (int r = 0; r < RUNS; r++)
-        for (int way = 0; way < (w->path == TAKE || w->path == PUT ? WAYS : MEASURE); way++) {
+        for (int way = 0; way < (w->path == FEED || w->path == NEXT ? LESS : WAYS); way++) {
             double begun = now();
             sink += done(w, way, times);
             double t = (now() - begun) / times;
@@ -256,16 +258,20 @@ static void timed(const struct work *w, double *least)
 
 static void row(const struct work *w)
 {
-    double t[WAYS];
+    double t[WAYS] = { 0 };
     timed(w, t);
-    double to_plain = t[PROVED] / t[PLAIN], of_copy = t[COPY] / t[PROVED], to_measure = t[PROVED] / (t[MEASURE] + w->bound * t[COPY]);
+    double to_plain = t[PROVED] / t[PLAIN], of_copy = t[COPY] / t[PROVED], to_less = t[PROVED] / t[LESS];
+    double and_copies = t[PROVED] / (t[LESS] + w->bound * t[COPY]);
+    const char *less = w->path == WAY ? "the row above" : "measure";
     printf("| %s | %.2f | %.3f | | ", w->what, to_plain, of_copy);
     if (w->goal == TO_PLAIN)
         printf("at most %g × plain C | %s |\n", w->bound, to_plain <= w->bound ? "yes" : "no");
     if (w->goal == TO_COPY)
         printf("at least %g of memcpy | %s |\n", w->bound, of_copy >= w->bound ? "yes" : "no");
-    if (w->goal == TO_MEASURE)
-        printf("at most measure and %g copies: %.2f of that | %s |\n", w->bound, to_measure, to_measure <= 1 ? "yes" : "no");
+    if (w->goal == TO_LESS)
+        printf("at most %g × %s: %.3f | %s |\n", w->bound, less, to_less, to_less <= w->bound ? "yes" : "no");
+    if (w->goal == TO_LESS_AND_COPIES)
+        printf("at most %s and %g copies: %.2f of that | %s |\n", less, w->bound, and_copies, and_copies <= 1 ? "yes" : "no");
     if (w->goal == NO_GOAL)
         printf("| |\n");
 }

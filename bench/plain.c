@@ -1,12 +1,12 @@
 /* A plain C front, for bench/front.c to set beside the proved one: the functions plain_* run the paths that the functions
    front_* of bench_front run, in the same order and as many times.
 
-   It does what feed, take, put and next segment do where nothing is refused for its range: headers and routes, the
+   It does what feed, look, drop, put and next segment do where nothing is refused for its range: headers and routes, the
    room asked once for a segment, rings, the walk over an item, forms, rows and agency, the turn, the numbers of the
    refusals. It reads the messages of all five protocols but those with pairs or with a version map.
    It does not test the range of the record nor the length of a store, keeps where each area begins, changes its record
    in place instead of handing a new one back, and copies by memcpy. A header that lies whole in the run is read there.
-   A message that wraps is copied to the lent buffer and walked there. */
+   What is held and wraps is joined in scratch, or for drop in a buffer of its own, and walked there. */
 #include <stdint.h>
 #include <string.h>
 #include "item.h"
@@ -257,7 +257,8 @@ static int fault(struct front *f, int number)
     return number;
 }
 
-__attribute__((noinline)) static int take(struct front *f, const uint8_t *store, size_t i, uint8_t *buf, size_t room, struct message *m)
+/* What is heard of an instance, and where its bytes are: in the store, or joined in a buffer. */
+static inline int heard(struct front *f, const uint8_t *store, size_t i, uint8_t *buf, size_t room, struct message *m, const uint8_t **part)
 {
     if (i >= INSTANCES)
         return 10;
@@ -269,8 +270,7 @@ __attribute__((noinline)) static int take(struct front *f, const uint8_t *store,
     if (ours(f, i))
         return 2;
     const uint8_t *area = store + f->in[i], *b = area + f->starts[i];
-    int wraps = f->starts[i] + f->held[i] > f->receive[i];
-    if (wraps) {
+    if (f->starts[i] + f->held[i] > f->receive[i]) {
         if (room < f->held[i])
             return 18;
         ring_read(buf, area, f->receive[i], f->starts[i], f->held[i]);
@@ -282,16 +282,27 @@ __attribute__((noinline)) static int take(struct front *f, const uint8_t *store,
     if (n == BAD)
         return fault(f, 14);
     int number = judge(m, p, f->states[i], b, n);
+    *part = b;
+    return number ? fault(f, number) : 0;
+}
+
+__attribute__((noinline)) static int look(struct front *f, const uint8_t *store, size_t i, uint8_t *scratch, size_t room, struct message *m,
+                                          const uint8_t **part)
+{
+    return heard(f, store, i, scratch, room, m, part);
+}
+
+__attribute__((noinline)) static int drop(struct front *f, const uint8_t *store, size_t i, struct message *m)
+{
+    static uint8_t joined[CAPACITY];
+    const uint8_t *part;
+    int number = heard(f, store, i, joined, sizeof joined, m, &part);
     if (number)
-        return fault(f, number);
-    if (room < (size_t)n)
-        return 18;
-    if (!wraps)
-        memcpy(buf, b, n);
-    f->starts[i] += n;
+        return number;
+    f->starts[i] += m->len;
     if (f->starts[i] >= f->receive[i])
         f->starts[i] -= f->receive[i];
-    f->held[i] -= n;
+    f->held[i] -= m->len;
     moved(f, i, m);
     return 0;
 }
@@ -361,18 +372,17 @@ uint64_t plain_next(const uint8_t *receive, size_t a, const uint8_t *send, size_
     return f.waiting[1];
 }
 
-uint64_t plain_take(const uint8_t *receive, size_t a, const uint8_t *send, size_t b, uint8_t *buf, size_t room, uint64_t start, uint64_t n,
+uint64_t plain_look(const uint8_t *receive, size_t a, const uint8_t *send, size_t b, uint8_t *scratch, size_t room, uint64_t start, uint64_t n,
                     uint64_t times)
 {
-    struct front full = talking(0, LIMIT), f = full;
+    struct front f = talking(0, LIMIT);
     struct message m;
-    full.starts[3] = start;
-    full.held[3] = n;
-    for (; times; times--) {
-        f = full;
-        take(&f, receive, 3, buf, room, &m);
-    }
-    return f.held[3];
+    const uint8_t *part;
+    f.starts[3] = start;
+    f.held[3] = n;
+    for (; times; times--)
+        look(&f, receive, 3, scratch, room, &m, &part);
+    return m.len;
 }
 
 uint64_t plain_put(const uint8_t *receive, size_t a, uint8_t *send, size_t b, const uint8_t *message, size_t n, uint64_t times)
@@ -386,20 +396,26 @@ uint64_t plain_put(const uint8_t *receive, size_t a, uint8_t *send, size_t b, co
 }
 
 uint64_t plain_way(uint8_t *receive, size_t a, uint8_t *send, size_t b, uint8_t *far_receive, size_t c, uint8_t *far_send, size_t d, uint8_t *wire,
-                   size_t e, uint8_t *buf, size_t g, const uint8_t *ask, size_t m, const uint8_t *answer, size_t n, uint64_t times)
+                   size_t e, uint8_t *scratch, size_t g, const uint8_t *ask, size_t m, const uint8_t *answer, size_t n, uint64_t looks,
+                   uint64_t times)
 {
     struct front near = talking(0, LIMIT), far = talking(1, LIMIT);
     struct message got;
+    const uint8_t *part;
     size_t len, used;
     for (; times; times--) {
         put(&near, send, 7, ask, m);
         next_segment(&near, send, 1, wire, e, &len);
         feed(&far, far_receive, wire, len, &used);
-        take(&far, far_receive, 8, buf, g, &got);
+        if (looks)
+            look(&far, far_receive, 8, scratch, g, &got, &part);
+        drop(&far, far_receive, 8, &got);
         put(&far, far_send, 8, answer, n);
         next_segment(&far, far_send, 1, wire, e, &len);
         feed(&near, receive, wire, len, &used);
-        take(&near, receive, 7, buf, g, &got);
+        if (looks)
+            look(&near, receive, 7, scratch, g, &got, &part);
+        drop(&near, receive, 7, &got);
     }
     return near.starts[7];
 }

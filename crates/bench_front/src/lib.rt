@@ -12,13 +12,15 @@ use connection::parts::changed;
 use connection::parts::with_receiving;
 use connection::parts::with_sending;
 use connection::parts::with_talk;
+use dropping::drop;
 use feeding::feed;
+use looking::look;
+use looking::part;
 use opening::open;
 use putting::put;
 use rows::Protocol;
 use sending::Made;
 use sending::next_segment;
-use taking::take;
 use wire::instances::HANDSHAKE;
 use wire::instances::INSTANCES;
 use wire::instances::Party;
@@ -180,27 +182,34 @@ fn holding(c: Connection, start: u64, n: u64) -> Connection {
     with_receiving(c, fuller, gate)
 }
 
-// Takes the message that is held of Block-Fetch from the place `start` on, each time anew. Hands back what is held then.
+// Looks at the message that is held of Block-Fetch from the place `start` on, so many times. Hands back how many bytes its
+// part has.
 #[no_mangle]
-pub extern "C" fn front_take(
+pub extern "C" fn front_look(
     receive: &[u8],
     send: &[u8],
-    buf: &mut [u8],
+    scratch: &mut [u8],
     start: u64,
     n: u64,
     times: u64,
 ) -> u64 {
     let c = holding(talking(Side::Dialler, LIMIT, receive, send), start, n);
-    let mut last = c;
+    let mut last: u64 = 0;
     let mut left = times;
     while 0 < left {
-        let t = take(c, receive, FETCHES as u64, buf);
-        last = t.connection;
+        last = shown(c, receive, scratch);
         left -= 1;
     }
-    let receiving = last.receiving;
-    let held = receiving.held;
-    at(held, FETCHES)
+    last
+}
+
+// How many bytes the part of Block-Fetch's message has.
+fn shown(c: Connection, store: &[u8], scratch: &mut [u8]) -> u64 {
+    let l = look(c, store, FETCHES as u64, scratch);
+    let s = l.shown;
+    let place = l.place;
+    let message = part(store, scratch, place, s.len);
+    message.len() as u64
 }
 
 // Puts a block, each time from open on. Hands back what waits then.
@@ -242,24 +251,30 @@ fn spoken(c: Connection, store: &mut [u8], wire: &mut [u8], instance: u64, messa
     next_segment(d, store, 1, wire)
 }
 
-// A segment of n bytes fed, and its message taken.
+// A segment of n bytes fed, and its message dropped: at once (0 looks), or after a look.
 fn heard(
     c: Connection,
     store: &mut [u8],
     wire: &[u8],
     n: usize,
     instance: u64,
-    buf: &mut [u8],
+    scratch: &mut [u8],
+    looks: u64,
 ) -> Connection {
     let end = smaller(n, wire.len());
     let f = feed(c, store, &wire[..end]);
     let d = f.connection;
-    let t = take(d, store, instance, buf);
-    t.connection
+    if 0 < looks {
+        let l = look(d, store, instance, scratch);
+        let e = drop(l.connection, store, instance);
+        return e.connection;
+    }
+    let e = drop(d, store, instance);
+    e.connection
 }
 
-// A Keep-alive message and its answer: each is put, sent, fed to the other end and taken there. Hands back where the
-// next answer will begin in its area.
+// A Keep-alive message and its answer: each is put, sent, fed to the other end and dropped there, at once (0 looks) or after
+// a look. Hands back where the next answer will begin in its area.
 #[no_mangle]
 pub extern "C" fn front_way(
     receive: &mut [u8],
@@ -267,9 +282,10 @@ pub extern "C" fn front_way(
     far_receive: &mut [u8],
     far_send: &mut [u8],
     wire: &mut [u8],
-    buf: &mut [u8],
+    scratch: &mut [u8],
     ask: &[u8],
     answer: &[u8],
+    looks: u64,
     times: u64,
 ) -> u64 {
     let mut near = talking(Side::Dialler, LIMIT, receive, send);
@@ -277,10 +293,10 @@ pub extern "C" fn front_way(
     let mut left = times;
     while 0 < left {
         let m = spoken(near, send, wire, ASKS, ask);
-        let c = heard(far, far_receive, wire, m.len, ANSWERS, buf);
+        let c = heard(far, far_receive, wire, m.len, ANSWERS, scratch, looks);
         let w = spoken(c, far_send, wire, ANSWERS, answer);
         let d = m.connection;
-        near = heard(d, receive, wire, w.len, ASKS, buf);
+        near = heard(d, receive, wire, w.len, ASKS, scratch, looks);
         far = w.connection;
         left -= 1;
     }

@@ -45,7 +45,7 @@ wrongMode = 12
 abbrev pub overflow : ℕ
 overflow = 13
 
--- from take: bytes bad, not a message of the protocol, no row in the present state, bytes held after Done
+-- from look and drop: bytes bad, not a message of the protocol, no row in the present state, bytes held after Done
 abbrev pub bytesBad : ℕ
 bytesBad = 14
 
@@ -58,22 +58,22 @@ noRow = 16
 abbrev pub afterDone : ℕ
 afterDone = 17
 
-abbrev pub takeFaults : List ℕ
-takeFaults = bytesBad ∷ noMessage ∷ noRow ∷ afterDone ∷ []
+abbrev pub heardFaults : List ℕ
+heardFaults = bytesBad ∷ noMessage ∷ noRow ∷ afterDone ∷ []
 
 -- whether a number is in a list
 unfoldable pub among : List ℕ → ℕ → Bool
 among [] n = false
 among (m ∷ ms) n = eqb n m || among ms n
 
-abbrev pub takeFault : ℕ → Bool
-takeFault n = among takeFaults n
+abbrev pub heardFault : ℕ → Bool
+heardFault n = among heardFaults n
 
 -- a closing that a fault leaves, in a bundle: no instance for 11; for 12 one of those in which our role is our side's, node to node 0 alone;
--- any for 13 and for those of take
+-- any for 13 and for those of look and drop
 abbrev pub faultLeaves : ℕ → Closing → Bool
 faultLeaves b (Bare n) = eqb n unknownProtocol
-faultLeaves b (Of n i) = ltb i (instances b) && ((eqb n wrongMode && sided (roleOf b i)) || (eqb n overflow || takeFault n))
+faultLeaves b (Of n i) = ltb i (instances b) && ((eqb n wrongMode && sided (roleOf b i)) || (eqb n overflow || heardFault n))
 
 abbrev pub gateOk : ℕ → Gate → Bool
 gateOk b Open = true

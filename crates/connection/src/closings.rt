@@ -4,10 +4,10 @@ use crate::Gate;
 use wire::instances::count;
 use wire::instances::of_side;
 ghost use mathlib.Core.Path.{_≡_};
-ghost use Rattle.connection.specs.Closings.{closedBy, isOpen, closingNumber, takeFault, faultLeaves, gateOk};
+ghost use Rattle.connection.specs.Closings.{closedBy, isOpen, closingNumber, heardFault, faultLeaves, gateOk};
 ghost use Rattle.connection.specs.declared.Closing.the-variants.{Of};
 
-// The faults: of feed, unknown protocol, wrong mode, overflow; of take, bytes bad, not a message of the protocol, no row in
+// The faults: of feed, unknown protocol, wrong mode, overflow; of look and drop, bytes bad, not a message of the protocol, no row in
 // the present state, bytes held after Done.
 pub const UNKNOWN_PROTOCOL: u64 = 11;
 
@@ -53,15 +53,15 @@ pub fn number_of(x: Closing) -> u64
     }
 }
 
-// Whether a number is one of take's faults.
-pub fn take_fault(n: u64) -> bool
-    ensures { λ r. ⌜ r ≡ takeFault n ⌝ }
+// Whether a number is a fault of what was heard, by look or drop.
+pub fn heard_fault(n: u64) -> bool
+    ensures { λ r. ⌜ r ≡ heardFault n ⌝ }
 {
     let later = base::or(n == NO_ROW, n == AFTER_DONE);
     base::or(n == BYTES_BAD, base::or(n == NO_MESSAGE, later))
 }
 
-// A closing with its instance: 12 is of one in which our role is our side's, 13 and those of take may be anyone's.
+// A closing with its instance: 12 is of one in which our role is our side's, 13 and those of look and drop may be anyone's.
 fn named(bundle: u64, n: u64, i: u64) -> bool
     ensures { λ r. ⌜ r ≡ faultLeaves bundle (Of n i) ⌝ }
 {
@@ -69,7 +69,7 @@ fn named(bundle: u64, n: u64, i: u64) -> bool
         return false;
     }
     let wrong = base::and(n == WRONG_MODE, of_side(bundle, i as usize));
-    base::or(wrong, base::or(n == OVERFLOW, take_fault(n)))
+    base::or(wrong, base::or(n == OVERFLOW, heard_fault(n)))
 }
 
 // A closing that a fault leaves.

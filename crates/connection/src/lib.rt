@@ -1,7 +1,7 @@
 // One connection: its record, the gate that a fault closes, and the areas of its stores.
 //
 // The record goes into each call and comes back by value. It is grouped by what changes together: settings never,
-// receiving by feed and take, sending by put and next segment, talk by take and put, the gate by a fault.
+// receiving by feed and drop, sending by put and next segment, talk by drop and put, the gate by a fault.
 use wire::instances::INSTANCES;
 use wire::instances::Party;
 use wire::segment::Header;

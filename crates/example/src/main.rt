@@ -1,4 +1,5 @@
-// A first connection by the calls of `front`: we dial, propose version 7, send the proposal, and take the other end's Accept.
+// A first connection by the calls of `front`: we dial, propose version 7, send the proposal, look at the other end's Accept, and
+// drop it.
 //
 // The other end's bytes stand here, where a program would read them from the network. Each answer's number is printed, where a
 // program would act on it. What is printed is run and compared.
@@ -11,10 +12,12 @@ use front::Side;
 use output::Pen;
 ghost use Rattle.io.specs.Counts.{Counts};
 
-// Every capacity, in bytes. A store is as long as its nine capacities together.
+// Every capacity, in bytes. A store is as long as its nine capacities together, and scratch as long as one.
 const CAPACITY: u64 = 16;
 
 const STORE: usize = 144;
+
+const SCRATCH: usize = 16;
 
 // Room for a segment: eight bytes of header, and S.
 const LIMIT: u64 = 100;
@@ -118,16 +121,39 @@ fn hear(s: Step, receive: &mut [u8]) -> Step {
         receive,
         b"\x00\x00\x00\x09\x80\x00\x00\x04\x83\x01\x07\x00",
     );
-    let mut written = say(s.written, b"feed", &[fed.number, fed.used as u64]);
-    let mut message = [0; ROOM];
-    let taken = front::take(fed.connection, receive, HANDSHAKE, &mut message);
-    let what = taken.message;
-    let numbers = what.numbers;
-    written = say(written, b"take", &[taken.number, taken.len as u64]);
-    let connection = taken.connection;
+    let connection = fed.connection;
     Step {
         connection,
-        written: say(written, b"kind and version", &[what.kind, numbers[0]]),
+        written: say(s.written, b"feed", &[fed.number, fed.used as u64]),
+    }
+}
+
+// What it says, looked at where it lies. Here a program would decide whether it wants it.
+fn consider(s: Step, receive: &[u8]) -> Step {
+    let mut scratch = [0; SCRATCH];
+    let looked = front::look(s.connection, receive, HANDSHAKE, &mut scratch);
+    let shown = looked.shown;
+    let what = shown.message;
+    let numbers = what.numbers;
+    let mut written = say(s.written, b"look", &[shown.number, shown.len as u64]);
+    written = say(written, b"kind and version", &[what.kind, numbers[0]]);
+    let place = looked.place;
+    let message = front::part(receive, &scratch, place, shown.len);
+    let connection = looked.connection;
+    Step {
+        connection,
+        written: show(written, message),
+    }
+}
+
+// The message is done with: its bytes are freed, and Handshake has ended.
+fn let_go(s: Step, receive: &[u8]) -> Step {
+    let dropped = front::drop(s.connection, receive, HANDSHAKE);
+    let shown = dropped.shown;
+    let connection = dropped.connection;
+    Step {
+        connection,
+        written: say(s.written, b"drop", &[shown.number, shown.len as u64]),
     }
 }
 
@@ -137,7 +163,9 @@ fn main() {
     let opened = front::open(settings(), &receive, &send);
     let proposed = propose(opened.connection, &mut send);
     let sent = send_out(proposed, &send);
-    let accepted = hear(sent, &mut receive);
+    let heard = hear(sent, &mut receive);
+    let considered = consider(heard, &receive);
+    let accepted = let_go(considered, &receive);
     let report = front::status(accepted.connection);
     if !say(accepted.written, b"status", &[report.number]) {
         output::stop(b"example: cannot write to standard output\n");

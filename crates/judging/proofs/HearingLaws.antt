@@ -1,4 +1,4 @@
--- T2 for what take asks of a view: `heard-exactly`. Each "when" decides the tests up to its own, and one walk through the tests finds a "when" that
+-- T2 for what look and drop ask of a view: `heard-exactly`. Each "when" decides the tests up to its own, and one walk through the tests finds a "when" that
 -- holds.
 -- Assumes nothing.
 use mathlib.Core.Path.{_≡_, refl, ap, subst, _∙_}
@@ -16,7 +16,7 @@ use Rattle.item.specs.Verdict.{verdict}
 use Rattle.rows.specs.Rows.{doneOf}
 use Rattle.connection.specs.Closings.{bytesBad}
 use Rattle.judging.specs.declared.Outcome.{Outcome}
-use Rattle.judging.specs.declared.Outcome.the-variants.{Done, Waiting, OurTurn, Finished, BytesBad, NoMessage, NoRow, AfterDone, NoAccept, Closed, NotOurTurn}
+use Rattle.judging.specs.declared.Outcome.the-variants.{Done, Waiting, OurTurn, Finished, BytesBad, NoMessage, NoRow, AfterDone, NoAccept, Closed, NotOurTurn, OutOfRange, NoInstance, NoRoom}
 use Rattle.judging.specs.declared.Judged.{Judged}
 use Rattle.judging.specs.Judging.{View, spoken, oursNow, barred, atDone, outcomeNumber, outcomeOffset, unjudged, led, judgedOf, byVerdict, heard}
 use Rattle.judging.specs.Besides.Hearing.{Awaited, Spells, Unheard, Hears, refusal, message, HeardExactly}
@@ -132,6 +132,9 @@ no-offset AfterDone h = refl
 no-offset NoAccept h = refl
 no-offset Closed h = refl
 no-offset NotOurTurn h = refl
+no-offset OutOfRange h = refl
+no-offset NoInstance h = refl
+no-offset NoRoom h = refl
 
 -- what is judged is not longer than the bytes
 pub heard-within : (v : View) → heard v .len ≤ length (v .bytes)

@@ -1,5 +1,5 @@
--- What take and put ask, of one instance (document 01, "Messages and transitions" and "Numbers and their order"; document 02, K1). Take and put
--- apply it to the view that the record gives of the instance.
+-- What look, drop and put ask, of one instance (document 01, "Messages and transitions" and "Numbers and their order", where look and drop are take;
+-- document 02, K1, K3 and K4). They apply it to the view that the record gives of the instance.
 use Prim.Native.Nat.{ℕ}
 use mathlib.Core.Bool.{Bool, false, cond, not, _&&_, _||_}
 use mathlib.Core.List.{List}
@@ -25,13 +25,13 @@ use Rattle.connection.specs.declared.Talk.{Talk}
 use Rattle.connection.specs.declared.Connection.{Connection}
 use Rattle.connection.specs.Closings.{isOpen, bytesBad, noMessage, noRow, afterDone}
 use Rattle.judging.specs.declared.Outcome.{Outcome}
-use Rattle.judging.specs.declared.Outcome.the-variants.{Done, Waiting, OurTurn, Finished, BytesBad, NoMessage, NoRow, AfterDone, NoAccept, Closed, NotOurTurn}
+use Rattle.judging.specs.declared.Outcome.the-variants.{Done, Waiting, OurTurn, Finished, BytesBad, NoMessage, NoRow, AfterDone, NoAccept, Closed, NotOurTurn, OutOfRange, NoInstance, NoRoom}
 use Rattle.judging.specs.declared.Judged.{Judged}
 
 -- ---- the view
 
--- What an answer of take or put may rest on: which end we are, of which bundle; the instance, and its state; whether Handshake ended in Accept; whether the connection
--- is closed; and the bytes: those held, for take, and the message, for put.
+-- What an answer may rest on: which end we are, of which bundle; the instance, and its state; whether Handshake ended in Accept; whether the connection
+-- is closed; and the bytes: those held, for look and drop, and the message, for put.
 pub record View : Type 0 where
   pub party : Party
   pub instance : ℕ
@@ -94,6 +94,9 @@ outcomeNumber AfterDone = afterDone
 outcomeNumber NoAccept = 19
 outcomeNumber Closed = 20
 outcomeNumber NotOurTurn = 21
+outcomeNumber OutOfRange = 23
+outcomeNumber NoInstance = 10
+outcomeNumber NoRoom = 18
 
 -- K3: with 14 goes the offset of the first byte after which no item is possible, and with every other number 0
 abbrev pub outcomeOffset : Outcome → ℕ
@@ -108,6 +111,9 @@ outcomeOffset AfterDone = 0
 outcomeOffset NoAccept = 0
 outcomeOffset Closed = 0
 outcomeOffset NotOurTurn = 0
+outcomeOffset OutOfRange = 0
+outcomeOffset NoInstance = 0
+outcomeOffset NoRoom = 0
 
 -- ---- judging bytes
 
@@ -133,7 +139,7 @@ byReading p state n a =
 unfoldable pub judgedOf : Protocol → ℕ → List ℕ → Judged
 judgedOf p state bs = byReading p state (length bs) (messageOf p bs)
 
--- ---- take and put, up to 16
+-- ---- look, drop and put, up to 16
 
 -- the bytes held, by the verdict on them: incomplete, notice 1, or 20 if closed; bad, 14 and which byte; else 15, 16 or a message
 abbrev pub byVerdict : Protocol → ℕ → Bool → List ℕ → Verdict → Judged
@@ -141,7 +147,7 @@ byVerdict p state closed bs Incomplete = unjudged (cond closed Closed Waiting)
 byVerdict p state closed bs (Bad at) = unjudged (BytesBad at)
 byVerdict p state closed bs (Whole n) = judgedOf p state (take n bs)
 
--- take: 19; at Done, notice 3 with nothing held, else 17; our agency, notice 2; and then the bytes decide
+-- look and drop: 19; at Done, notice 3 with nothing held, else 17; our agency, notice 2; and then the bytes decide
 unfoldable pub heard : View → Judged
 heard v =
     cond (barred v) (unjudged NoAccept)

@@ -1,7 +1,7 @@
-// What take and put ask of one instance: who may send, whether bytes are a message with a row in the present state, and
+// What look, drop and put ask of one instance: who may send, whether bytes are a message with a row in the present state, and
 // where it leads.
 //
-// `heard` has the order of take's refusals and notices up to 16, `said` that of put's. One reader and one row search serve
+// `heard` has the order of look's and drop's refusals and notices up to 16, `said` that of put's. One reader and one row search serve
 // both. They get numbers and bytes and no record, and nothing here changes anything. What comes of it has a name, which
 // carries what else is known; `number_of` and `offset_of` tell what an answer says of it.
 use connection::closings::AFTER_DONE;
@@ -52,6 +52,12 @@ pub enum Outcome {
     Closed,
     // agency is not ours, so nothing may be said
     NotOurTurn,
+    // a number of the record out of range, or a store of another length
+    OutOfRange,
+    // no instance of the bundle
+    NoInstance,
+    // a message that goes around its area's end, and is longer than scratch
+    NoRoom,
 }
 
 // What comes of bytes; where that is done, the message, its length and the next state, and else 0.
@@ -115,6 +121,9 @@ pub fn number_of(outcome: Outcome) -> u64
         Outcome::NoAccept => 19,
         Outcome::Closed => 20,
         Outcome::NotOurTurn => 21,
+        Outcome::OutOfRange => 23,
+        Outcome::NoInstance => 10,
+        Outcome::NoRoom => 18,
     }
 }
 
@@ -134,11 +143,14 @@ pub fn offset_of(outcome: Outcome) -> usize
         Outcome::NoAccept => 0,
         Outcome::Closed => 0,
         Outcome::NotOurTurn => 0,
+        Outcome::OutOfRange => 0,
+        Outcome::NoInstance => 0,
+        Outcome::NoRoom => 0,
     }
 }
 
 // A refusal or a notice.
-fn unjudged(outcome: Outcome) -> Judged
+pub fn unjudged(outcome: Outcome) -> Judged
     ensures { λ r. ⌜ r ≡ unjudged outcome ⌝ }
 {
     Judged {
@@ -221,7 +233,7 @@ fn ended(n: usize) -> Outcome
     }
 }
 
-// What take asks, of the n bytes held, from the place `start` on of an area.
+// What look and drop ask, of the n bytes held, from the place `start` on of an area.
 pub fn heard(
     party: Party,
     i: usize,

@@ -42,13 +42,14 @@ use Rattle.opening.specs.Openings.{openOf}
 use Rattle.feeding.specs.Feeding as feeding
 use Rattle.judging.specs.Judging.{ours, judgedOf, said, heard, barred, atDone, oursNow}
 use Rattle.judging.specs.Besides.Judging.{leadsTo}
-use Rattle.taking.specs.Taking as taking
+use Rattle.hearing.specs.Hearing.{seen, hearOf}
+use Rattle.dropping.specs.Dropping.{dropOf}
 use Rattle.putting.specs.Putting as putting
 use Rattle.sending.specs.NextSegment.{serve, nextOf}
-use Rattle.promises.specs.Calls.{Call, feed, take, put, next, World, step, run, AllReal, Opened, first}
+use Rattle.promises.specs.Calls.{Call, feed, drop, put, next, World, step, run, AllReal, Opened, first}
 use Rattle.promises.specs.Effects.{Act, gave, did, bytesIn, acts, segments}
 use Rattle.promises.specs.Reached.{waits}
-use Rattle.promises.specs.History.{handed, handedFor}
+use Rattle.promises.specs.History.{dropped, droppedFor}
 use Rattle.promises.specs.Besides.Arrival.{End, Parts, buildWith, Due, holding}
 use Rattle.promises.specs.Besides.Met.{AllMet}
 
@@ -80,13 +81,13 @@ abbrev buffer : List ℕ
 buffer = replicate 12 0
 
 abbrev before : List Call
-before = put 0 propose ∷ next 0 buffer ∷ feed (segment 1 0 accept) ∷ take 0 buffer ∷ put 1 message ∷ []
+before = put 0 propose ∷ next 0 buffer ∷ feed (segment 1 0 accept) ∷ drop 0 ∷ put 1 message ∷ []
 
 abbrev behind : List Call
 behind = replicate 9 (next 0 buffer)
 
 abbrev answering : ℕ → List Call
-answering b = feed (segment 0 0 propose) ∷ take 0 buffer ∷ put 0 accept ∷ feed (pieces (protocolOf b 1) 9 message) ∷ []
+answering b = feed (segment 0 0 propose) ∷ drop 0 ∷ put 0 accept ∷ feed (pieces (protocolOf b 1) 9 message) ∷ []
 
 -- of no protocol
 abbrev fault : List ℕ
@@ -126,13 +127,13 @@ real-nexts (suc k) = ((omega arith, bytes-zeros 12), real-nexts k)
 real-dialler : AllReal (before ++ behind)
 unfolding AllReal
 real-dialler =
-    (bytes-propose, ((omega arith, bytes-zeros 12), (bytes-segment 1 0 accept bytes-accept, (bytes-zeros 12, (bytes-message, real-nexts 9)))))
+    (bytes-propose, ((omega arith, bytes-zeros 12), (bytes-segment 1 0 accept bytes-accept, (tt, (bytes-message, real-nexts 9)))))
 
 real-accepter : (b : ℕ) → AllReal (answering b)
 unfolding AllReal
 real-accepter b = (
   bytes-segment 0 0 propose bytes-propose,
-  (bytes-zeros 12, (bytes-accept, (bytes-pieces (protocolOf b 1) 9 message bytes-message, tt))),
+  (tt, (bytes-accept, (bytes-pieces (protocolOf b 1) 9 message bytes-message, tt))),
 )
 
 -- ---- what they come to
@@ -153,7 +154,7 @@ record Facts : Type 0 where
   sent : List ℕ
   used : List ℕ
   put : List Act
-  handed : List ℕ
+  dropped : ℕ
   held : ℕ
   within : Bool
   inside : Bool
@@ -177,7 +178,7 @@ facts b =
     let there = did (firstOf b Accepter) (answering b) in
     let v = run (firstOf b Accepter) (answering b) in
     let j = pairOf b 1 in
-    let view = taking.seen (v .connection) (v .receive) j in
+    let view = seen (v .connection) (v .receive) j in
     let r = buildWith b 1 find-intersect (replicate 33 0) in
     record {
       dials = openOf (settingsOf b Dialler) n n .number;
@@ -185,7 +186,7 @@ facts b =
       sent = flatten (segments past);
       used = bytesIn there;
       put = acts 1 past;
-      handed = handedFor j there;
+      dropped = droppedFor j there;
       held = length (holding v j);
       within = ltb 1 (instances b);
       inside = ltb j (instances (v .connection .settings .party .bundle));
@@ -212,7 +213,7 @@ expected b =
       sent = wire b;
       used = wire b;
       put = gave message ∷ [];
-      handed = [];
+      dropped = 0;
       held = 33;
       within = true;
       inside = true;
@@ -232,9 +233,9 @@ computed : (b : ℕ) → known b ≡ true → facts b ≡ expected b
 unfolding segment pieces allBelow spelled octets baseOf laid stream headAt headBy longAt simpleAt initial shortest nest indefinite enter
     alike enterChunk item.step item.met item.judge added decoded encoded find bundleOf instances routeOf pairOf placeIn nextIn agencyIn speaks formIn unsignedAt
     opensAt itemEnd keyAt versionAt elementAt walk partOf fieldsOf numberedOf messageOf flagOf build.made build.encoded given bytesOf buildOf
-    wordOf countOf lowestFrom seek settingsOk inRange openOf ours judgedOf said heard taking.hand taking.takeOf putting.queue putting.putOf serve nextOf
+    wordOf countOf lowestFrom seek settingsOk inRange openOf ours judgedOf said heard hearOf dropOf putting.queue putting.putOf serve nextOf
     feeding.feedOf feeding.feedOpen feeding.used feeding.fed feeding.step feeding.kept feeding.headed feeding.admission
-    run did step segments bytesIn acts handed handedFor flatMap flatten
+    run did step segments bytesIn acts dropped flatMap flatten
 computed zero k = refl
 computed (suc zero) k = refl
 computed (suc (suc b)) k = absurd (let h : suc (suc b) < length bundles = ltb-true (suc (suc b)) (length bundles) k in omega arith)
@@ -262,7 +263,7 @@ module _ (b : ℕ) (k : known b ≡ true) where
         before = [];
         behind = [];
         put = fact (λ f. f .put);
-        handed = sym (fact (λ f. f .handed));
+        dropped = sym (fact (λ f. f .dropped));
         come = omega (arith, fact (λ f. f .held));
         asked = (fact (λ f. f .receives), ltb-true _ _ (fact (λ f. f .inside)));
         awaited = record { allowed = fact (λ f. f .barred); going = eqb-false _ _ (fact (λ f. f .done)); theirs = fact (λ f. f .ours) };

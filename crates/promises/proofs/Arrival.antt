@@ -1,9 +1,9 @@
 -- T9 (c), by the history of each end (T11): what was put is what was sent and what waits, what was sent is what came and what is on the way, and
--- what came is what was handed out and what is held. So a message that is next at the other end is first among what is held, and is taken.
+-- what came is what was dropped and what is held. So a message that is next at the other end is first among what is held, and is shown and dropped.
 -- Assumes nothing.
-use mathlib.Core.Path.{_≡_, refl, sym, ap, _∙_}
+use mathlib.Core.Path.{_≡_, refl, sym, ap, subst, _∙_}
 use mathlib.Core.Bool.{Bool}
-use mathlib.Core.List.{List, [], _∷_, _++_, append-nil, append-assoc, flatMap}
+use mathlib.Core.List.{List, [], _∷_, _++_, append-assoc, flatMap, flatten}
 use Prim.Native.Nat.{ℕ, _≤_, _<_}
 use native.Mathlib.Omega.{arith}
 use lib.Dec.{T, ltb, ltb→lt}
@@ -19,17 +19,18 @@ use Rattle.rows.specs.declared.Protocol.{Protocol}
 use Rattle.rows.specs.Spoken.{spoken, speaks}
 use Rattle.messages.specs.Reading.{messageOf}
 use Rattle.judging.specs.Besides.Judging.{leadsTo}
-use Rattle.taking.specs.Taking.{seen}
-use Rattle.promises.specs.Effects.{gave, segments}
+use Rattle.hearing.specs.Hearing.{seen}
+use Rattle.promises.specs.Effects.{gave, acts, segments}
 use Rattle.promises.specs.Fairness.{queue}
-use Rattle.promises.specs.History.{putBy, putFor, handedFor, receivedIn}
+use Rattle.promises.specs.History.{putBy, putFor, receivedIn, Spelled}
 use Rattle.connection.specs.declared.Settings.{Settings}
-use Rattle.promises.specs.Besides.Arrival.{End, facing, pastOf, worldOf, holding, Glued, AllThere, Journey}
+use Rattle.promises.specs.Besides.Arrival.{End, facing, pastOf, worldOf, holding, Arrives, Glued, AllThere, Journey}
 use Rattle.promises.proofs.Reached.{in-range-for-ever}
 use Rattle.promises.proofs.HistoryLaws.{flat-append}
+use Rattle.promises.proofs.HistoryItems.{spelled-long}
 use Rattle.promises.proofs.History.{history}
 use Rattle.promises.proofs.ArrivalSegments.{all-made, came}
-use Rattle.promises.proofs.ArrivalTaken.{built-is-taken}
+use Rattle.promises.proofs.ArrivalBuilt.{built-arrives}
 
 -- ---- the instance that one talks with
 
@@ -59,20 +60,23 @@ glued a b way j i l =
     let r = history (b .settings) (b .receive) (b .send) (b .opened) (b .calls) (b .real) .0 .receives in
     let us = a .settings .party in
     let k = came us i l (r .divided) (segments (pastOf a)) way (all-made (a .opened) (a .calls) (a .real)) (j .bytes) in
-    let there : receivedIn (otherOf us) (facing a i) (r .carried) (r .left) ≡ handedFor (facing a i) (pastOf b) ++ holding (worldOf b) (facing a i) =
-    ap (λ (them : Party). receivedIn them (facing a i) (r .carried) (r .left)) (sym (j .parties))
-    ∙ r .messages (facing a i) (rw (j .parties) (pair-within (us .bundle) i l)) .split in
-    record {
-      flight = k .flight;
-      put = put-so ∙ ap (λ (xs : List ℕ). xs ++ queue (worldOf a) i) (k .sent ∙ ap (λ (xs : List ℕ). xs ++ k .flight) there);
-      few = k .few;
-    }
+    let m = r .messages (facing a i) (rw (j .parties) (pair-within (us .bundle) i l)) in
+    let there : receivedIn (otherOf us) (facing a i) (r .carried) (r .left) ≡ flatten (m .messages) ++ holding (worldOf b) (facing a i) =
+    ap (λ (them : Party). receivedIn them (facing a i) (r .carried) (r .left)) (sym (j .parties)) ∙ m .split in
+    let same : speaks (b .settings .party .bundle) (facing a i) ≡ speaks (us .bundle) i =
+    ap (λ (them : Party). speaks (them .bundle) (facing a i)) (j .parties) ∙ pair-speaks (us .bundle) i l in (
+      k .flight,
+      record {
+        messages = m .messages;
+        spelled = subst (λ (p : Protocol). Spelled p (acts (facing a i) (pastOf b)) (m .messages)) same (m .spelled);
+        put = put-so ∙ ap (λ (xs : List ℕ). xs ++ queue (worldOf a) i) (k .sent ∙ ap (λ (xs : List ℕ). xs ++ k .flight) there);
+      },
+      k .few,
+    )
 
 pub all-there : AllThere
 all-there a b j i l =
-    let k = glued a b [] j i l in
-    let there : List ℕ = handedFor (facing a i) (pastOf b) ++ holding (worldOf b) (facing a i) in
-    k .put ∙ ap (λ (xs : List ℕ). xs ++ queue (worldOf a) i) (ap (λ (xs : List ℕ). there ++ xs) (none (k .flight) (k .few)) ∙ append-nil there)
+    let (flight, k, few) = glued a b [] j i l in subst (Arrives a b i) (none flight few) k
   where
     none : (xs : List ℕ) → length xs ≤ 0 → xs ≡ []
     none [] h = refl
@@ -86,22 +90,23 @@ settled e = ap (λ (s : Settings). s .party .bundle) (in-range-for-ever (e .sett
 
 pub journey : Journey
 unfolding putFor flatMap
-journey a b way i p bs d lent room =
-    let k = glued a b way (d .joined) i (d .within) in
-    let handed : List ℕ = handedFor (facing a i) (pastOf b) in
+journey a b way i p bs d =
+    let (flight, k, few) = glued a b way (d .joined) i (d .within) in
+    let front : List ℕ = flatMap putBy (d .before) in
+    let dropped : List ℕ = flatten (k .messages) in
     let held : List ℕ = holding (worldOf b) (facing a i) in
     let more : List ℕ = flatMap putBy (d .behind) in
-    let rest : List ℕ = k .flight ++ queue (worldOf a) i in
-    let put : putFor i (pastOf a) ≡ handed ++ (bs ++ more) =
-    ap (flatMap putBy) (d .put) ∙ flat-append putBy (d .before) (gave bs ∷ d .behind) ∙ ap (λ (xs : List ℕ). xs ++ (bs ++ more)) (d .handed) in
-    let both : handed ++ (bs ++ more) ≡ handed ++ (held ++ rest) =
-    sym put ∙ k .put ∙ append-assoc (handed ++ held) (k .flight) (queue (worldOf a) i) ∙ append-assoc handed held rest in
+    let rest : List ℕ = flight ++ queue (worldOf a) i in
+    let put : putFor i (pastOf a) ≡ front ++ (bs ++ more) = ap (flatMap putBy) (d .put) ∙ flat-append putBy (d .before) (gave bs ∷ d .behind) in
+    let both : front ++ (bs ++ more) ≡ dropped ++ (held ++ rest) =
+    sym put ∙ k .put ∙ append-assoc (dropped ++ held) flight (queue (worldOf a) i) ∙ append-assoc dropped held rest in
+    let long : length dropped ≡ length front = sym (d .dropped ∙ spelled-long (k .spelled)) in
     let same : bs ++ more ≡ held ++ rest =
-    sym (drop-at handed (bs ++ more) (length handed) refl) ∙ ap (drop (length handed)) both ∙ drop-at handed (held ++ rest) (length handed) refl in
+    sym (drop-at front (bs ++ more) (length front) refl) ∙ ap (drop (length front)) both ∙ drop-at dropped (held ++ rest) (length front) long in
     let bundle = a .settings .party .bundle in
     let speaks-so : speaks (worldOf b .connection .settings .party .bundle) (pairOf bundle i) ≡ speaks bundle i =
     ap (λ (n : ℕ). speaks n (pairOf bundle i)) (settled b ∙ ap (λ (them : Party). them .bundle) (d .joined .parties)) ∙ pair-speaks bundle i (d .within) in
-    built-is-taken bundle i p bs (d .built) (worldOf b) (pairOf bundle i) speaks-so
+    built-arrives bundle i p bs (d .built) (worldOf b) (pairOf bundle i) speaks-so
     (record {
       asked = d .asked;
       awaited = d .awaited;
@@ -110,4 +115,4 @@ journey a b way i p bs d lent room =
       next = d .next;
       row =
           ap (λ (q : Protocol). leadsTo (seen (worldOf b .connection) (worldOf b .receive) (pairOf bundle i)) (messageOf q bs .message)) speaks-so ∙ d .row;
-    }) lent room
+    })

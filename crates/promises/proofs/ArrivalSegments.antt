@@ -30,7 +30,7 @@ use Rattle.promises.proofs.FairSent.{of-same, of-other}
 use Rattle.promises.proofs.HistoryLaws.{all-append, segments-next}
 use Rattle.promises.proofs.HistoryLayout.{for-append, received-head, received-in}
 use Rattle.promises.proofs.HistoryRuns.{along}
-use Rattle.promises.proofs.Effects.{Good, Leaves, still, shut, feeds, faults, hands, queues, serves}
+use Rattle.promises.proofs.Effects.{Good, Leaves, still, shut, feeds, faults, drops, queues, serves}
 use Rattle.promises.proofs.HistorySends.{segmented-by}
 
 -- ---- segments as they are made
@@ -64,7 +64,7 @@ made-by w g real still = tt
 made-by w g real (shut o) = tt
 made-by w g real (feeds xs o spelt) = tt
 made-by w g real (faults n i) = tt
-made-by w g real (hands i n to m buf q fits long front) = tt
+made-by w g real (drops i n to m q fits reads) = tt
 made-by w g real (queues i to m xs q o free short room) = tt
 made-by w g real (serves i time bs o who q) =
     (made-of (w .connection .settings) w time bs (segmented-by w g real (serves i time bs o who q)), tt)

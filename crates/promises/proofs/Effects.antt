@@ -2,18 +2,16 @@
 -- goes over several calls is then proved once for each effect.
 -- Assumes nothing.
 use mathlib.Core.Path.{_≡_, refl, sym, ap, subst, _∙_}
-use mathlib.Core.Bool.{Bool, true, false, true≢false, not}
+use mathlib.Core.Bool.{Bool, true, false, true≢false, cond, not}
 use mathlib.Core.List.{List, []}
 use mathlib.Core.Logic.{_≢_}
 use Prim.Native.Nat.{ℕ, _+_, _≤_, _<_}
 use native.Mathlib.Omega.{arith}
 use lib.ListN as lists
 use lib.ListN.{length, getD}
-use lib.Seq.{sets, length-sets}
 use borrow.Author.Tests.{eq-eqb, ne-eqb, eqb-true, not-false}
 use Rattle.base.specs.Numbers.{Bytes}
 use Rattle.base.proofs.Conds.{by-test, both-true}
-use Rattle.ring.proofs.Stores.{stream-length}
 use Rattle.wire.specs.declared.instances.Party.{Party}
 use Rattle.wire.specs.Instances.{instances, roleOf, initiates}
 use Rattle.rows.specs.declared.Agency.{Agency}
@@ -31,12 +29,14 @@ use Rattle.connection.specs.declared.Settings.{Settings}
 use Rattle.connection.specs.declared.Connection.{Connection}
 use Rattle.connection.specs.declared.Closing.the-variants.{Of}
 use Rattle.connection.specs.Shapes.{Shaped}
-use Rattle.connection.specs.Closings.{isOpen, closedBy, takeFault}
+use Rattle.connection.specs.Closings.{isOpen, closedBy, heardFault}
 use Rattle.connection.specs.Parts.{withReceiving, withSending, withGate, firstHeld, heldOf}
 use Rattle.range.specs.Ranges.{inRange, receiveLength, sendLength, receiveStoreOk, receives, sends}
 use Rattle.range.proofs.RangeLaws.{ranged}
 use Rattle.telling.specs.Besides.Numbers as telling
 use Rattle.telling.proofs.NumberLaws as telling-laws
+use Rattle.judging.specs.declared.Judged.{Judged}
+use Rattle.judging.specs.declared.Outcome.{Outcome}
 use Rattle.judging.specs.Judging.{viewOf, outcomeNumber, holds, ours, barred, led}
 use Rattle.judging.proofs.HearingLaws.{unheard-number}
 use Rattle.judging.proofs.Moving.{leads-low}
@@ -44,20 +44,27 @@ use Rattle.feeding.specs.Feeding as feeding
 use Rattle.feeding.specs.Feeding.{Reception, Spelt}
 use Rattle.feeding.specs.Besides.Numbers.{When, out-of-range}
 use Rattle.feeding.proofs.NumberLaws as feeding-laws
-use Rattle.taking.specs.Taking as taking
-use Rattle.taking.proofs.TakingLaws.{held-within, held-take}
-use Rattle.taking.proofs.NumberLaws as taking-laws
+use Rattle.hearing.specs.Hearing as heard
+use Rattle.hearing.specs.Besides.Numbers as hearing
+use Rattle.hearing.specs.Besides.Numbers.{Unshown, Found, Tells, refusal, message}
+use Rattle.hearing.proofs.HearingLaws.{held-within, held-take}
+use Rattle.hearing.proofs.NumberLaws.{tells, unshown-number, not-fault}
+use Rattle.looking.specs.declared.Place.{Place}
+use Rattle.looking.specs.declared.Place.the-variants.{Store, Scratch, Nowhere}
+use Rattle.looking.specs.Looking as looking
+use Rattle.looking.proofs.NumberLaws as looking-laws
+use Rattle.dropping.specs.Dropping as dropping
+use Rattle.dropping.proofs.NumberLaws as dropping-laws
 use Rattle.putting.specs.Putting as putting
 use Rattle.putting.proofs.NumberLaws as putting-laws
 use Rattle.sending.specs.NextSegment as sending
 use Rattle.sending.proofs.NumberLaws as sending-laws
-use Rattle.promises.specs.Calls.{Call, feed, take, put, next, status, World, world, Out, step, Real}
-use Rattle.promises.specs.Effects.{Act, gave, got, messageIn, Effect, came, acted, sent, faulted, nothing, effectOf}
+use Rattle.promises.specs.Calls.{Call, feed, look, drop, put, next, status, saidBy, looked, World, world, Out, step, Real}
+use Rattle.promises.specs.Effects.{Act, gave, got, readIn, Effect, came, acted, sent, faulted, nothing, effectOf}
 use Rattle.promises.specs.Reached.{Reached}
 use Rattle.promises.specs.History.{theirs, allowed}
 use Rattle.promises.proofs.ReachedFeed.{Tidy, tidy-fed, ends, uses}
 use Rattle.promises.proofs.ReachedHandshake.{Row}
-use Rattle.promises.proofs.HistoryLaws.{front}
 use Rattle.promises.proofs.SegmentMade.{Made, made-of}
 
 -- ---- reached worlds
@@ -89,7 +96,7 @@ send-some {w} g i l = let q = ranged (w .connection) (g .ranged) .set .send i l 
 -- an act of instance i, whose message says m, leads from its state to another by a row
 pub record Steps (w : World) (i : ℕ) (a : Act) (m : Message) (to : ℕ) : Type 0 where
   pub within : i < instances (w .connection .settings .party .bundle)
-  pub reads : messageOf (speaks (w .connection .settings .party .bundle) i) (messageIn a) ≡ read m
+  pub reads : readIn (speaks (w .connection .settings .party .bundle) i) a ≡ read m
   pub agency : allowed (w .connection .settings .party) i (getD (w .connection .talk .states) i 0) a ≡ true
   pub row : nextOf (speaks (w .connection .settings .party .bundle) i) (getD (w .connection .talk .states) i 0) (m .kind)
       (flagOf (speaks (w .connection .settings .party .bundle) i) m) ≡ To to
@@ -116,10 +123,10 @@ module _ (w : World) where
         → Leaves real (came (feeding.left (ends c (w .receive) xs .gate)) (lists.take (uses c (w .receive) xs) xs)) (fedWorld (ends c (w .receive) xs))
     -- an instance's bytes were at fault, which closes where no closing was
     faults : (n i : ℕ) → Leaves real (faulted n i) (world (withGate c (closedBy (c .gate) (Of n i))) (w .receive) (w .send))
-    -- a message was handed out: the first bytes held are at the front of the lent buffer
-    hands : (i n to : ℕ) (m : Message) (buf : List ℕ) → Steps w i (got n m buf) m to → n ≤ getD (c .receiving .held) i 0 → n ≤ length buf
-        → lists.take n buf ≡ firstHeld c (w .receive) i n
-        → Leaves real (acted i (got n m buf)) (world (taking.handed c i (led n m to)) (w .receive) (w .send))
+    -- a message was dropped, which the first bytes held are
+    drops : (i n to : ℕ) (m : Message) → Steps w i (got n m) m to → n ≤ getD (c .receiving .held) i 0
+        → messageOf (speaks (c .settings .party .bundle) i) (firstHeld c (w .receive) i n) ≡ read m
+        → Leaves real (acted i (got n m)) (world (dropping.handed c i (led n m to)) (w .receive) (w .send))
     -- a message was queued: of Handshake in one segment, of others after Accept, and there was room
     queues : (i to : ℕ) (m : Message) (xs : List ℕ) → Steps w i (gave xs) m to → isOpen (c .gate) ≡ true → barred (viewOf c i xs) ≡ false
         → (i ≡ 0 → length xs ≤ c .settings .limit) → getD (c .sending .waiting) i 0 + length xs ≤ getD (c .settings .send) i 0
@@ -157,6 +164,22 @@ unfolding ours
 their-turn us i s k f n e q =
     other-holds (initiates (us .side) (roleOf (us .bundle) i)) (agencyOf (speaks (us .bundle) i) s) e
     (rows-say .going (speaks (us .bundle) i) s (leads-low (speaks (us .bundle) i) s k f n q .0))
+
+-- ---- a message that was found
+
+-- it is the first bytes held
+module _ (c : Connection) (store : List ℕ) (i : ℕ) {n next : ℕ} {m : Message} (f : Found c store i n m next) where
+  abbrev protocol : Protocol
+  protocol = speaks (c .settings .party .bundle) i
+
+  found-fits : n ≤ getD (c .receiving .held) i 0
+  found-fits = held-within c store i n (f .spells .whole)
+
+  pub found-first : firstHeld c store i n ≡ lists.take n (heldOf c store i)
+  found-first = held-take c store i n found-fits
+
+  pub found-reads : messageOf protocol (firstHeld c store i n) ≡ read m
+  found-reads = ap (messageOf protocol) found-first ∙ reads-forms protocol (lists.take n (heldOf c store i)) m .1 (f .spells .says)
 
 -- ---- each call
 
@@ -215,25 +238,47 @@ module _ (w : World) (g : Good w) where
       }))
       (λ o. rw o (λ known keeps. record { known = known; fits = λ real. unchanged; leaves = shut o })))
 
-  take-says : (i : ℕ) (buf : List ℕ) {k : ℕ} → taking-laws.Way (w .connection) (w .receive) i buf k → Says (take i buf) (step w (take i buf))
-  unfolding step
-  take-says i buf (taking-laws.unfit q e) = absurd (true≢false (sym (reached-receives g) ∙ q))
-  take-says i buf (taking-laws.plain n z k f b e) = rw (← e) (rw (ne-eqb n 0 z, f) (k, still))
-  take-says i buf (taking-laws.stays o a u e) =
-      let n = outcomeNumber o in
-      let (low, high) = unheard-number u in
-      let z = ne-eqb n 0 (λ q. omega arith) in
-      rw (← e) (by-test (takeFault n) (λ f. rw (z, f) (λ q. omega arith, faults n i)) (λ f. rw (z, f) (λ q. omega arith, still)))
-  take-says i buf (taking-laws.gone n m to a s l e) =
-      let xs : List ℕ = firstHeld (w .connection) (w .receive) i n in
-      let fits = held-within (w .connection) (w .receive) i n (s .whole) in
-      let at-front = front buf xs n (stream-length _ _ _ _ n) l in
-      let reads : messageOf (p i) xs ≡ read m =
-      ap (messageOf (p i)) (held-take (w .connection) (w .receive) i n fits) ∙ reads-forms (p i) (lists.take n (heldOf (w .connection) (w .receive) i)) m .1 (s .says) in
-      rw (← e) (
-        λ z. omega arith,
-        hands i n to m (sets buf 0 xs) (record { within = a .1; reads = rw at-front reads; agency = their-turn _ i _ _ _ to (s .awaited .theirs) (s .row); row = s .row }) fits
-            (rw length-sets l) at-front,
+  -- what is told without a message: no 23; a fault closes, and any other number does nothing
+  no-23 : {i : ℕ} {o : Outcome} → Unshown (w .connection) (w .receive) i o → outcomeNumber o ≢ 23
+  no-23 (hearing.out-of-range q) e = true≢false (sym (reached-receives g) ∙ q)
+  no-23 (hearing.no-instance q h) e = omega arith
+  no-23 (hearing.unheard a u) e = let (low, high) = unheard-number u in omega arith
+
+  undone : (i n : ℕ) {real : Type 0} → Leaves w real (cond (heardFault n) (faulted n i) nothing) (world (heard.shut (w .connection) i n) (w .receive) (w .send))
+  undone i n = by-test (heardFault n) (λ f. rw f (faults n i)) (λ f. rw f still)
+
+  -- a message that is shown at a place, or nowhere: nothing is done
+  shown-at : (i : ℕ) (scratch : List ℕ) (n : ℕ) (m : Message) (xs : List ℕ) (p : Place)
+      → let s = looking.shownAt p (hearing.done n m) in
+      Says (look i scratch) (record { world = w; answer = (s .number, looked (saidBy s) p (looking.joined p xs scratch)) })
+  shown-at i scratch n m xs (Store at) = ((λ q. omega arith), rw (not-fault .0) still)
+  shown-at i scratch n m xs Scratch = ((λ q. omega arith), rw (not-fault .0) still)
+  shown-at i scratch n m xs Nowhere = ((λ q. omega arith), rw (not-fault .2) still)
+
+  look-says : (i : ℕ) (scratch : List ℕ) {j : Judged} → Tells (w .connection) (w .receive) i j
+      → let r = looking.byJudged (w .connection) (w .receive) i scratch j in
+      Says (look i scratch)
+      (record {
+        world = world (r .answer .connection) (w .receive) (w .send);
+        answer = (r .answer .shown .number, looked (saidBy (r .answer .shown)) (r .answer .place) (r .scratch));
+      })
+  look-says i scratch (refusal {o = o} u) =
+      let low = unshown-number u in
+      rw (ne-eqb (outcomeNumber o) 0 (λ q. omega arith)) (no-23 u, undone i (outcomeNumber o))
+  look-says i scratch (message {n = n} {m = m} f) =
+      shown-at i scratch n m (firstHeld (w .connection) (w .receive) i n) (looking.messagePlace (w .connection) i n (length scratch))
+
+  drop-says : (i : ℕ) {j : Judged} → Tells (w .connection) (w .receive) i j
+      → let r = dropping.byJudged (w .connection) i j in
+      Says (drop i) (record { world = world (r .connection) (w .receive) (w .send); answer = (r .shown .number, saidBy (r .shown)) })
+  drop-says i (refusal {o = o} u) =
+      let low = unshown-number u in
+      rw (ne-eqb (outcomeNumber o) 0 (λ q. omega arith)) (no-23 u, undone i (outcomeNumber o))
+  drop-says i (message {n = n} {next = to} {m = m} f) =
+      let s = f .spells in (
+        λ q. omega arith,
+        drops i n to m (record { within = f .asked .1; reads = refl; agency = their-turn _ i _ _ _ to (s .awaited .theirs) (s .row); row = s .row })
+            (found-fits (w .connection) (w .receive) i f) (found-reads (w .connection) (w .receive) i f),
       )
 
   put-says : (i : ℕ) (xs : List ℕ) {k : ℕ} → putting-laws.Way (w .connection) (w .send) i xs k
@@ -258,13 +303,17 @@ module _ (w : World) (g : Good w) where
       rw (← e) ((λ z. omega arith), serves i time _ (u .1) who (λ real. made-of g time buf i (real .0) who l))
 
   pub done : (a : Call) → Done w a (step w a)
-  unfolding step
+  unfolding step looking.lookOf dropping.dropOf
   done (feed xs) =
       feed-done xs (λ e. feed-unknown xs (feeding-laws.exactly (w .connection) (w .receive) xs 23 .0 e))
       (λ real. feeding-laws.keeps (w .connection) (w .receive) xs (g .spelt) real (reached-receives g))
-  done (take i buf) =
-      let q = taking-laws.keeps (w .connection) (w .receive) i buf (g .shaped) (reached-receives g) in
-      let (known, leaves) = take-says i buf (taking-laws.way (w .connection) (w .receive) i buf .1) in
+  done (look i scratch) =
+      let q = looking-laws.keeps (w .connection) (w .receive) i scratch (g .shaped) (reached-receives g) in
+      let (known, leaves) = look-says i scratch (tells (w .connection) (w .receive) i) in
+      record { known = known; fits = λ real. record { ranged = q .0; shaped = q .1; receive = refl; send = refl }; leaves = leaves }
+  done (drop i) =
+      let q = dropping-laws.keeps (w .connection) (w .receive) i (g .shaped) (reached-receives g) in
+      let (known, leaves) = drop-says i (tells (w .connection) (w .receive) i) in
       record { known = known; fits = λ real. record { ranged = q .0; shaped = q .1; receive = refl; send = refl }; leaves = leaves }
   done (put i xs) =
       let q = putting-laws.keeps (w .connection) (w .send) i xs (g .shaped) (reached-sends g) in

@@ -266,7 +266,7 @@ by-next s w {w′} (served j bs q) k ss rest p n there h =
     let e : j ≡ 0 = chosen-zero (sending.counts (w .connection)) (w .connection .sending .turn) j (omega (arith, at)) (q .who) in
     own-now s w w′ 0 bs (subst (λ (m : ℕ). Served s w w′ m bs) e q) p (list.take n ss) there (omega (arith, k .reached .single))
 
--- ---- the theorems, by what take and put keep
+-- ---- the theorems, by what every call keeps
 
 serves-always : (s : Settings) (w : World) → Reached s w → Serves s w
 unfolding step

@@ -27,7 +27,7 @@ use Rattle.promises.specs.Calls.{World, world}
 use Rattle.promises.specs.Effects.{Effect, segmentOf}
 use Rattle.promises.specs.Reached.{waits, Reached}
 use Rattle.promises.specs.Fairness.{queue, header, payload}
-use Rattle.promises.proofs.Effects.{good, send-some, row-of, Leaves, still, shut, feeds, faults, hands, queues, serves}
+use Rattle.promises.proofs.Effects.{good, send-some, row-of, Leaves, still, shut, feeds, faults, drops, queues, serves}
 use Rattle.promises.proofs.Reached.{handshake, Sound, moved, put-bound}
 use Rattle.promises.proofs.SegmentMade.{Made}
 
@@ -118,7 +118,7 @@ module _ (s : Settings) (w : World) (k : Sound s w) where
   moves real (shut o) = quiet unmoved
   moves {w′ = w′} real (feeds xs o spelt) = quiet {w′ = w′} (record { turn = refl; grows = λ i l. no-more (queue w i); bound = omega arith })
   moves {w′ = w′} real (faults n i) = quiet {w′ = w′} (record { turn = refl; grows = λ i l. no-more (queue w i); bound = omega arith })
-  moves {w′ = w′} real (hands i n to m buf q fits long front) =
+  moves {w′ = w′} real (drops i n to m q fits reads) =
       quiet {w′ = w′} (record { turn = refl; grows = λ i l. no-more (queue w i); bound = omega (arith, moved s w k i to (row-of q)) })
   -- a message follows what waits
   moves real (queues i to m xs q o free short room) =

@@ -16,7 +16,7 @@ use Rattle.sending.proofs.NumberLaws.{counts, counts-long, counts-at}
 use Rattle.promises.specs.Calls.{Call, World, step, run, AllReal, Opened, first}
 use Rattle.promises.specs.Effects.{Effect, Past, did, bytesIn}
 use Rattle.promises.specs.Reached.{Reached}
-use Rattle.promises.specs.History.{handedFor, sentFor, Talks, Closes, Tells, History, Reports, StatusTells}
+use Rattle.promises.specs.History.{droppedFor, sentFor, Talks, Closes, Tells, History, Reports, StatusTells}
 use Rattle.promises.proofs.Effects.{Good, good, Leaves}
 use Rattle.promises.proofs.Reached.{in-range-for-ever}
 use Rattle.promises.proofs.HistoryRuns.{along}
@@ -24,7 +24,7 @@ use Rattle.promises.proofs.HistoryTalks.{talks-first, talks-by}
 use Rattle.promises.proofs.HistoryReceives.{Held, held-first, held-by, receives-of}
 use Rattle.promises.proofs.HistoryCloses.{closes-first, closes-by}
 use Rattle.promises.proofs.HistorySends.{Waits, waits-first, waits-by, sends-of, makes}
-use Rattle.promises.proofs.HistoryItems.{AllSpelled, spelled-next, spelled-first}
+use Rattle.promises.proofs.HistoryLooks.{looks}
 
 -- all that each effect keeps
 record Ties (s : Settings) (past : Past) (w : World) : Type 0 where
@@ -32,7 +32,6 @@ record Ties (s : Settings) (past : Past) (w : World) : Type 0 where
   waits : Waits s past w
   talks : Talks s past w
   closes : Closes s past w
-  spelled : AllSpelled s past
 
 ties-next : (past : Past) (w : World) → Good w → (real : Type 0) (e : Effect) (w′ : World) → real → Leaves w real e w′
     → Ties (w .connection .settings) past w → Ties (w .connection .settings) (past ++ (e ∷ [])) w′
@@ -42,12 +41,11 @@ ties-next past w g real e w′ r l t =
       waits = waits-by w g past (t .waits) r l;
       talks = talks-by w g past (t .talks) l;
       closes = closes-by w g past (t .held) l (t .closes);
-      spelled = spelled-next past w l (t .spelled);
     }
 
 tells-of : (past : Past) (w : World) → Ties (w .connection .settings) past w → Tells (w .connection .settings) past w
 tells-of past w t =
-    record { receives = receives-of past w (t .held) (t .spelled); sends = sends-of past w (t .waits); talks = t .talks; closes = t .closes }
+    record { receives = receives-of past w (t .held); sends = sends-of past w (t .waits); talks = t .talks; closes = t .closes }
 
 -- ---- status
 
@@ -73,7 +71,7 @@ reports-of past w k t =
       number = refl;
       held = λ cs left d i l.
           let q = divided-once (bytesIn past) left (t .receives .left) cs (t .receives .carried) d (t .receives .divided) in
-          rw (q .0, q .1) (t .receives .held i l ∙ ap (λ (m : ℕ). length (handedFor i past) + m) (sym (shown-at n (c .receiving .held) i l)));
+          rw (q .0, q .1) (t .receives .held i l ∙ ap (λ (m : ℕ). droppedFor i past + m) (sym (shown-at n (c .receiving .held) i l)));
       waiting = λ i l.
           t .sends .waiting i l
           ∙ ap (λ (m : ℕ). length (sentFor (c .settings .party) i past) + m) (sym (shown-at n (c .sending .waiting) i l));
@@ -100,7 +98,7 @@ module _ (s : Settings) (receive send : List ℕ) (opened : Opened s receive sen
   ties : Ties s past w
   ties =
       along Ties ties-next opened cs real
-      (record { held = held-first opened; waits = waits-first opened; talks = talks-first opened; closes = closes-first opened; spelled = spelled-first s })
+      (record { held = held-first opened; waits = waits-first opened; talks = talks-first opened; closes = closes-first opened })
 
   told-so : Tells s past w
   told-so = subst (λ (u : Settings). Ties u past w → Tells u past w) (reached .settings) (tells-of past w) ties
@@ -110,7 +108,10 @@ module _ (s : Settings) (receive send : List ℕ) (opened : Opened s receive sen
 
 -- T11
 pub history : History
-history s receive send o cs real = (told-so s receive send o cs real, makes s (run (first s receive send) cs) (reached s receive send o cs real))
+history s receive send o cs real =
+    let w : World = run (first s receive send) cs in
+    let k = reached s receive send o cs real in
+    (told-so s receive send o cs real, makes s w k, looks s w k)
 
 -- T13
 pub status-tells : StatusTells

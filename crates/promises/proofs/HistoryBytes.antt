@@ -1,5 +1,5 @@
 -- What was received (T11 a), byte by byte: the division of the bytes so far stands as the record does, and what it has for an instance is what
--- was handed out and what is held.
+-- was dropped and what is held.
 -- Assumes nothing.
 use mathlib.Core.Path.{_≡_, refl, sym, ap, _∙_}
 use mathlib.Core.Bool.{true, false, true≢false, cond}
@@ -40,11 +40,11 @@ pub data Reading (us : Party) (r : Receiving) (left : List ℕ) : Type 0 where
   in-pay : (h p : List ℕ) → left ≡ h ++ p → length h ≡ headerLength → 0 < r .rest → length p + r .rest ≡ decoded h .len → r .header ≡ empty
       → routeOf us (decoded h .protocol) (decoded h .mode) ≡ To (r .instance) → Reading us r left
 
-pub record Tied (us : Party) (caps : List ℕ) (handed : ℕ → List ℕ) (bs : List ℕ) (s : Reception) : Type 0 where
+pub record Tied (us : Party) (caps : List ℕ) (dropped : ℕ → List ℕ) (bs : List ℕ) (s : Reception) : Type 0 where
   pub carried : List Carried
   pub left : List ℕ
   pub divided : Divided bs carried left
-  pub received : (i : ℕ) → i < instances (us .bundle) → receivedIn us i carried left ≡ handed i ++ heldIn caps s i
+  pub received : (i : ℕ) → i < instances (us .bundle) → receivedIn us i carried left ≡ dropped i ++ heldIn caps s i
   pub reading : isOpen (s .gate) ≡ true → Reading us (s .receiving) left
   pub many : length (s .receiving .held) ≡ most
 
@@ -107,9 +107,9 @@ module _ (us : Party) (bs : List ℕ) (b : ℕ) (cs : List Carried) (h p : List 
 
 -- ---- one byte
 
-module _ (us : Party) (caps : List ℕ) (handed : ℕ → List ℕ) (some : (i : ℕ) → i < instances (us .bundle) → 0 < getD caps i 0) where
+module _ (us : Party) (caps : List ℕ) (dropped : ℕ → List ℕ) (some : (i : ℕ) → i < instances (us .bundle) → 0 < getD caps i 0) where
   -- a whole header
-  module _ (bs : List ℕ) (b : ℕ) (s : Reception) (t : Tied us caps handed bs s) (short : length (t .left) < headerLength)
+  module _ (bs : List ℕ) (b : ℕ) (s : Reception) (t : Tied us caps dropped bs s) (short : length (t .left) < headerLength)
       (eight : length (t .left ++ (b ∷ [])) ≡ headerLength) where
     abbrev new : List ℕ
     new = t .left ++ (b ∷ [])
@@ -118,7 +118,7 @@ module _ (us : Party) (caps : List ℕ) (handed : ℕ → List ℕ) (some : (i :
     tied-with : (s′ : Reception) → s′ .store ≡ s .store → s′ .receiving .starts ≡ s .receiving .starts → s′ .receiving .held ≡ s .receiving .held
         → (decoded new .len ≡ 0 → isOpen (s′ .gate) ≡ true → Reading us (s′ .receiving) [])
         → (0 < decoded new .len → isOpen (s′ .gate) ≡ true → Reading us (s′ .receiving) new)
-        → Tied us caps handed (bs ++ (b ∷ [])) s′
+        → Tied us caps dropped (bs ++ (b ∷ [])) s′
     tied-with s′ e f g none more =
         by-test (eqb (decoded new .len) 0)
         (λ q.
@@ -146,27 +146,27 @@ module _ (us : Party) (caps : List ℕ) (handed : ℕ → List ℕ) (some : (i :
     never e = absurd (true≢false (sym e))
 
     tied-settled : isOpen (s .gate) ≡ true → (r : Route) → routeOf us (decoded new .protocol) (decoded new .mode) ≡ r
-        → Tied us caps handed (bs ++ (b ∷ [])) (settled s (admitted caps (s .receiving .held) (decoded new .len) r))
+        → Tied us caps dropped (bs ++ (b ∷ [])) (settled s (admitted caps (s .receiving .held) (decoded new .len) r))
     tied-settled o Unknown e = tied-with _ refl refl refl (λ z q. never q) (λ z q. never q)
     tied-settled o (Wrong i) e = tied-with _ refl refl refl (λ z q. never q) (λ z q. never q)
     tied-settled o (To i) e =
         let n = decoded new .len in
-        cond-cases (λ (a : Admission). Tied us caps handed (bs ++ (b ∷ [])) (settled s a)) (leb (getD (s .receiving .held) i 0 + n) (getD caps i 0))
+        cond-cases (λ (a : Admission). Tied us caps dropped (bs ++ (b ∷ [])) (settled s a)) (leb (getD (s .receiving .held) i 0 + n) (getD caps i 0))
         (λ q.
         tied-with _ refl refl refl (λ z y. in-head z (omega arith) refl)
         (λ z y. in-pay new [] (sym (append-nil new)) eight z (omega arith) refl (rw (ne-eqb n 0 (λ x. omega arith)) e)))
         (λ q. tied-with _ refl refl refl (λ z y. never y) (λ z y. never y))
 
   -- a byte of a header
-  tied-headed : (bs : List ℕ) (b : ℕ) (s : Reception) (t : Tied us caps handed bs s) → isOpen (s .gate) ≡ true → s .receiving .rest ≡ 0
-      → length (t .left) < headerLength → s .receiving .header ≡ part (t .left) → Tied us caps handed (bs ++ (b ∷ [])) (headed us caps s b)
+  tied-headed : (bs : List ℕ) (b : ℕ) (s : Reception) (t : Tied us caps dropped bs s) → isOpen (s .gate) ≡ true → s .receiving .rest ≡ 0
+      → length (t .left) < headerLength → s .receiving .header ≡ part (t .left) → Tied us caps dropped (bs ++ (b ∷ [])) (headed us caps s b)
   unfolding headed admission
   tied-headed bs b s t o z short e =
       let new : List ℕ = t .left ++ (b ∷ []) in
       let long : length new ≡ suc (length (t .left)) = length-append (t .left) (b ∷ []) ∙ omega arith in
       let f : added (s .receiving .header) b ≡ part new = ap (λ (h : Header). added h b) e ∙ add-part (t .left) b short in
       rw f
-      (cond-cases (Tied us caps handed (bs ++ (b ∷ []))) (leb headerLength (length new))
+      (cond-cases (Tied us caps dropped (bs ++ (b ∷ []))) (leb headerLength (length new))
       (λ q.
       let eight : length new ≡ headerLength = omega (arith, leb-true headerLength (length new) q) in
       rw (part-whole new eight) (tied-settled bs b s t short eight o (routeOf us (decoded new .protocol) (decoded new .mode)) refl))
@@ -191,7 +191,7 @@ module _ (us : Party) (caps : List ℕ) (handed : ℕ → List ℕ) (some : (i :
       inside (omega (arith, at-most (us .bundle))) (omega arith) i l
 
   -- a byte of a payload
-  module _ (bs : List ℕ) (b : ℕ) (s : Reception) (t : Tied us caps handed bs s) (areas : length (s .store) ≡ baseOf caps (instances (us .bundle)))
+  module _ (bs : List ℕ) (b : ℕ) (s : Reception) (t : Tied us caps dropped bs s) (areas : length (s .store) ≡ baseOf caps (instances (us .bundle)))
       (inside : s .receiving .instance < instances (us .bundle))
       (room : getD (s .receiving .held) (s .receiving .instance) 0 < getD caps (s .receiving .instance) 0)
       (h p : List ℕ) (e : t .left ≡ h ++ p) (eight : length h ≡ headerLength) (more : 0 < s .receiving .rest)
@@ -203,18 +203,18 @@ module _ (us : Party) (caps : List ℕ) (handed : ℕ → List ℕ) (some : (i :
     was : Divided bs (t .carried) (h ++ p)
     was = rw e at (t .divided)
 
-    -- what was received is what was handed out and what is then held
+    -- what was received is what was dropped and what is then held
     grown : (i : ℕ) → i < instances (us .bundle) → (xs : List ℕ) → xs ≡ receivedIn us i (t .carried) (h ++ p) ++ payloadFor us i (decoded h) (b ∷ [])
-        → xs ≡ handed i ++ heldIn caps after i
+        → xs ≡ dropped i ++ heldIn caps after i
     grown i l xs q =
-        let r : receivedIn us i (t .carried) (h ++ p) ≡ handed i ++ heldIn caps s i = rw e at (t .received i l) in
+        let r : receivedIn us i (t .carried) (h ++ p) ≡ dropped i ++ heldIn caps s i = rw e at (t .received i l) in
         rw (q, r, to, held-more b s (t .many) areas inside room i l, append-assoc)
 
     many-after : length (after .receiving .held) ≡ most
     unfolding kept
     many-after = rw length-set (t .many)
 
-    tied-kept : Tied us caps handed (bs ++ (b ∷ [])) after
+    tied-kept : Tied us caps dropped (bs ++ (b ∷ [])) after
     unfolding kept
     tied-kept =
         by-test (eqb (s .receiving .rest - 1) 0)
@@ -240,8 +240,8 @@ module _ (us : Party) (caps : List ℕ) (handed : ℕ → List ℕ) (some : (i :
           many = many-after;
         })
 
-  tied-read : (bs : List ℕ) (b : ℕ) (s : Reception) (starts : List ℕ) (n : ℕ) (t : Tied us caps handed bs s) → isOpen (s .gate) ≡ true
-      → Kept (us .bundle) caps starts n s → n ≡ baseOf caps (instances (us .bundle)) → Reading us (s .receiving) (t .left) → Tied us caps handed (bs ++ (b ∷ [])) (step us caps s b)
+  tied-read : (bs : List ℕ) (b : ℕ) (s : Reception) (starts : List ℕ) (n : ℕ) (t : Tied us caps dropped bs s) → isOpen (s .gate) ≡ true
+      → Kept (us .bundle) caps starts n s → n ≡ baseOf caps (instances (us .bundle)) → Reading us (s .receiving) (t .left) → Tied us caps dropped (bs ++ (b ∷ [])) (step us caps s b)
   tied-read bs b s starts n t o k long (in-head z short e) =
       rw (step-headed us caps s b o z) (tied-headed bs b s t o z short e)
   tied-read bs b s starts n t o k long (in-pay h p e eight more m z to) =
@@ -249,14 +249,14 @@ module _ (us : Party) (caps : List ℕ) (handed : ℕ → List ℕ) (some : (i :
       rw (step-kept us caps s b o more) (tied-kept bs b s t (k .long ∙ long) inside (omega (arith, fit)) h p e eight more m z to)
 
   -- ---- a run: the bytes that are used
-  pub tied-fed : (xs bs : List ℕ) (s : Reception) (starts : List ℕ) (n : ℕ) → Tied us caps handed bs s → Kept (us .bundle) caps starts n s → n ≡ baseOf caps (instances (us .bundle))
-      → Tied us caps handed (bs ++ take (used us caps s xs) xs) (fed us caps s xs)
+  pub tied-fed : (xs bs : List ℕ) (s : Reception) (starts : List ℕ) (n : ℕ) → Tied us caps dropped bs s → Kept (us .bundle) caps starts n s → n ≡ baseOf caps (instances (us .bundle))
+      → Tied us caps dropped (bs ++ take (used us caps s xs) xs) (fed us caps s xs)
   unfolding fed used
   tied-fed [] bs s starts n t k long = rw append-nil t
   tied-fed (x ∷ xs) bs s starts n t k long =
       by-test (isOpen (s .gate))
       (λ o.
-      let t′ : Tied us caps handed (bs ++ (x ∷ [])) (step us caps s x) = tied-read bs x s starts n t o k long (t .reading o) in
+      let t′ : Tied us caps dropped (bs ++ (x ∷ [])) (step us caps s x) = tied-read bs x s starts n t o k long (t .reading o) in
       let k′ : Kept (us .bundle) caps starts n (step us caps s x) = kept-fed us caps starts n s (x ∷ []) k in
       rw (o, ← append-assoc bs (x ∷ []) (take (used us caps (step us caps s x) xs) xs))
       (tied-fed xs (bs ++ (x ∷ [])) (step us caps s x) starts n t′ k′ long))

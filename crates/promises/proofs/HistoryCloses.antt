@@ -2,7 +2,7 @@
 -- Assumes nothing.
 use mathlib.Core.Path.{_≡_, refl, sym, ap, _∙_, subst}
 use mathlib.Core.Bool.{true, cond, _&&_}
-use mathlib.Core.List.{List, [], _∷_, _++_, append-assoc, flatMap}
+use mathlib.Core.List.{List, [], _∷_, _++_, append-assoc, flatMap, flatten}
 use mathlib.Core.Option.{Option, none, some, orElse}
 use Prim.Native.Nat.{ℕ, _+_, _-_, _≤_, _<_}
 use native.Mathlib.Omega.{arith}
@@ -32,9 +32,9 @@ use Rattle.feeding.proofs.Keeping.{Kept, kept-given}
 use Rattle.feeding.proofs.Faults.{Cause, unknown, wrong, overflow, cause, Refuses, fault-found, fault-leaves, used-all}
 use Rattle.promises.specs.Calls.{World, Opened, first}
 use Rattle.promises.specs.Effects.{Effect, came, Past, usedBy, bytesIn}
-use Rattle.promises.specs.History.{handedFor, lastRoute, routed, faultBy, firstFault, Closes}
+use Rattle.promises.specs.History.{lastRoute, routed, faultBy, firstFault, Closes}
 use Rattle.promises.proofs.ReachedFeed.{ends, uses}
-use Rattle.promises.proofs.Effects.{Good, receive-some, Leaves, still, shut, feeds, faults, hands, queues, serves}
+use Rattle.promises.proofs.Effects.{Good, receive-some, Leaves, still, shut, feeds, faults, drops, queues, serves}
 use Rattle.promises.proofs.Reached.{opens-fresh}
 use Rattle.promises.proofs.HistoryBytes.{Reading, in-head, in-pay, Tied, tied-fed}
 use Rattle.promises.proofs.HistoryReceives.{Held}
@@ -47,10 +47,10 @@ last-at us front h e =
     let n : length (front ++ h) - headerLength ≡ length front = omega (arith, length-append front h) in
     rw (n, drop-at front h (length front) refl)
 
-module _ (us : Party) (caps : List ℕ) (handed : ℕ → List ℕ)
+module _ (us : Party) (caps : List ℕ) (dropped : ℕ → List ℕ)
     (some : (i : ℕ) → i < instances (us .bundle) → 0 < getD caps i 0) where
   -- a byte that makes a header whole
-  header-last : (bs : List ℕ) (b : ℕ) (m : Reception) (t : Tied us caps handed bs m) → Reading us (m .receiving) (t .left) → m .receiving .rest ≡ 0
+  header-last : (bs : List ℕ) (b : ℕ) (m : Reception) (t : Tied us caps dropped bs m) → Reading us (m .receiving) (t .left) → m .receiving .rest ≡ 0
       → headerLength ≤ added (m .receiving .header) b .count
       → let d = decoded (added (m .receiving .header) b .bytes) in lastRoute us (bs ++ (b ∷ [])) ≡ routeOf us (d .protocol) (d .mode)
   header-last bs b m t (in-head z short e) idle enough =
@@ -64,7 +64,7 @@ module _ (us : Party) (caps : List ℕ) (handed : ℕ → List ℕ)
   header-last bs b m t (in-pay h p e eight more n z to) idle enough = absurd (omega arith)
 
   -- it stands at the end of the bytes that were used
-  refused-last : (xs bs : List ℕ) (s : Reception) (starts : List ℕ) (n : ℕ) (x : Closing) → Tied us caps handed bs s
+  refused-last : (xs bs : List ℕ) (s : Reception) (starts : List ℕ) (n : ℕ) (x : Closing) → Tied us caps dropped bs s
       → Kept (us .bundle) caps starts n s → n ≡ baseOf caps (instances (us .bundle))
       → isOpen (s .gate) ≡ true → feeding.fed us caps s xs .gate ≡ Closed x
       → (held : List ℕ) × (m : ℕ) × Cause caps held m (lastRoute us (bs ++ lists.take (used us caps s xs) xs)) x
@@ -73,8 +73,8 @@ module _ (us : Party) (caps : List ℕ) (handed : ℕ → List ℕ)
       let front : List ℕ = f .front in
       let m : Reception = feeding.fed us caps s front in
       let all : used us caps s front ≡ length front = used-all us caps s front (f .reached) in
-      let t′ : Tied us caps handed (bs ++ front) m =
-      rw (all, take-length) at (tied-fed us caps handed some front bs s starts n t k long) in
+      let t′ : Tied us caps dropped (bs ++ front) m =
+      rw (all, take-length) at (tied-fed us caps dropped some front bs s starts n t k long) in
       let count : used us caps s xs ≡ length front + 1 = omega (arith, fault-leaves us caps s xs x f .1) in
       let these : lists.take (used us caps s xs) xs ≡ front ++ (f .byte ∷ []) =
       ap (λ (j : ℕ). lists.take j xs) count ∙ ap (lists.take (length front + 1)) (f .run) ∙ take-append-add front (f .byte ∷ f .back) 1 in
@@ -143,12 +143,12 @@ module _ (w : World) (g : Good w) (past : Past) (t : Held (w .connection .settin
       of Open e = refl
       of (Closed x) e =
           cause-tells
-          (refused-last us (w .connection .settings .receive) (λ i. handedFor i past)
+          (refused-last us (w .connection .settings .receive) (λ i. flatten (t .messages i))
           (receive-some g) xs (bytesIn past)
           (given (w .connection) (w .receive)) (w .connection .receiving .starts) (length (w .receive)) x (t .tied)
           (kept-given (w .connection) (w .receive) (g .ranged)) (g .receive) o e .2)
   gated (faults n i) = closed-or (w .connection .gate) (Of n i)
-  gated (hands j n to m buf q fits long front) = same
+  gated (drops j n to m q fits reads) = same
   gated (queues j to m xs q o free short room) = same
   gated (serves j time bs o who q) = same
 

@@ -1,31 +1,24 @@
--- Demand 2 (T11 a): each message handed out is one item, spelled as the answer told; and bytes begin with so many items in one way.
+-- Demand 2 (T11 a): messages dropped, one by one, as the answers told; and bytes begin with so many items in one way.
 -- Assumes nothing.
 use mathlib.Core.Path.{_≡_, refl, sym, ap, _∙_}
 use mathlib.Core.Bool.{Bool, true, false, cond}
-use mathlib.Core.List.{List, [], _∷_, _++_, append-assoc, flatMap, flatten}
+use mathlib.Core.List.{List, [], _∷_, _++_, append-assoc, flatten}
 use Prim.Native.Nat.{ℕ}
 use native.Mathlib.Omega.{arith}
-use borrow.Author.Tests.{eqb-true}
-use lib.Dec.{eqb}
 use lib.ListN as lists
 use lib.ListN.{length, length-append}
 use lib.Seq.{take-at, drop-at}
-use Rattle.base.proofs.Conds.{by-test}
 use Rattle.item.specs.declared.Verdict.the-variants.{Whole}
 use Rattle.item.specs.Grammar.{Item, nesting}
 use Rattle.item.specs.Verdict.{verdict}
 use Rattle.item.proofs.Theorem.{exactly}
 use Rattle.rows.specs.declared.Protocol.{Protocol}
-use Rattle.rows.specs.Spoken.{speaks}
 use Rattle.messages.specs.declared.Message.{Message}
 use Rattle.messages.specs.Reading.{messageOf, read}
 use Rattle.messages.proofs.Theorem.{reads-forms, message-is-item}
-use Rattle.connection.specs.declared.Settings.{Settings}
-use Rattle.promises.specs.Calls.{All, World}
-use Rattle.promises.specs.Effects.{Act, gave, got, Effect, Past, actsBy, acts}
-use Rattle.promises.specs.History.{handedBy, handed, handedFor, Spelled, Messages}
-use Rattle.promises.proofs.Effects.{Leaves, still, shut, feeds, faults, hands, queues, serves}
-use Rattle.promises.proofs.HistoryLaws.{all-append, acts-next}
+use Rattle.promises.specs.Calls.{All}
+use Rattle.promises.specs.Effects.{Act, gave, got, Past, acts}
+use Rattle.promises.specs.History.{dropped, Spells, Spelled, no-act, a-put, a-drop, Messages}
 
 -- ---- one item
 
@@ -35,33 +28,28 @@ message-item p bs m e = let (kind, xs, k, q) = reads-forms p bs m .0 e in messag
 
 -- ---- as the answers spelled them
 
-spelled-put : (p : Protocol) (xs : List ℕ) (mine : Bool) → All (Spelled p) (cond mine (gave xs ∷ []) [])
-spelled-put p xs true = (tt, tt)
-spelled-put p xs false = tt
+-- acts, one behind the other
+pub spelled-append : {p : Protocol} {done more : List Act} {ms ns : List (List ℕ)} → Spelled p done ms → Spelled p more ns → Spelled p (done ++ more) (ms ++ ns)
+spelled-append no-act t = t
+spelled-append (a-put s) t = a-put (spelled-append s t)
+spelled-append (a-drop h s) t = a-drop h (spelled-append s t)
 
-spelled-by : {w : World} {real : Type 0} {e : Effect} {w′ : World} → Leaves w real e w′ → (i : ℕ)
-    → All (Spelled (speaks (w .connection .settings .party .bundle) i)) (actsBy i e)
-spelled-by still i = tt
-spelled-by (shut o) i = tt
-spelled-by (feeds xs o spelt) i = tt
-spelled-by (faults n j) i = tt
-spelled-by {w} (hands j n to m buf q fits long front) i =
-    by-test (eqb j i)
-    (λ t. let same : j ≡ i = eqb-true j i t in rw (t, ← same) ((long, message-item _ (lists.take n buf) m (q .reads), q .reads), tt)) (λ t. rw t tt)
-spelled-by (queues j to m xs q o free short room) i = spelled-put _ xs (eqb j i)
-spelled-by (serves j time bs o who q) i = tt
+-- an act of an instance, or of another: a put, and a drop
+pub spelled-put : (p : Protocol) (xs : List ℕ) (mine : Bool) → Spelled p (cond mine (gave xs ∷ []) []) []
+spelled-put p xs true = a-put no-act
+spelled-put p xs false = no-act
 
--- every message of every instance
-abbrev pub AllSpelled : Settings → Past → Type 0
-AllSpelled s past = (i : ℕ) → All (Spelled (speaks (s .party .bundle) i)) (acts i past)
+pub spelled-drop : (p : Protocol) (n : ℕ) (m : Message) (bs : List ℕ) (mine : Bool) → (mine ≡ true → Spells p n m bs)
+    → Spelled p (cond mine (got n m ∷ []) []) (cond mine (bs ∷ []) [])
+spelled-drop p n m bs true h = a-drop (h refl) no-act
+spelled-drop p n m bs false h = no-act
 
-pub spelled-next : (past : Past) (w : World) {real : Type 0} {e : Effect} {w′ : World} → Leaves w real e w′
-    → AllSpelled (w .connection .settings) past → AllSpelled (w .connection .settings) (past ++ (e ∷ []))
-spelled-next past w {e = e} l t i = rw (acts-next past e i) (all-append _ (acts i past) (actsBy i e) (t i) (spelled-by l i))
-
-pub spelled-first : (s : Settings) → AllSpelled s []
-unfolding acts flatMap
-spelled-first s i = tt
+-- as many bytes are dropped as the messages have
+pub spelled-long : {p : Protocol} {done : List Act} {ms : List (List ℕ)} → Spelled p done ms → dropped done ≡ length (flatten ms)
+unfolding dropped flatten
+spelled-long no-act = refl
+spelled-long (a-put s) = spelled-long s
+spelled-long (a-drop {bs = bs} {ms = ms} h s) = omega (arith, h .long, spelled-long s, length-append bs (flatten ms))
 
 -- ---- one way to split
 
@@ -87,18 +75,12 @@ split-once (a ∷ ms) (b ∷ ns) xs ys (g, i) (h, k) n e =
     let r = split-once ms ns xs ys i k (omega arith) (q .1) in
     (rw (q .0, r .0), r .1)
 
-items : (p : Protocol) (done : List Act) → All (Spelled p) done → All (Item nesting) (flatMap handedBy done)
-unfolding flatMap
-items p [] s = tt
-items p (gave xs ∷ done) (h, s) = items p done s
-items p (got len m buf ∷ done) (h, s) = (h .1, items p done s)
+items : {p : Protocol} {done : List Act} {ms : List (List ℕ)} → Spelled p done ms → All (Item nesting) ms
+items no-act = tt
+items (a-put s) = items s
+items (a-drop h s) = (h .item, items s)
 
-pub messages : (p : Protocol) (past : Past) (i : ℕ) (received held : List ℕ) → All (Spelled p) (acts i past) → received ≡ handedFor i past ++ held
+pub messages : {p : Protocol} {past : Past} {i : ℕ} {received held : List ℕ} (ms : List (List ℕ)) → Spelled p (acts i past) ms → received ≡ flatten ms ++ held
     → Messages p past i received held
-unfolding handedFor handed
-messages p past i received held s e =
-    record {
-      spelled = s;
-      split = e;
-      only = λ ms rest k n q. split-once ms (handed i past) rest held k (items p (acts i past) s) n (sym q ∙ e);
-    }
+messages {held = held} ms s e =
+    record { messages = ms; spelled = s; split = e; only = λ ns rest k n q. split-once ns ms rest held k (items s) n (sym q ∙ e) }

@@ -1,6 +1,6 @@
 -- What one event more adds to what a history tells: all is gathered event by event, so what the event tells stands behind the rest.
 -- Assumes nothing.
-use mathlib.Core.Path.{_≡_, refl, ap, _∙_}
+use mathlib.Core.Path.{_≡_, refl}
 use mathlib.Core.List.{List, [], _∷_, _++_, append-nil, append-assoc, flatMap, flatten}
 use mathlib.Core.Bool.{Bool, true, false, cond}
 use Prim.Native.Nat.{ℕ, _+_, _≤_}
@@ -11,7 +11,7 @@ use Rattle.wire.specs.declared.instances.Party.{Party}
 use Rattle.promises.specs.Calls.{All}
 use Rattle.promises.specs.Effects.{Act, Effect, Past, usedBy, bytesIn, actsBy, acts, segmentOf, segments}
 use Rattle.promises.specs.Fairness.{payload, isOf, sentBy}
-use Rattle.promises.specs.History.{putBy, putFor, handedBy, handed, handedFor, sentFor}
+use Rattle.promises.specs.History.{putBy, putFor, sentFor}
 
 pub flat-append : {A B : Type 0} (f : A → List B) (xs ys : List A) → flatMap f (xs ++ ys) ≡ flatMap f xs ++ flatMap f ys
 unfolding flatMap
@@ -25,10 +25,15 @@ flat-one f x = append-nil (f x)
 pub flat-next : {A B : Type 0} (f : A → List B) (xs : List A) (x : A) → flatMap f (xs ++ (x ∷ [])) ≡ flatMap f xs ++ f x
 flat-next f xs x = rw (flat-append f xs (x ∷ []), flat-one f x)
 
-flatten-append : {A : Type 0} (xs ys : List (List A)) → flatten (xs ++ ys) ≡ flatten xs ++ flatten ys
+pub flatten-append : {A : Type 0} (xs ys : List (List A)) → flatten (xs ++ ys) ≡ flatten xs ++ flatten ys
 unfolding flatten
 flatten-append [] ys = refl
 flatten-append (x ∷ xs) ys = rw (flatten-append xs ys, append-assoc)
+
+pub flatten-one : {A : Type 0} (mine : Bool) (xs : List A) → flatten (cond mine (xs ∷ []) []) ≡ cond mine xs []
+unfolding flatten
+flatten-one true xs = append-nil xs
+flatten-one false xs = refl
 
 -- what holds of each of two lists holds of each of both
 pub all-append : {A : Type 0} (P : A → Type 0) (xs ys : List A) → All P xs → All P ys → All P (xs ++ ys)
@@ -49,7 +54,7 @@ module _ {B : Type 0} (f : Act → List B) where
   act-unseen true a e = rw e
   act-unseen false a e = refl
 
--- the message at the front of a buffer
+-- the bytes at the front of a buffer
 pub front : (buf xs : List ℕ) (n : ℕ) → length xs ≡ n → n ≤ length buf → take n (sets buf 0 xs) ≡ xs
 front buf xs n e h = rw (sets-eq xs buf 0 (omega arith)) (take-at xs (drop (0 + length xs) buf) n e)
 
@@ -79,21 +84,3 @@ module _ (past : Past) (e : Effect) where
     pub put-next : putFor i (past ++ (e ∷ [])) ≡ putFor i past ++ flatMap putBy (actsBy i e)
     unfolding putFor
     put-next = rw (acts-next, flat-append putBy (acts i past) (actsBy i e))
-
-    handed-next : handedFor i (past ++ (e ∷ [])) ≡ handedFor i past ++ flatten (flatMap handedBy (actsBy i e))
-    unfolding handedFor handed
-    handed-next =
-        rw (acts-next, flat-append handedBy (acts i past) (actsBy i e))
-        (flatten-append (flatMap handedBy (acts i past)) (flatMap handedBy (actsBy i e)))
-
-    -- with one message more, or none
-    pub handed-more : (mine : Bool) (xs : List ℕ) → flatMap handedBy (actsBy i e) ≡ cond mine (xs ∷ []) []
-        → handedFor i (past ++ (e ∷ [])) ≡ handedFor i past ++ cond mine xs []
-    handed-more mine xs q = handed-next ∙ ap (λ (r : List ℕ). handedFor i past ++ r) (ap flatten q ∙ one mine)
-      where
-        one : (mine : Bool) → flatten (cond mine (xs ∷ []) []) ≡ cond mine xs []
-        one true = unfold flatten in append-nil xs
-        one false = unfold flatten in refl
-
-    pub handed-still : flatMap handedBy (actsBy i e) ≡ [] → handedFor i (past ++ (e ∷ [])) ≡ handedFor i past
-    handed-still q = handed-more false [] q ∙ append-nil (handedFor i past)

@@ -27,7 +27,7 @@ use Rattle.promises.specs.Fairness.{queue, header, isOf, sentBy}
 use Rattle.promises.specs.History.{putBy, putFor, sentFor, Sends, Segmented, Makes}
 use Rattle.promises.proofs.FairSent.{of-same, of-other}
 use Rattle.promises.proofs.SegmentMade.{Made}
-use Rattle.promises.proofs.Effects.{Good, good, send-some, Leaves, still, shut, feeds, faults, hands, queues, serves, done}
+use Rattle.promises.proofs.Effects.{Good, good, send-some, Leaves, still, shut, feeds, faults, drops, queues, serves, done}
 use Rattle.promises.proofs.Reached.{opens-fresh}
 use Rattle.promises.proofs.HistoryLaws.{act-adds, act-unseen, put-next, sent-next}
 
@@ -77,7 +77,7 @@ module _ (w : World) (g : Good w) (past : Past) (t : Waits (w .connection .setti
   waits-by real (shut o) = waits-same (came 20 []) refl (λ i. refl) refl refl refl
   waits-by {e = e} real (feeds xs o spelt) = waits-same e refl (λ i. refl) refl refl refl
   waits-by real (faults n j) = waits-same (faulted n j) refl (λ i. refl) refl refl refl
-  waits-by real (hands j n to m buf q fits long front) = waits-same (acted j (got n m buf)) refl (λ i. act-unseen putBy (eqb j i) (got n m buf) refl) refl refl refl
+  waits-by real (drops j n to m q fits reads) = waits-same (acted j (got n m)) refl (λ i. act-unseen putBy (eqb j i) (got n m) refl) refl refl refl
   waits-by {e = e} real (queues j to m xs q o free short room) =
       let now : (i : ℕ) → putFor i (past ++ (e ∷ [])) ≡ putFor i past ++ cond (eqb j i) xs [] =
       λ i. put-next past e i ∙ rw (act-adds putBy (eqb j i) (gave xs)) in

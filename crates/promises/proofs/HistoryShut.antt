@@ -20,7 +20,7 @@ use Rattle.sending.specs.NextSegment as sending
 use Rattle.promises.specs.Calls.{feed, put, next, made, World, step, run, first}
 use Rattle.promises.specs.Effects.{Act, got, Effect, acted, Past, did, usedBy, bytesIn, actsBy, acts, segmentOf, segments}
 use Rattle.promises.specs.History.{putBy, putFor, Shut, Nothing, AfterFault}
-use Rattle.promises.proofs.Effects.{Good, good, reached-receives, reached-sends, Leaves, still, shut, feeds, faults, hands, queues, serves, done}
+use Rattle.promises.proofs.Effects.{Good, good, reached-receives, reached-sends, Leaves, still, shut, feeds, faults, drops, queues, serves, done}
 use Rattle.promises.proofs.HistoryLaws.{act-unseen, bytes-next, put-next, segments-next}
 use Rattle.promises.proofs.Reached.{Sound, sound-first, sound-run}
 use Rattle.promises.proofs.HistoryRuns.{on}
@@ -68,13 +68,13 @@ module _ (w : World) (g : Good w) (closed : isOpen (w .connection .gate) ≡ fal
   idle (faults n i) =
       at-rest refl (λ i. refl) refl
       (ap (λ (q : Gate). record { connection = withGate (w .connection) q; receive = w .receive; send = w .send }) (closed-stays (w .connection .gate) (Of n i) closed))
-  idle (hands i n to m buf q fits long front) =
+  idle (drops i n to m q fits reads) =
       record {
         comes = refl;
-        put = λ j. act-unseen putBy (eqb i j) (got n m buf) refl;
+        put = λ j. act-unseen putBy (eqb i j) (got n m) refl;
         sent = refl;
         leaves = (refl, refl, refl, refl);
-        refuses = λ ne. absurd (ne i (got n m buf) refl);
+        refuses = λ ne. absurd (ne i (got n m) refl);
       }
   idle (queues i to m xs q o free short room) = never o
   idle (serves i time bs o who q) = never o

@@ -18,15 +18,15 @@ use Rattle.rows.specs.declared.Protocol.the-variants.{Handshake}
 use Rattle.rows.specs.Rows.{doneOf}
 use Rattle.rows.specs.Spoken.{speaks}
 use Rattle.messages.specs.declared.Message.{Message}
-use Rattle.messages.specs.Reading.{messageOf, read, flagOf}
+use Rattle.messages.specs.Reading.{read, flagOf}
 use Rattle.connection.specs.declared.Settings.{Settings}
 use Rattle.range.proofs.RangeLaws.{ranged}
 use Rattle.judging.proofs.Moving.{leads-low, first-speaks}
 use Rattle.judging.specs.Judging.{movedBy}
 use Rattle.promises.specs.Calls.{World, Opened, first}
-use Rattle.promises.specs.Effects.{Act, gave, got, messageIn, Effect, came, sent, faulted, nothing, acted, Past, actsBy, acts}
+use Rattle.promises.specs.Effects.{Act, gave, got, readIn, Effect, came, sent, faulted, nothing, acted, Past, actsBy, acts}
 use Rattle.promises.specs.History.{Moves, Walks, rests, moves, endsInAccept, Talks}
-use Rattle.promises.proofs.Effects.{Good, Steps, Leaves, still, shut, feeds, faults, hands, queues, serves}
+use Rattle.promises.proofs.Effects.{Good, Steps, Leaves, still, shut, feeds, faults, drops, queues, serves}
 use Rattle.promises.proofs.Reached.{opens-fresh}
 use Rattle.promises.proofs.HistoryLaws.{acts-next}
 
@@ -37,7 +37,7 @@ walk-next : {us : Party} {i from state to : ℕ} {before : List Act} {a : Act} �
 walk-next rests k = moves k rests
 walk-next (moves j more) k = moves j (walk-next more k)
 
-ends-next : (before : List Act) (a : Act) → endsInAccept (before ++ (a ∷ [])) ≡ eqb (messageOf Handshake (messageIn a) .message .kind) 1
+ends-next : (before : List Act) (a : Act) → endsInAccept (before ++ (a ∷ [])) ≡ eqb (readIn Handshake a .message .kind) 1
 unfolding endsInAccept
 ends-next [] a = refl
 ends-next (b ∷ []) a = refl
@@ -69,7 +69,7 @@ module _ (w : World) (k : Good w) (past : Past) (t : Talks (w .connection .setti
       let done : getD (w .connection .talk .states) 0 0 ≡ doneOf (speaks (given .party .bundle) 0) = ranged (w .connection) (k .ranged) .accepted y in
       absurd (omega (arith, ap (λ (n : ℕ). getD (w .connection .talk .states) n 0) e, ap (λ (n : ℕ). doneOf (speaks (given .party .bundle) n)) e)))
       (λ n. n) in
-      let read-so : messageOf Handshake (messageIn a) ≡ read (m .message) = rw (e, first-speaks (given .party .bundle)) at (m .reads) in
+      let read-so : readIn Handshake a ≡ read (m .message) = rw (e, first-speaks (given .party .bundle)) at (m .reads) in
       rw (q, not-yet, ends-next (acts 0 past) a, read-so))
       (λ q. rw (q, or-false, append-nil) (t .accepted))
 
@@ -97,7 +97,7 @@ module _ (w : World) (k : Good w) (past : Past) (t : Talks (w .connection .setti
   talks-by (shut o) = quiet (came 20 []) refl (λ i. refl)
   talks-by {e = e} (feeds xs o spelt) = quiet e refl (λ i. refl)
   talks-by (faults n j) = quiet (faulted n j) refl (λ i. refl)
-  talks-by (hands j n to m buf q fits long front) = acts-on j to (got n m buf) m q refl
+  talks-by (drops j n to m q fits reads) = acts-on j to (got n m) m q refl
   talks-by (queues j to m xs q o free short room) = acts-on j to (gave xs) m q refl
   talks-by (serves j time bs o who q) = quiet (sent time bs) refl (λ i. refl)
 

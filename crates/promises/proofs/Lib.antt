@@ -19,10 +19,11 @@ pub mod HistoryItems
 pub mod HistoryReceives
 pub mod HistoryCloses
 pub mod HistorySends
+pub mod HistoryLooks
 pub mod History
 pub mod Alone
 pub mod ArrivalSegments
-pub mod ArrivalTaken
+pub mod ArrivalBuilt
 pub mod AllMet
 pub mod Arrival
 pub mod Promises

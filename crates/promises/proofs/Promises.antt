@@ -3,7 +3,8 @@
 use Rattle.opening.proofs.Once as opening
 use Rattle.telling.proofs.Once as telling
 use Rattle.feeding.proofs.Once as feeding
-use Rattle.taking.proofs.Once as taking
+use Rattle.looking.proofs.Once as looking
+use Rattle.dropping.proofs.Once as dropping
 use Rattle.build.proofs.Once as build
 use Rattle.putting.proofs.Once as putting
 use Rattle.sending.proofs.Once as sending
@@ -15,8 +16,8 @@ use Rattle.promises.proofs.Reached.{in-range-for-ever, never-23}
 use Rattle.promises.proofs.Fair.{fair}
 use Rattle.promises.proofs.History.{history, status-tells}
 use Rattle.promises.proofs.HistoryShut.{after-fault}
-use Rattle.promises.proofs.Alone.{alone, alike, which-byte}
-use Rattle.promises.proofs.ArrivalTaken.{built-is-taken}
+use Rattle.promises.proofs.Alone.{alone, two-alike, which-byte}
+use Rattle.promises.proofs.ArrivalBuilt.{built-arrives}
 use Rattle.promises.proofs.AllMet.{all-met}
 use Rattle.promises.proofs.Arrival.{glued, all-there, journey}
 
@@ -27,7 +28,9 @@ promises =
           record {
             opening = opening.once;
             feed = feeding.once;
-            take = taking.once;
+            look = looking.once;
+            part = looking.once-part;
+            drop = dropping.once;
             build = build.once;
             put = putting.once;
             next-segment = sending.once;
@@ -49,9 +52,9 @@ further =
       all-met = all-met;
       glued = glued;
       all-there = all-there;
-      built-is-taken = built-is-taken;
+      built-arrives = built-arrives;
       journey = journey;
-      alike = alike;
+      alike = two-alike;
       which-byte = which-byte;
       examples = examples.examples;
     }

@@ -32,7 +32,7 @@ use Rattle.promises.specs.Effects.{Effect}
 use Rattle.promises.specs.Reached.{waits, Reached, InRangeForEver, Never23}
 use Rattle.promises.proofs.ReachedHandshake.{Row, shakes, spare, spare-put, spare-moved, spare-first}
 use Rattle.promises.proofs.ReachedFeed.{Blank, blank-empty}
-use Rattle.promises.proofs.Effects.{good, row-of, Leaves, still, shut, feeds, faults, hands, queues, serves, Fits, fed-tidy, done}
+use Rattle.promises.proofs.Effects.{good, row-of, Leaves, still, shut, feeds, faults, drops, queues, serves, Fits, fed-tidy, done}
 
 -- ---- what every call keeps
 
@@ -134,7 +134,7 @@ module _ (s : Settings) (w : World) (k : Sound s w) where
   sound-by real fits (feeds xs o spelt) =
       let t = fed-tidy w (good r) xs in kept fits refl (spelt real) (t .blank) (t .idle) (omega arith) (r .accepted)
   sound-by real fits (faults n i) = kept fits refl (r .spelt) (r .blank) (r .idle) (omega arith) (r .accepted)
-  sound-by real fits (hands i n to m buf q held long front) =
+  sound-by real fits (drops i n to m q held reads) =
       kept fits refl (r .spelt) (r .blank) (r .idle) (omega (arith, moved i to (row-of q))) (λ j some waiting. rw (r .accepted j some waiting))
   sound-by real fits (queues i to m xs q o free short room) =
       kept fits refl (r .spelt) (r .blank) (r .idle) (put-bound i to (length xs) (q .agency) (row-of q) short)

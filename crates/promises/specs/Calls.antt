@@ -9,33 +9,46 @@ use Rattle.messages.specs.declared.Message.{Message}
 use Rattle.connection.specs.declared.Settings.{Settings}
 use Rattle.connection.specs.declared.Connection.{Connection}
 use Rattle.telling.specs.declared.Report.{Report}
+use Rattle.hearing.specs.declared.Shown.{Shown}
+use Rattle.looking.specs.declared.Place.{Place}
 use Rattle.opening.specs.Openings.{openOf}
 use Rattle.telling.specs.Statuses.{statusOf}
 use Rattle.feeding.specs.Feeding.{feedOf}
-use Rattle.taking.specs.Taking.{takeOf}
+use Rattle.looking.specs.Looking.{lookOf}
+use Rattle.dropping.specs.Dropping.{dropOf}
 use Rattle.putting.specs.Putting.{putOf}
 use Rattle.sending.specs.NextSegment.{nextOf}
 
--- A call, with what the caller lends or gives: bytes; an instance and a buffer; an instance and a message; a time and a buffer. Build has neither
--- record nor store, and so no part in what follows.
+-- A call, with what the caller lends or gives: bytes; an instance and a scratch buffer; an instance; an instance and a message; a time and a buffer.
+-- Build has neither record nor store, and so no part in what follows.
 pub data Call : Type 0 where
   feed : List ℕ → Call
-  take : ℕ → List ℕ → Call
+  look : ℕ → List ℕ → Call
+  drop : ℕ → Call
   put : ℕ → List ℕ → Call
   next : ℕ → List ℕ → Call
   status : Call
 
--- What the caller sees: the number, and what comes with it. Of feed the bytes used; of take a message's length or the offset of a bad byte, what the message
--- says, and the lent buffer after the call; of put nothing; of next segment a segment's length and the lent buffer; of status the report.
-pub data Taken : Type 0 where
-  taken : (len offset : ℕ) (message : Message) (buffer : List ℕ) → Taken
+-- What the caller sees: the number, and what comes with it. Of feed the bytes used; of look and drop a message's length or the offset of a bad byte, and what
+-- the message says, and of look also where the message is and scratch after the call; of put nothing; of next segment a segment's length and the lent
+-- buffer; of status the report.
+pub record Said : Type 0 where
+  pub len : ℕ
+  pub offset : ℕ
+  pub message : Message
+
+pub record Looked : Type 0 where
+  pub said : Said
+  pub place : Place
+  pub scratch : List ℕ
 
 pub data Made : Type 0 where
   made : (len : ℕ) (buffer : List ℕ) → Made
 
 abbrev pub With : Call → Type 0
 With (feed xs) = ℕ
-With (take i buf) = Taken
+With (look i scratch) = Looked
+With (drop i) = Said
 With (put i xs) = Unit {0}
 With (next time buf) = Made
 With status = Report
@@ -57,17 +70,27 @@ pub record Out (c : Call) : Type 0 where
   pub world : World
   pub answer : Answer c
 
+-- what look and drop say besides the number, and what a look tells
+abbrev pub saidBy : Shown → Said
+saidBy s = record { len = s .len; offset = s .offset; message = s .message }
+
+abbrev pub looked : Said → Place → List ℕ → Looked
+looked said place scratch = record { said = said; place = place; scratch = scratch }
+
 -- One call, by the definitions that the operations' contracts equal (`Contracts.Tied`).
 unfoldable pub step : World → (c : Call) → Out c
 step w (feed xs) =
     let r = feedOf (w .connection) (w .receive) xs in
     record { world = world (r .answer .connection) (r .store) (w .send); answer = (r .answer .number, r .answer .used) }
-step w (take i buf) =
-    let r = takeOf (w .connection) (w .receive) i buf in
+step w (look i scratch) =
+    let r = lookOf (w .connection) (w .receive) i scratch in
     record {
       world = world (r .answer .connection) (w .receive) (w .send);
-      answer = (r .answer .number, taken (r .answer .len) (r .answer .offset) (r .answer .message) (r .buffer));
+      answer = (r .answer .shown .number, looked (saidBy (r .answer .shown)) (r .answer .place) (r .scratch));
     }
+step w (drop i) =
+    let r = dropOf (w .connection) (w .receive) i in
+    record { world = world (r .connection) (w .receive) (w .send); answer = (r .shown .number, saidBy (r .shown)) }
 step w (put i xs) =
     let r = putOf (w .connection) (w .send) i xs in
     record { world = world (r .answer .connection) (w .receive) (r .store); answer = (r .answer .number, tt) }
@@ -88,7 +111,8 @@ run w (c ∷ cs) = run (step w c .world) cs
 -- What every call is that can be made: its bytes are bytes, and the time has 32 bits.
 abbrev pub Real : Call → Type 0
 Real (feed xs) = Bytes xs
-Real (take i buf) = Bytes buf
+Real (look i scratch) = Bytes scratch
+Real (drop i) = Unit {0}
 Real (put i xs) = Bytes xs
 Real (next time buf) = (time < 2 ^ 32) × Bytes buf
 Real status = Unit {0}

@@ -4,20 +4,23 @@ use mathlib.Core.Bool.{cond}
 use mathlib.Core.List.{List, [], _∷_, flatMap}
 use lib.Dec.{eqb}
 use lib.ListN.{take}
+use Rattle.rows.specs.declared.Protocol.{Protocol}
 use Rattle.messages.specs.declared.Message.{Message}
-use Rattle.connection.specs.Closings.{takeFault}
+use Rattle.messages.specs.declared.Answer as messages
+use Rattle.messages.specs.Reading.{messageOf, read}
+use Rattle.connection.specs.Closings.{heardFault}
 use Rattle.promises.specs.Calls as calls
 use Rattle.promises.specs.Calls.{Call, Answer, World, step}
 
--- an accepted put, with its message; and a take answered 0, with the length and the message that it answered, and the lent buffer after it
+-- an accepted put, with its message; and a drop answered 0, with the length that it answered and what it said of the message
 pub data Act : Type 0 where
   gave : List ℕ → Act
-  got : (len : ℕ) (message : Message) (buffer : List ℕ) → Act
+  got : (len : ℕ) (message : Message) → Act
 
--- the bytes of its message: those handed out are at the front of the lent buffer
-abbrev pub messageIn : Act → List ℕ
-messageIn (gave xs) = xs
-messageIn (got len m buf) = take len buf
+-- what is read of its message: of a put's bytes, and as a drop answered
+abbrev pub readIn : Protocol → Act → messages.Answer
+readIn p (gave xs) = messageOf p xs
+readIn p (got len m) = read m
 
 -- What a call did: bytes came, with the number that feed answered; an instance acted; a segment was sent, with its time; an instance's bytes were at
 -- fault, with its number; or nothing.
@@ -29,10 +32,12 @@ pub data Effect : Type 0 where
   nothing : Effect
 
 -- It is read off the call and its answer, and off nothing else. What a feed used is the front of what it was given, and a segment is at the front of
--- the lent buffer. Whether a feed closed, its number tells (`History.faultBy`); a put never closes.
+-- the lent buffer. Whether a feed closed, its number tells (`History.faultBy`); a put never closes. A look does nothing but close: what it shows is said of
+-- the call (`History.Looks`).
 abbrev pub effectOf : (c : Call) → Answer c → Effect
 effectOf (calls.feed xs) (n, used) = came n (take used xs)
-effectOf (calls.take i buf) (n, calls.taken len at m after) = cond (eqb n 0) (acted i (got len m after)) (cond (takeFault n) (faulted n i) nothing)
+effectOf (calls.look i scratch) (n, a) = cond (heardFault n) (faulted n i) nothing
+effectOf (calls.drop i) (n, s) = cond (eqb n 0) (acted i (got (s .len) (s .message))) (cond (heardFault n) (faulted n i) nothing)
 effectOf (calls.put i xs) (n, tt) = cond (eqb n 0) (acted i (gave xs)) nothing
 effectOf (calls.next time buf) (n, calls.made len after) = cond (eqb n 0) (sent time (take len after)) nothing
 effectOf calls.status (n, r) = nothing
@@ -61,7 +66,7 @@ usedBy nothing = []
 unfoldable pub bytesIn : Past → List ℕ
 bytesIn past = flatMap usedBy past
 
--- the accepted puts and takes of instance i, in order
+-- the accepted puts and the drops answered 0 of instance i, in order
 abbrev pub actsBy : ℕ → Effect → List Act
 actsBy i (came n bs) = []
 actsBy i (acted j a) = cond (eqb j i) (a ∷ []) []

@@ -7,6 +7,7 @@ use mathlib.Core.Option.{Option, none, some, orElse}
 use lib.Dec.{eqb, leb, ltb}
 use lib.ListN.{length, getD, take, drop}
 use lib.Count.{ones}
+use Rattle.ring.specs.Ring as ring
 use Rattle.ring.specs.Ring.{baseOf, place}
 use Rattle.wire.specs.declared.segment.Segment.{Segment}
 use Rattle.wire.specs.declared.instances.Party.{Party}
@@ -26,34 +27,35 @@ use Rattle.connection.specs.declared.Settings.{Settings}
 use Rattle.telling.specs.declared.Report.{Report}
 use Rattle.connection.specs.Closings.{closingOf}
 use Rattle.judging.specs.Judging.{holds, ours}
+use Rattle.looking.specs.declared.Place.{Place}
+use Rattle.looking.specs.declared.Place.the-variants.{Store, Scratch, Nowhere}
+use Rattle.looking.specs.Looking.{joined}
 use Rattle.connection.specs.Parts.{heldOf}
 use Rattle.promises.specs.Calls as calls
-use Rattle.promises.specs.Calls.{Call, World, step, run, Real, All, AllReal, Opened, first}
+use Rattle.promises.specs.Calls.{Call, World, step, answers, run, Real, All, AllReal, Opened, first}
 use Rattle.promises.specs.Effects as effects
-use Rattle.promises.specs.Effects.{Act, gave, got, messageIn, Effect, does, Past, did, usedBy, bytesIn, acts, segments}
+use Rattle.promises.specs.Effects.{Act, gave, got, readIn, Effect, does, Past, did, usedBy, bytesIn, acts, segments}
 use Rattle.promises.specs.Reached.{waits}
 use Rattle.promises.specs.Fairness.{queue, header, payload, sentBy}
 
--- ---- what was put, and what was handed out
+-- ---- what was put, and what was dropped
 
 -- the messages of instance i that were put, end to end
 abbrev pub putBy : Act → List ℕ
 putBy (gave xs) = xs
-putBy (got len m buf) = []
+putBy (got len m) = []
 
 unfoldable pub putFor : ℕ → Past → List ℕ
 putFor i past = flatMap putBy (acts i past)
 
--- those that were handed out, one by one, and end to end
-abbrev pub handedBy : Act → List (List ℕ)
-handedBy (gave xs) = []
-handedBy (got len m buf) = take len buf ∷ []
+-- how many bytes were dropped of it
+unfoldable pub dropped : List Act → ℕ
+dropped [] = 0
+dropped (gave xs ∷ more) = dropped more
+dropped (got len m ∷ more) = len + dropped more
 
-unfoldable pub handed : ℕ → Past → List (List ℕ)
-handed i past = flatMap handedBy (acts i past)
-
-unfoldable pub handedFor : ℕ → Past → List ℕ
-handedFor i past = flatten (handed i past)
+abbrev pub droppedFor : ℕ → Past → ℕ
+droppedFor i past = dropped (acts i past)
 
 -- ---- T11 (a) and (d): what was received
 
@@ -72,18 +74,27 @@ receivedIn us i cs left =
     flatMap (λ c. payloadFor us i (c .header) (c .payload)) cs
     ++ payloadFor us i (decoded (take headerLength left)) (drop headerLength left)
 
--- What a take handed out is one item, as long as it answered, and reads as it answered: kind, numbers and places.
-abbrev pub Spelled : Protocol → Act → Type 0
-Spelled p (gave xs) = Unit {0}
-Spelled p (got len m buf) = (len ≤ length buf) × Item nesting (take len buf) × (messageOf p (take len buf) ≡ read m)
+-- Bytes are the message that an answer told: one item, as long as it told, which reads as it told: kind, numbers and places.
+pub record Spells (p : Protocol) (len : ℕ) (m : Message) (bs : List ℕ) : Type 0 where
+  pub long : length bs ≡ len
+  pub item : Item nesting bs
+  pub reads : messageOf p bs ≡ read m
 
--- Demand 2, of instance i: what was received of it is the messages handed out, end to end, each as its take answered, and then what is held; and into
+-- messages, one for each drop among acts, in order, each as its drop answered
+pub data Spelled (p : Protocol) : List Act → List (List ℕ) → Type 0 where
+  no-act : Spelled p [] []
+  a-put : {xs : List ℕ} {more : List Act} {ms : List (List ℕ)} → Spelled p more ms → Spelled p (gave xs ∷ more) ms
+  a-drop : {len : ℕ} {m : Message} {bs : List ℕ} {more : List Act} {ms : List (List ℕ)} → Spells p len m bs → Spelled p more ms
+      → Spelled p (got len m ∷ more) (bs ∷ ms)
+
+-- Demand 2, of instance i: what was received of it is the messages dropped, end to end, each as its drop answered, and then what is held; and into
 -- as many items and a rest it is split in no other way.
 pub record Messages (p : Protocol) (past : Past) (i : ℕ) (received held : List ℕ) : Type 0 where
-  pub spelled : All (Spelled p) (acts i past)
-  pub split : received ≡ handedFor i past ++ held
-  pub only : (ms : List (List ℕ)) (rest : List ℕ) → All (Item nesting) ms → length ms ≡ length (handed i past) → received ≡ flatten ms ++ rest
-      → (ms ≡ handed i past) × (rest ≡ held)
+  pub messages : List (List ℕ)
+  pub spelled : Spelled p (acts i past) messages
+  pub split : received ≡ flatten messages ++ held
+  pub only : (ms : List (List ℕ)) (rest : List ℕ) → All (Item nesting) ms → length ms ≡ length messages → received ≡ flatten ms ++ rest
+      → (ms ≡ messages) × (rest ≡ held)
 
 -- The bytes that feeds used, divided by the layout (of a refused segment only the header is used), and of each instance its messages among them. A byte
 -- that is held, the n-th from 0 at open on, is at place n mod capacity.
@@ -94,9 +105,9 @@ pub record Receives (s : Settings) (past : Past) (w : World) : Type 0 where
   pub messages : (i : ℕ) → i < instances (s .party .bundle)
       → Messages (speaks (s .party .bundle) i) past i (receivedIn (s .party) i carried left) (heldOf (w .connection) (w .receive) i)
   pub held : (i : ℕ) → i < instances (s .party .bundle)
-      → length (receivedIn (s .party) i carried left) ≡ length (handedFor i past) + getD (w .connection .receiving .held) i 0
-  pub starts : (i : ℕ) → i < instances (s .party .bundle) → getD (w .connection .receiving .starts) i 0 ≡ length (handedFor i past) % getD (s .receive) i 0
-  pub places : (i n : ℕ) → i < instances (s .party .bundle) → length (handedFor i past) ≤ n → n < length (receivedIn (s .party) i carried left)
+      → length (receivedIn (s .party) i carried left) ≡ droppedFor i past + getD (w .connection .receiving .held) i 0
+  pub starts : (i : ℕ) → i < instances (s .party .bundle) → getD (w .connection .receiving .starts) i 0 ≡ droppedFor i past % getD (s .receive) i 0
+  pub places : (i n : ℕ) → i < instances (s .party .bundle) → droppedFor i past ≤ n → n < length (receivedIn (s .party) i carried left)
       → getD (w .receive) (place (baseOf (s .receive) i) (getD (s .receive) i 0) n) 0 ≡ getD (receivedIn (s .party) i carried left) n 0
 
 -- ---- T11 (b) and (d): what was put and sent
@@ -130,15 +141,15 @@ pub record Segmented (s : Settings) (w : World) (time : ℕ) (bs : List ℕ) : T
 abbrev pub theirs : Party → ℕ → ℕ → Bool
 theirs us i state = holds (not (initiates (us .side) (roleOf (us .bundle) i))) (agencyOf (speaks (us .bundle) i) state)
 
--- a put wants our agency, a take the peer's
+-- a put wants our agency, a drop the peer's
 abbrev pub allowed : Party → ℕ → ℕ → Act → Bool
 allowed us i state (gave xs) = ours us i state
-allowed us i state (got len m buf) = theirs us i state
+allowed us i state (got len m) = theirs us i state
 
 -- An act is one of the rows: a message of the protocol, at the agency that it wants, leads from the one state to the other.
 pub record Moves (us : Party) (i state : ℕ) (a : Act) (to : ℕ) : Type 0 where
   pub message : Message
-  pub reads : messageOf (speaks (us .bundle) i) (messageIn a) ≡ read message
+  pub reads : readIn (speaks (us .bundle) i) a ≡ read message
   pub agency : allowed us i state a ≡ true
   pub row : nextOf (speaks (us .bundle) i) state (message .kind) (flagOf (speaks (us .bundle) i) message) ≡ To to
 
@@ -150,10 +161,10 @@ pub data Walks (us : Party) (i : ℕ) : ℕ → List Act → ℕ → Type 0 wher
 -- the last act is message 1
 unfoldable pub endsInAccept : List Act → Bool
 endsInAccept [] = false
-endsInAccept (a ∷ []) = eqb (messageOf Handshake (messageIn a) .message .kind) 1
+endsInAccept (a ∷ []) = eqb (readIn Handshake a .message .kind) 1
 endsInAccept (a ∷ b ∷ more) = endsInAccept (b ∷ more)
 
--- The state of each instance is where its own accepted puts and takes lead from the first state, and Accept is marked exactly if Handshake ended in it.
+-- The state of each instance is where its own accepted puts and its drops lead from the first state, and Accept is marked exactly if Handshake ended in it.
 pub record Talks (s : Settings) (past : Past) (w : World) : Type 0 where
   pub states : (i : ℕ) → i < instances (s .party .bundle) → Walks (s .party) i 0 (acts i past) (getD (w .connection .talk .states) i 0)
   pub accepted : w .connection .talk .accepted ≡ endsInAccept (acts 0 past)
@@ -173,7 +184,7 @@ routed (route.Wrong j) = some j
 routed (route.To j) = some j
 
 -- The closing of a fault that a call answered, if it answered one, where bs are the bytes so far: of 11 to 13 from feed, whose last used bytes are
--- the refused header, with the instance that it names; and of 14 to 17 from take.
+-- the refused header, with the instance that it names; and of 14 to 17 from look and drop.
 abbrev pub faultBy : Party → List ℕ → Effect → Option (ℕ × Option ℕ)
 faultBy us bs (effects.came n xs) = cond (leb 11 n && leb n 13) (some (n, routed (lastRoute us bs))) none
 faultBy us bs (effects.acted j a) = none
@@ -205,11 +216,41 @@ pub record Tells (s : Settings) (past : Past) (w : World) : Type 0 where
 abbrev pub Makes : Settings → World → Type 0
 Makes s w = (c : Call) → Real c → (time : ℕ) (bs : List ℕ) → does w c ≡ effects.sent time bs → Segmented s w time bs
 
+-- the n bytes at a place of the store, or at scratch's front, which `part` hands out (`Contracts.Tied`): none, if there are not so many
+abbrev pub cutOf : List ℕ → ℕ → ℕ → List ℕ
+cutOf bs at n = cond (leb (at + n) (length bs)) (ring.run bs at n) []
+
+abbrev pub partAt : Place → ℕ → List ℕ → List ℕ → List ℕ
+partAt (Store at) n store scratch = cutOf store at n
+partAt Scratch n store scratch = cutOf scratch 0 n
+partAt Nowhere n store scratch = []
+
+-- What a look that answers 0 shows: the first message held, as it answered, which is the part at the place that it told; and nothing has changed but
+-- scratch, where the message was joined.
+pub record Sees (s : Settings) (w : World) (i : ℕ) (scratch : List ℕ) (l : calls.Looked) : Type 0 where
+  pub within : i < instances (s .party .bundle)
+  pub bytes : List ℕ
+  pub front : bytes ≡ take (l .said .len) (heldOf (w .connection) (w .receive) i)
+  pub spells : Spells (speaks (s .party .bundle) i) (l .said .len) (l .said .message) bytes
+  pub part : partAt (l .place) (l .said .len) (w .receive) (l .scratch) ≡ bytes
+  pub written : l .scratch ≡ joined (l .place) bytes scratch
+  pub same : step w (calls.look i scratch) .world ≡ w
+
+-- without a message the part is empty, and scratch is as it was
+abbrev pub SeesNothing : World → List ℕ → calls.Looked → Type 0
+SeesNothing w scratch l = (partAt (l .place) (l .said .len) (w .receive) (l .scratch) ≡ []) × (l .scratch ≡ scratch)
+
+abbrev pub Looks : Settings → World → Type 0
+Looks s w =
+    (i : ℕ) (scratch : List ℕ)
+    → let l = step w (calls.look i scratch) .answer .1 in
+    let n = answers w (calls.look i scratch) in (n ≡ 0 → Sees s w i scratch l) × ((n ≡ 0 → ⊥) → SeesNothing w scratch l)
+
 -- after every list of calls from open on
 abbrev pub History : Type 0
 History =
     (s : Settings) (receive send : List ℕ) → Opened s receive send → (cs : List Call) → AllReal cs
-    → let w = run (first s receive send) cs in Tells s (did (first s receive send) cs) w × Makes s w
+    → let w = run (first s receive send) cs in Tells s (did (first s receive send) cs) w × Makes s w × Looks s w
 
 -- ---- T13: status
 
@@ -218,7 +259,7 @@ History =
 pub record Reports (s : Settings) (past : Past) (r : Report) : Type 0 where
   pub number : r .number ≡ 0
   pub held : (cs : List Carried) (left : List ℕ) → Divided (bytesIn past) cs left → (i : ℕ) → i < instances (s .party .bundle)
-      → length (receivedIn (s .party) i cs left) ≡ length (handedFor i past) + getD (r .held) i 0
+      → length (receivedIn (s .party) i cs left) ≡ droppedFor i past + getD (r .held) i 0
   pub waiting : (i : ℕ) → i < instances (s .party .bundle) → length (putFor i past) ≡ length (sentFor (s .party) i past) + getD (r .waiting) i 0
   pub many : (length (r .held) ≡ most) × (length (r .waiting) ≡ most)
   pub above : (i : ℕ) → instances (s .party .bundle) ≤ i → (getD (r .held) i 0 ≡ 0) × (getD (r .waiting) i 0 ≡ 0)
@@ -237,7 +278,8 @@ StatusTells =
 -- ---- T15: after a fault
 
 -- A closed connection: feed, put and next segment answer 20, but put to an instance that there is not 10, and change nothing. No call writes to
--- a store, or changes what is to be sent or the closing; and it changes nothing at all if it hands nothing out.
+-- a store, or changes what is to be sent or the closing; and it changes nothing at all if it drops nothing: look and drop answer as before, but 20 for 1
+-- (`Alone.drop-closes`).
 pub record Shut (w : World) : Type 0 where
   pub feeds : (xs : List ℕ) → step w (calls.feed xs) ≡ record { world = w; answer = (20, 0) }
   pub puts : (i : ℕ) (xs : List ℕ) → step w (calls.put i xs) ≡ record { world = w; answer = (cond (ltb i (instances (w .connection .settings .party .bundle))) 20 10, tt) }

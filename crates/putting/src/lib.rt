@@ -1,6 +1,6 @@
 // Put: a message of ours is queued behind what waits of its instance, if it is one that we may send now.
 //
-// It is judged by the same reader and the same rows as what is taken; `judging::said` has the order of its refusals. Then
+// It is judged by the same reader and the same rows as what is heard; `judging::said` has the order of its refusals. Then
 // comes the room. One equation says the answer, the whole next record and every byte of the send store, on every input.
 use connection::Connection;
 use connection::Sending;

@@ -3,6 +3,8 @@
 use base::smaller;
 use connection::Closing;
 use connection::Gate;
+use hearing::Shown;
+use looking::Place;
 use messages::MOST_PLACES;
 use messages::Message;
 use output::Pen;
@@ -51,14 +53,48 @@ pub fn filled(name: &[u8], n: u64, count: usize, buf: &[u8]) -> bool {
     output::end(out, p)
 }
 
-// What a take is answered: the number, what the message says, its length, the offset, and the lent buffer.
-pub fn taken(number: u64, len: usize, offset: usize, m: Message, buf: &[u8]) -> bool {
+// What a look is answered: what it shows, where the message is, its bytes, and scratch.
+pub fn looked<'a>(s: Shown, place: Place, store: &'a [u8], scratch: &'a [u8]) -> bool {
     let mut space = [0u8; OUT];
     let out: &mut [u8] = &mut space;
-    let mut p = begun(out, b"take", &[number, m.kind, len as u64, offset as u64]);
-    p = message(out, p, m);
-    p = output::run(out, p, buf);
+    let mut p = shown(out, b"look", s);
+    p = placed(out, p, place);
+    p = output::run(out, p, looking::part(store, scratch, place, s.len));
+    p = output::run(out, p, scratch);
     output::end(out, p)
+}
+
+// What a drop is answered.
+pub fn dropped(s: Shown) -> bool {
+    let mut space = [0u8; OUT];
+    let out: &mut [u8] = &mut space;
+    let p = shown(out, b"drop", s);
+    output::end(out, p)
+}
+
+// What both say of a message: the number, its kind, its length, the offset, and its numbers and places.
+fn shown(out: &mut [u8], name: &[u8], s: Shown) -> Pen {
+    let m = s.message;
+    let p = begun(
+        out,
+        name,
+        &[s.number, m.kind, s.len as u64, s.offset as u64],
+    );
+    message(out, p, m)
+}
+
+// Which memory a message is shown in, and from which place on.
+fn placed(out: &mut [u8], p: Pen, place: Place) -> Pen {
+    match place {
+        Place::Store(at) => named(out, p, b" store", at),
+        Place::Scratch => named(out, p, b" scratch", 0),
+        Place::Nowhere => named(out, p, b" none", 0),
+    }
+}
+
+fn named(out: &mut [u8], p: Pen, memory: &[u8], at: usize) -> Pen {
+    let q = output::words(out, p, memory);
+    output::number(out, q, at as u64)
 }
 
 // The numbers and the places of a message.

@@ -32,21 +32,23 @@ const LEND: usize = 2;
 
 const FEED: usize = 3;
 
-const TAKE: usize = 4;
+const LOOK: usize = 4;
 
-const BUILD: usize = 5;
+const DROP: usize = 5;
 
-const PUT: usize = 6;
+const BUILD: usize = 6;
 
-const NEXT: usize = 7;
+const PUT: usize = 7;
 
-const STATUS: usize = 8;
+const NEXT: usize = 8;
 
-const SHOW: usize = 9;
+const STATUS: usize = 9;
 
-const BAD: usize = 10;
+const SHOW: usize = 10;
 
-const NOTHING: usize = 11;
+const BAD: usize = 11;
+
+const NOTHING: usize = 12;
 
 // How many capacities of each kind an `open` line has for an unknown bundle, and how many counts a `status` line has of a
 // record out of range, whichever bundles there are.
@@ -64,7 +66,7 @@ fn called(line: &mut [u8], long: bool, words: &mut [u64; WORDS]) -> usize {
         return NOTHING;
     }
     calls::said(
-        b"bundle n open snm lend kk feed r take nb build nnlpbi put nr next tb status . stores .",
+        b"bundle n open snm lend kk feed r look nb drop n build nnlpbi put nr next tb status . stores .",
         BAD,
         line,
         words,
@@ -224,7 +226,8 @@ fn made(
     match call {
         OPEN => open(g, receive, send, words),
         FEED => feed(c, g, receive, line, words),
-        TAKE => take(c, g, receive, words, buf),
+        LOOK => look(c, g, receive, words, buf),
+        DROP => drop(c, g, receive, words),
         BUILD => build(c, g, line, words, buf),
         PUT => put(c, g, send, line, words),
         NEXT => next(c, g, send, words, buf),
@@ -282,20 +285,32 @@ fn feed(c: Connection, g: Given, receive: &mut [u8], line: &[u8], words: [u64; W
     }
 }
 
-// take I LEN
-fn take(c: Connection, g: Given, receive: &[u8], words: [u64; WORDS], buf: &mut [u8]) -> Made {
+// look I LEN
+fn look(c: Connection, g: Given, receive: &[u8], words: [u64; WORDS], buf: &mut [u8]) -> Made {
     let n = lent(words[1] as usize, buf);
-    taken(c, g, receive, words[0], &mut buf[..n])
+    looked(c, g, receive, words[0], &mut buf[..n])
 }
 
-fn taken(c: Connection, g: Given, receive: &[u8], i: u64, buf: &mut [u8]) -> Made {
+fn looked(c: Connection, g: Given, receive: &[u8], i: u64, scratch: &mut [u8]) -> Made {
     let r = lent(g.receive, receive);
-    let t = taking::take(c, &receive[..r], i, buf);
-    let m = t.message;
-    let connection = t.connection;
+    let l = looking::look(c, &receive[..r], i, scratch);
+    let shown = l.shown;
+    let place = l.place;
+    let connection = l.connection;
     Made {
         connection,
-        written: answering::taken(t.number, t.len, t.offset, m, buf),
+        written: answering::looked(shown, place, &receive[..r], scratch),
+    }
+}
+
+// drop I
+fn drop(c: Connection, g: Given, receive: &[u8], words: [u64; WORDS]) -> Made {
+    let r = lent(g.receive, receive);
+    let d = dropping::drop(c, &receive[..r], words[0]);
+    let connection = d.connection;
+    Made {
+        connection,
+        written: answering::dropped(d.shown),
     }
 }
 

@@ -8,10 +8,10 @@ use Rattle.bench_front.proofs.front_way.Statement.{statement}
 use Rattle.bench_front.proofs.front_way.Tie as tie
 
 abbrev Inv-loop : tie.InvT-loop
-Inv-loop receive₀ send₀ far-receive₀ far-send₀ wire₀ buf₀ ask answer times near₀ far₀ left₀ receive send far-receive far-send wire buf near far left = (length receive ≡ length receive₀) × (length send ≡ length send₀) × (length far-receive ≡ length far-receive₀) × (length far-send ≡ length far-send₀) × (length wire ≡ length wire₀) × (length buf ≡ length buf₀)
+Inv-loop receive₀ send₀ far-receive₀ far-send₀ wire₀ scratch₀ ask answer looks times near₀ far₀ left₀ receive send far-receive far-send wire scratch near far left = (length receive ≡ length receive₀) × (length send ≡ length send₀) × (length far-receive ≡ length far-receive₀) × (length far-send ≡ length far-send₀) × (length wire ≡ length wire₀) × (length scratch ≡ length scratch₀)
 
 abbrev μ-loop : tie.MeasureT-loop
-μ-loop receive₀ send₀ far-receive₀ far-send₀ wire₀ buf₀ ask answer times near₀ far₀ left₀ receive send far-receive far-send wire buf near far left = left
+μ-loop receive₀ send₀ far-receive₀ far-send₀ wire₀ scratch₀ ask answer looks times near₀ far₀ left₀ receive send far-receive far-send wire scratch near far left = left
 
 sub-left : tie.Need-sub-left Inv-loop μ-loop
 sub-left c = omega (arith, c .before .before .before .before .before .before .before .before .before .before .before .before .before .before .before .before .before .before .before .before .before .before .before .before .before .before .before .before .before .before .before .before .loop-test .taken)

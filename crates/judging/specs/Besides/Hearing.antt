@@ -1,4 +1,4 @@
--- T2 for what take asks of a view: which outcome is told, exactly when (document 01, "Numbers and their order").
+-- T2 for what look and drop ask of a view: which outcome is told, exactly when (document 01, "Numbers and their order").
 use Prim.Native.Nat.{ℕ}
 use mathlib.Core.Path.{_≡_}
 use mathlib.Core.Bool.{true, false}
@@ -18,7 +18,7 @@ use Rattle.judging.specs.declared.Judged.{Judged}
 use Rattle.judging.specs.Judging.{View, spoken, oursNow, barred, unjudged, led, heard}
 use Rattle.judging.specs.Besides.Judging.{leadsTo}
 
--- Take asks in an order: each of these supposes that nothing before it was refused. Handshake doesn't bar the instance, its protocol hasn't ended, and
+-- They ask in an order: each of these supposes that nothing before it was refused. Handshake doesn't bar the instance, its protocol hasn't ended, and
 -- agency is not ours: the bytes decide.
 pub record Awaited (v : View) : Type 0 where
   pub allowed : barred v ≡ false

@@ -1,10 +1,10 @@
--- T9 (c): what one end builds and puts is what the other end takes, in whatever segments it was sent and in whatever runs it was fed.
+-- T9 (c): what one end builds and puts is what the other end is shown and drops, in whatever segments it was sent and in whatever runs it was fed.
 use Prim.Native.Nat.{ℕ, zero, suc, _+_, _*_, _^_, _≤_, _<_}
 use mathlib.Core.Path.{_≡_}
 use mathlib.Core.Bool.{Bool}
 use mathlib.Core.List.{List, [], _∷_, _++_, flatMap, flatten}
 use mathlib.Core.Option.{some}
-use lib.ListN.{length, getD, take, drop}
+use lib.ListN.{length, getD, take}
 use Rattle.ring.specs.Ring as ring
 use Rattle.wire.specs.Instances.{instances}
 use Rattle.wire.specs.Besides.Instances.{otherOf, pairOf}
@@ -18,12 +18,14 @@ use Rattle.range.specs.Besides.Ranges.{InReceive}
 use Rattle.judging.specs.Besides.Judging.{leadsTo}
 use Rattle.judging.specs.Besides.Hearing.{Awaited}
 use Rattle.connection.specs.Parts.{heldOf}
-use Rattle.taking.specs.Taking.{seen}
+use Rattle.hearing.specs.Hearing.{seen}
+use Rattle.looking.specs.declared.Place.{Place}
+use Rattle.looking.specs.Looking.{joined}
 use Rattle.promises.specs.Calls as calls
 use Rattle.promises.specs.Calls.{Call, World, step, run, AllReal, Opened, first}
 use Rattle.promises.specs.Effects.{Act, gave, Past, did, bytesIn, acts, segments}
 use Rattle.promises.specs.Fairness.{queue}
-use Rattle.promises.specs.History.{putBy, putFor, handedFor}
+use Rattle.promises.specs.History.{putBy, putFor, droppedFor, Spelled, partAt}
 
 -- ---- two ends
 
@@ -60,24 +62,24 @@ pub record Joined (a b : End) (way : List ℕ) : Type 0 where
   pub parties : b .settings .party ≡ otherOf (a .settings .party)
   pub bytes : flatten (segments (pastOf a)) ≡ bytesIn (pastOf b) ++ way
 
--- What was put of an instance is, in order: what the other end was handed of the instance that it talks with; what it holds of it; what is in
--- flight, no more bytes than are on the way; and what still waits.
-pub record Arrives (a b : End) (way : List ℕ) (i : ℕ) : Type 0 where
-  pub flight : List ℕ
-  pub put : putFor i (pastOf a)
-      ≡ ((handedFor (facing a i) (pastOf b) ++ holding (worldOf b) (facing a i)) ++ flight) ++ queue (worldOf a) i
-  pub few : length flight ≤ length way
+-- What was put of an instance is, in order: the messages that the other end dropped of the instance that it talks with, each as its drop answered; what
+-- it holds of it; what is in flight; and what still waits.
+pub record Arrives (a b : End) (i : ℕ) (flight : List ℕ) : Type 0 where
+  pub messages : List (List ℕ)
+  pub spelled : Spelled (speaks (a .settings .party .bundle) i) (acts (facing a i) (pastOf b)) messages
+  pub put : putFor i (pastOf a) ≡ ((flatten messages ++ holding (worldOf b) (facing a i)) ++ flight) ++ queue (worldOf a) i
 
+-- no more bytes are in flight than are on the way
 abbrev pub Glued : Type 0
-Glued = (a b : End) (way : List ℕ) → Joined a b way → (i : ℕ) → i < instances (a .settings .party .bundle) → Arrives a b way i
+Glued =
+    (a b : End) (way : List ℕ) → Joined a b way → (i : ℕ) → i < instances (a .settings .party .bundle)
+    → (flight : List ℕ) × Arrives a b i flight × (length flight ≤ length way)
 
--- so with nothing on the way: what was put is what the other end was handed and holds, and what still waits
+-- so with nothing on the way: what was put is what the other end dropped and holds, and what still waits
 abbrev pub AllThere : Type 0
-AllThere =
-    (a b : End) → Joined a b [] → (i : ℕ) → i < instances (a .settings .party .bundle)
-    → putFor i (pastOf a) ≡ (handedFor (facing a i) (pastOf b) ++ holding (worldOf b) (facing a i)) ++ queue (worldOf a) i
+AllThere = (a b : End) → Joined a b [] → (i : ℕ) → i < instances (a .settings .party .bundle) → Arrives a b i []
 
--- ---- a built message is taken
+-- ---- a built message is shown and dropped
 
 -- the parts of a message, as build is given them: its kind, whether its list is asked to be of indefinite length, its numbers, and so many runs, of
 -- which there are two at the most
@@ -101,7 +103,7 @@ pub record Builds (b i : ℕ) (p : Parts) (bs : List ℕ) : Type 0 where
   pub done : buildWith b i p lent .answer .number ≡ 0
   pub front : take (buildWith b i p lent .answer .len) (buildWith b i p lent .buffer) ≡ bs
 
--- A take on instance i is awaited, the bytes held begin with bs, and the message that these are has a row in the present state.
+-- A look or drop on instance i is awaited, the bytes held begin with bs, and the message that these are has a row in the present state.
 pub record Awaits (w : World) (i : ℕ) (bs : List ℕ) : Type 0 where
   pub asked : InReceive (w .connection) (w .receive) i
   pub awaited : Awaited (seen (w .connection) (w .receive) i)
@@ -120,26 +122,37 @@ runsAt bs places (suc n) = runsAt bs places n ++ (ring.run bs (getD places (n * 
 abbrev pub runsIn : List ℕ → Message → List (List ℕ)
 runsIn bs m = runsAt bs (m .places) (m .parts)
 
--- A take on instance i answers 0 with the length of bs, and bs is at the front of the lent buffer, whose rest is as it was; and what it says of the
--- message are the parts that build was given: kind, numbers, and the runs at its places.
-pub record TakenAs (p : Parts) (bs : List ℕ) (w : World) (i : ℕ) (lent : List ℕ) : Type 0 where
+-- what is said of bytes that are a message
+abbrev pub saidOf : List ℕ → Message → calls.Said
+saidOf bs m = record { len = length bs; offset = 0; message = m }
+
+-- a look on instance i answers 0, and bs is the part at its place, in the store or in scratch
+pub record ShownAs (bs : List ℕ) (m : Message) (w : World) (i : ℕ) (scratch : List ℕ) : Type 0 where
+  pub place : Place
+  pub answer : step w (calls.look i scratch) .answer ≡ (0, calls.looked (saidOf bs m) place (joined place bs scratch))
+  pub part : partAt place (length bs) (w .receive) (joined place bs scratch) ≡ bs
+
+-- So does every look with room for bs in scratch; a drop answers 0, and the same of the message; and what they say of it are the parts that build was
+-- given: kind, numbers, and the runs at its places.
+pub record ArrivesAs (p : Parts) (bs : List ℕ) (w : World) (i : ℕ) : Type 0 where
   pub message : Message
-  pub answer : step w (calls.take i lent) .answer ≡ (0, calls.taken (length bs) 0 message (bs ++ drop (length bs) lent))
+  pub looks : (scratch : List ℕ) → length bs ≤ length scratch → ShownAs bs message w i scratch
+  pub drops : step w (calls.drop i) .answer ≡ (0, saidOf bs message)
   pub kind : message .kind ≡ p .kind
   pub numbers : numbersIn message ≡ p .numbers
   pub runs : some (runsIn bs message) ≡ given (p .runs) (p .one) (p .two)
 
--- what is built for an instance is taken on one that speaks the same protocol
-abbrev pub BuiltIsTaken : Type 0
-BuiltIsTaken =
+-- what is built for an instance is shown and dropped on one that speaks the same protocol
+abbrev pub BuiltArrives : Type 0
+BuiltArrives =
     (b i : ℕ) (p : Parts) (bs : List ℕ) → Builds b i p bs → (w : World) (j : ℕ) → speaks (w .connection .settings .party .bundle) j ≡ speaks b i → Awaits w j bs
-    → (lent : List ℕ) → length bs ≤ length lent → TakenAs p bs w j lent
+    → ArrivesAs p bs w j
 
 -- ---- the journey
 
 -- Two ends are joined, and a message is due at the second: build made bs of these parts for instance i; the first end put it to i, and what it put
--- to i before is what the second was handed of the instance that i talks with; all of bs has come there, a take on that instance is awaited, and
--- in its state the message has a row.
+-- to i before has as many bytes as the second dropped of the instance that i talks with; all of bs has come there, a look or drop on that instance is
+-- awaited, and in its state the message has a row.
 pub record Due (a b : End) (way : List ℕ) (i : ℕ) (p : Parts) (bs : List ℕ) : Type 0 where
   pub joined : Joined a b way
   pub within : i < instances (a .settings .party .bundle)
@@ -147,15 +160,13 @@ pub record Due (a b : End) (way : List ℕ) (i : ℕ) (p : Parts) (bs : List ℕ
   pub before : List Act
   pub behind : List Act
   pub put : acts i (pastOf a) ≡ before ++ (gave bs ∷ behind)
-  pub handed : flatMap putBy before ≡ handedFor (facing a i) (pastOf b)
+  pub dropped : length (flatMap putBy before) ≡ droppedFor (facing a i) (pastOf b)
   pub come : length bs ≤ length (holding (worldOf b) (facing a i))
   pub asked : InReceive (worldOf b .connection) (worldOf b .receive) (facing a i)
   pub awaited : Awaited (seen (worldOf b .connection) (worldOf b .receive) (facing a i))
   pub next : ℕ
   pub row : leadsTo (seen (worldOf b .connection) (worldOf b .receive) (facing a i)) (messageOf (speaks (a .settings .party .bundle) i) bs .message) ≡ To next
 
--- then this is what a take hands out, if it lends room for it
+-- then this is what look shows and drop frees
 abbrev pub Journey : Type 0
-Journey =
-    (a b : End) (way : List ℕ) (i : ℕ) (p : Parts) (bs : List ℕ) → Due a b way i p bs
-    → (lent : List ℕ) → length bs ≤ length lent → TakenAs p bs (worldOf b) (facing a i) lent
+Journey = (a b : End) (way : List ℕ) (i : ℕ) (p : Parts) (bs : List ℕ) → Due a b way i p bs → ArrivesAs p bs (worldOf b) (facing a i)

@@ -23,7 +23,7 @@ returns-2 c =
       lt-ltb (a .i) (instances (a .bundle)) one,
       c .or2 .ensures,
       c .before .or .ensures,
-      c .before .before .take-fault .ensures,
+      c .before .before .heard-fault .ensures,
       wrong .and .ensures,
       wrong .before .of-side .ensures,
     )

@@ -1,0 +1,3 @@
+pub mod DroppingLaws
+pub mod NumberLaws
+pub mod Once

@@ -1,0 +1,3 @@
+pub mod Hearing
+pub mod Besides
+pub mod Inside

@@ -1,0 +1,4 @@
+-- What may be read besides: statements, and definitions that only statements cite.
+pub mod Numbers
+pub mod Parts
+pub mod Same
