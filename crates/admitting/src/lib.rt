@@ -17,14 +17,14 @@ use wire::instances::{INSTANCES, Party, Route};
 use wire::segment::{HEADER, Header};
 
 // What a whole header leads to: a fault, or a payload for an instance and how many bytes it has.
-#[derive(Drop)]
+#[derive(Clone, Copy)]
 pub enum Admission {
     Fault(Closing),
     Payload(u64, u64),
 }
 
 // What changes from step to step: the header record; and of a payload under way, its instance and the bytes to come.
-#[derive(Drop)]
+#[derive(Clone, Copy)]
 pub struct Way {
     pub header: Header,
     pub instance: u64,
@@ -32,7 +32,7 @@ pub struct Way {
 }
 
 // What a step of reading leads to, and how many bytes it used.
-#[derive(Drop)]
+#[derive(Clone, Copy)]
 pub struct Step {
     pub way: Way,
     pub gate: Gate,

@@ -14,7 +14,7 @@ use messages::forms::{Listed, MOST_FIELDS};
 use rows::Protocol;
 
 // The number; where it is 0, how long the message is.
-#[derive(Drop)]
+#[derive(Clone, Copy)]
 pub struct Built {
     pub number: u64,
     pub len: usize,

@@ -31,7 +31,7 @@ pub const LENT: usize = 131080;
 pub const STORE: usize = 1179648;
 
 // A call of a table, by its place among the calls, and the kinds of its words.
-#[derive(Drop)]
+#[derive(Clone, Copy)]
 struct Row {
     call: usize,
     kinds: Word,

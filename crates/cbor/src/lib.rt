@@ -20,7 +20,7 @@ const LEVELS: usize = NESTING + 1;
 
 // A walk under way: its place, the bytes of a string that are to be skipped there, the heads so far, the level that it
 // is in, and how many levels are around that, the outermost first.
-#[derive(Drop)]
+#[derive(Clone, Copy)]
 pub struct Walk {
     pub at: usize,
     pub skip: u64,
@@ -33,14 +33,14 @@ pub struct Walk {
 }
 
 // The verdict, and the walk as far as it came.
-#[derive(Drop)]
+#[derive(Clone, Copy)]
 pub struct Measured {
     pub verdict: Verdict,
     pub walk: Walk,
 }
 
 // Where a walk stopped: the verdict, and what the walk is then but for the levels around.
-#[derive(Drop)]
+#[derive(Clone, Copy)]
 pub struct Stop {
     pub verdict: Verdict,
     pub at: usize,

@@ -11,7 +11,7 @@ pub mod parts;
 
 // Set at open: which end we are, the payload limit S, and the capacities by instance. Arrays by instance have room for
 // the largest bundle.
-#[derive(Drop)]
+#[derive(Clone, Copy)]
 pub struct Settings {
     pub party: Party,
     pub limit: u64,
@@ -21,7 +21,7 @@ pub struct Settings {
 
 // By instance, where in its area the first held byte is, and how many are held; the header record; and of a payload
 // under way, its instance and the bytes still to come. There is none where rest is 0.
-#[derive(Drop)]
+#[derive(Clone, Copy)]
 pub struct Receiving {
     pub starts: [u64; INSTANCES],
     pub held: [u64; INSTANCES],
@@ -31,7 +31,7 @@ pub struct Receiving {
 }
 
 // By instance, where in its area the first waiting byte is, and how many wait; and whose turn it is.
-#[derive(Drop)]
+#[derive(Clone, Copy)]
 pub struct Sending {
     pub starts: [u64; INSTANCES],
     pub waiting: [u64; INSTANCES],
@@ -39,28 +39,28 @@ pub struct Sending {
 }
 
 // By instance, the state; and whether Handshake ended in Accept.
-#[derive(Drop)]
+#[derive(Clone, Copy)]
 pub struct Talk {
     pub states: [u64; INSTANCES],
     pub accepted: bool,
 }
 
 // Why a connection was closed: the refusal number alone, or the number and its instance.
-#[derive(Drop)]
+#[derive(Clone, Copy)]
 pub enum Closing {
     Bare(u64),
     Of(u64, u64),
 }
 
 // Whether the connection takes input and sends.
-#[derive(Drop)]
+#[derive(Clone, Copy)]
 pub enum Gate {
     Open,
     Closed(Closing),
 }
 
 // The record of a connection.
-#[derive(Drop)]
+#[derive(Clone, Copy)]
 pub struct Connection {
     pub settings: Settings,
     pub receiving: Receiving,

@@ -10,7 +10,7 @@ use hearing::{Shown, hear, show, shut};
 use range::Marks;
 
 // What is said of the message, and the record.
-#[derive(Drop)]
+#[derive(Clone, Copy)]
 pub struct Dropped {
     pub shown: Shown,
     pub connection: Connection,

@@ -16,7 +16,7 @@ use head::{ARRAY, MAP, UNSIGNED};
 use item::{NESTING, Verdict};
 
 // An element of a list, or of a map: an item; a pair [item, size]; a version, which is a key, and its value.
-#[derive(Drop)]
+#[derive(Clone, Copy)]
 pub enum Element {
     Item,
     Pair,
@@ -24,7 +24,7 @@ pub enum Element {
 }
 
 // What stands in a message behind its number: an item; a list or map of elements; a number below a limit; a bool.
-#[derive(Drop)]
+#[derive(Clone, Copy)]
 pub enum Field {
     Item,
     List(Element),
@@ -33,7 +33,7 @@ pub enum Field {
 }
 
 // How far elements go: so many of them; up to a break; or up to the end of the bytes, as in a run that build is given.
-#[derive(Drop)]
+#[derive(Clone, Copy)]
 pub enum Extent {
     Counted(u64),
     Open,
@@ -41,28 +41,28 @@ pub enum Extent {
 }
 
 // How far the elements of an array or a map go, and the place of the first of them; or it is none.
-#[derive(Drop)]
+#[derive(Clone, Copy)]
 pub enum Opening {
     At(Extent, usize),
     Not,
 }
 
 // A number and the place behind it, or none.
-#[derive(Drop)]
+#[derive(Clone, Copy)]
 pub enum Number {
     Is(u64, usize),
     Not,
 }
 
 // Where something ends, if it is what it should be.
-#[derive(Drop)]
+#[derive(Clone, Copy)]
 pub enum End {
     At(usize),
     Nowhere,
 }
 
 // What a field says, and the place behind it: a number; start and length; or it is not what it should be.
-#[derive(Drop)]
+#[derive(Clone, Copy)]
 pub enum Part {
     Number(u64, usize),
     Place(usize, usize, usize),

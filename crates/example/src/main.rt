@@ -30,7 +30,7 @@ const PROPOSE: u64 = 0;
 const LINE: usize = 64;
 
 // What goes from step to step: the record, and whether every line so far could be written.
-#[derive(Drop)]
+#[derive(Clone, Copy)]
 struct Step {
     connection: Connection,
     written: bool,

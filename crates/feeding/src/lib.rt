@@ -19,7 +19,7 @@ use wire::instances::{INSTANCES, Party};
 use wire::segment::HEADER;
 
 // Feed's answer: the number, how many bytes were used, and the record.
-#[derive(Drop)]
+#[derive(Clone, Copy)]
 pub struct Fed {
     pub number: u64,
     pub used: usize,

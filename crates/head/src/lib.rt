@@ -42,7 +42,7 @@ pub const RESERVED: u8 = 28;
 pub const OPEN: u8 = 31;
 
 // What a major type begins. Major types 0, 1 and 7 are one: a number, after whose head nothing follows.
-#[derive(Drop)]
+#[derive(Clone, Copy)]
 pub enum Major {
     Number,
     Bytes,
@@ -54,7 +54,7 @@ pub enum Major {
 
 // What an initial byte says: its argument is in the byte itself; it is in the k + 1 bytes that follow; there is none,
 // and the length is indefinite; a simple value in the next byte; a break; additional information that is reserved.
-#[derive(Drop)]
+#[derive(Clone, Copy)]
 pub enum Initial {
     Short(Major, u64),
     Long(Major, usize),

@@ -10,7 +10,7 @@ use base::number::wide;
 
 // What stands at a place: a head with its major type, 0 to 7, its argument and the place behind it; one of indefinite
 // length; a break; a head whose bytes are not all there; or bytes that begin no head.
-#[derive(Drop)]
+#[derive(Clone, Copy)]
 pub enum Head {
     Definite {
         major: u8,

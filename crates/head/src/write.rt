@@ -7,7 +7,7 @@ ghost use Rattle.head.specs.Inside.{length_of};
 use super::{EIGHT_BYTES, FOUR_BYTES, INFOS, ONE_BYTE, TWO_BYTES};
 
 // How the argument of the shortest head is given: its additional information, and how many bytes follow.
-#[derive(Drop)]
+#[derive(Clone, Copy)]
 pub struct Width {
     pub info: u8,
     pub bytes: usize,

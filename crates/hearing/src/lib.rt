@@ -21,7 +21,7 @@ use wire::instances::{INSTANCES, Party, count};
 
 // The number; where it is 0, the message's length and what it says; where it is 14, the offset of the first byte after
 // which no item is possible, counted from the message's first byte.
-#[derive(Drop)]
+#[derive(Clone, Copy)]
 pub struct Shown {
     pub number: u64,
     pub len: usize,

@@ -10,7 +10,7 @@ use libc::STDIN_FILENO;
 use script::Word;
 
 // What a read came to: how many bytes, none at the end of the input; and whether it failed.
-#[derive(Drop)]
+#[derive(Clone, Copy)]
 pub struct Got {
     pub count: usize,
     pub failed: bool,
@@ -30,7 +30,7 @@ pub fn read(space: &mut [u8]) -> Got
 // A reader of lines. What was read and is not passed yet stands in the space from a place on, up to another; the line at its
 // front ends at its line feed, or with all of it while none has come. Further: the line is longer than is asked for; nothing
 // more comes; and that is since a read failed.
-#[derive(Drop)]
+#[derive(Clone, Copy)]
 pub struct Lines {
     pub from: usize,
     pub end: usize,

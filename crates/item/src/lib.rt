@@ -7,7 +7,7 @@
 pub const NESTING: usize = 16;
 
 // The verdict: an item of so many bytes; no item is possible after the byte at this place; an item is still possible.
-#[derive(Drop)]
+#[derive(Clone, Copy)]
 pub enum Verdict {
     Whole(usize),
     Bad(usize),

@@ -19,7 +19,7 @@ use rows::{Agency, Next, Protocol};
 use wire::instances::{HANDSHAKE, Party};
 
 // What comes of judging: done, a notice or a refusal.
-#[derive(Drop)]
+#[derive(Clone, Copy)]
 pub enum Outcome {
     // a message that moves the state
     Done,
@@ -52,7 +52,7 @@ pub enum Outcome {
 }
 
 // What comes of bytes; where that is done, the message, its length and the next state, and else 0.
-#[derive(Drop)]
+#[derive(Clone, Copy)]
 pub struct Judged {
     pub outcome: Outcome,
     pub len: usize,

@@ -10,7 +10,7 @@ use wire::segment::{Header, Segment};
 
 // What is known after some bytes: the header, whole while its payload is under way; the payload bytes that are
 // still to come; the whole segments and the bytes so far, both modulo 2^64.
-#[derive(Drop)]
+#[derive(Clone, Copy)]
 pub struct Listing {
     pub header: Header,
     pub rest: usize,
@@ -19,14 +19,14 @@ pub struct Listing {
 }
 
 // Whether a step ended a segment.
-#[derive(Drop)]
+#[derive(Clone, Copy)]
 pub enum Line {
     None,
     Whole(Segment),
 }
 
 // What a step came to, and how many bytes it used.
-#[derive(Drop)]
+#[derive(Clone, Copy)]
 pub struct Step {
     pub listing: Listing,
     pub used: usize,

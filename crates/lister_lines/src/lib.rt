@@ -12,7 +12,7 @@ use wire::segment::Segment;
 const LINE: usize = 64;
 
 // What is known after some bytes, and whether the lines of all segments that ended in them were written.
-#[derive(Drop)]
+#[derive(Clone, Copy)]
 pub struct Printed {
     pub listing: Listing,
     pub written: bool,

@@ -18,7 +18,7 @@ use range::Marks;
 use wire::instances::INSTANCES;
 
 // Where a message is shown: in the store from a place on, at the front of scratch, or not at all.
-#[derive(Drop)]
+#[derive(Clone, Copy)]
 pub enum Place {
     Store(usize),
     Scratch,
@@ -26,7 +26,7 @@ pub enum Place {
 }
 
 // What is said of the message, where it is, and the record.
-#[derive(Drop)]
+#[derive(Clone, Copy)]
 pub struct Looked {
     pub shown: Shown,
     pub place: Place,

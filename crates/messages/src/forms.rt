@@ -11,7 +11,7 @@ use elements::{Element, FAILURE_LIMIT, Field, VERSION_LIMIT, WORD_LIMIT};
 use rows::{PROTOCOLS, Protocol, number_of};
 
 // A row of the table, or none.
-#[derive(Drop)]
+#[derive(Clone, Copy)]
 pub enum Listed {
     Row(usize),
     Unknown,

@@ -24,7 +24,7 @@ use head::ARRAY;
 use rows::Protocol;
 
 // What reading comes to.
-#[derive(Drop)]
+#[derive(Clone, Copy)]
 pub enum Reading {
     // the bytes are a message
     Read,
@@ -45,7 +45,7 @@ pub const MOST_PLACES: usize = 2;
 
 // What a message says: its number, the numbers in it, and the start and length of each item, list and map, in order.
 // `count` is how many numbers it has, and `parts` how many items, lists and maps. What is not set is 0.
-#[derive(Drop)]
+#[derive(Clone, Copy)]
 pub struct Message {
     pub kind: u64,
     pub numbers: [u64; MOST_NUMBERS],
@@ -55,14 +55,14 @@ pub struct Message {
 }
 
 // What reading answers: the case, and the message where it is one.
-#[derive(Drop)]
+#[derive(Clone, Copy)]
 pub struct Answer {
     pub reading: Reading,
     pub message: Message,
 }
 
 // What reading the fields answers, and where it stopped: how many fields are left, a wrong one included, and the place.
-#[derive(Drop)]
+#[derive(Clone, Copy)]
 struct Stop {
     answer: Answer,
     left: u64,

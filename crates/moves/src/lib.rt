@@ -35,7 +35,7 @@ const TEXT: u8 = 5;
 pub const HALF: u64 = 9223372036854775808;
 
 // A level: its kind, and its count.
-#[derive(Drop)]
+#[derive(Clone, Copy)]
 pub struct Level {
     pub kind: u8,
     pub count: u64,
@@ -43,7 +43,7 @@ pub struct Level {
 
 // What a head does: from a place on the level is another; or a level is open within it; the bytes of a string go on
 // after all that are there; a byte is bad; the head is cut off.
-#[derive(Drop)]
+#[derive(Clone, Copy)]
 pub enum Move {
     Stay(usize, Level),
     Down(usize, Level, Level),

@@ -10,7 +10,7 @@ use wire::instances::{INSTANCES, Party, Side};
 use wire::segment::Header;
 
 // The number, 0 or 23, and the record.
-#[derive(Drop)]
+#[derive(Clone, Copy)]
 pub struct Opened {
     pub number: u64,
     pub connection: Connection,

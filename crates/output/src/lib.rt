@@ -16,7 +16,7 @@ const HEX: usize = 2;
 const SPACE: usize = 64;
 
 // The place of the next byte in the buffer, and whether all that was to be written out so far was.
-#[derive(Drop)]
+#[derive(Clone, Copy)]
 pub struct Pen {
     pub at: usize,
     pub written: bool,

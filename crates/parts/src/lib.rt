@@ -14,14 +14,14 @@ use elements::Field;
 use messages::forms::MOST_FIELDS;
 
 // The argument of a field's head, or that the part given for the field is wrong.
-#[derive(Drop)]
+#[derive(Clone, Copy)]
 pub enum Argument {
     Is(u64),
     Wrong,
 }
 
 // The arguments of all fields, in their order, if the parts make a message; 0 where there is none.
-#[derive(Drop)]
+#[derive(Clone, Copy)]
 pub struct Plan {
     pub made: bool,
     pub arguments: [u64; MOST_FIELDS],

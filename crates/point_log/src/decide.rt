@@ -6,14 +6,14 @@ ghost use Rattle.point_log.specs.Inside.{usable_of, found_of, slot_of, point_in,
 use points::{Hash, Place, Point, Read};
 
 // What add and back answer: the number, and how many records are in use after it.
-#[derive(Drop)]
+#[derive(Clone, Copy)]
 pub struct Done {
     pub number: u64,
     pub count: usize,
 }
 
 // What find answers: the number; how many records there are up to the one found, 0 for the origin; and the place found.
-#[derive(Drop)]
+#[derive(Clone, Copy)]
 pub struct Found {
     pub number: u64,
     pub upto: usize,

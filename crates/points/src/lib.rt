@@ -13,7 +13,7 @@ use head::{ARRAY, BYTES, UNSIGNED};
 const HASH: u64 = 32;
 
 // A hash in four words of eight bytes, big-endian. (An array would do, but that no enum may hold one.)
-#[derive(Drop)]
+#[derive(Clone, Copy)]
 pub struct Hash {
     pub a: u64,
     pub b: u64,
@@ -22,21 +22,21 @@ pub struct Hash {
 }
 
 // The point of a block.
-#[derive(Drop)]
+#[derive(Clone, Copy)]
 pub struct Point {
     pub slot: u64,
     pub hash: Hash,
 }
 
 // Where a chain is: at the origin, before its first block, or at a block.
-#[derive(Drop)]
+#[derive(Clone, Copy)]
 pub enum Place {
     Origin,
     Block(Point),
 }
 
 // What a reading answers: 0 or 29; the place; and a tip's block number. What it does not set is the origin, and 0.
-#[derive(Drop)]
+#[derive(Clone, Copy)]
 pub struct Read {
     pub number: u64,
     pub place: Place,
@@ -44,14 +44,14 @@ pub struct Read {
 }
 
 // A head's argument and the place behind the head, or none of the wanted kind.
-#[derive(Drop)]
+#[derive(Clone, Copy)]
 pub enum Number {
     Is(u64, usize),
     Not,
 }
 
 // An array that opens, with the place of its first element: of so many elements; of all up to a break; or none opens.
-#[derive(Drop)]
+#[derive(Clone, Copy)]
 pub enum Opening {
     Counted(u64, usize),
     Endless(usize),
@@ -59,14 +59,14 @@ pub enum Opening {
 }
 
 // The place behind a break, or there is none.
-#[derive(Drop)]
+#[derive(Clone, Copy)]
 pub enum End {
     At(usize),
     Nowhere,
 }
 
 // A point or a tip that stands at a place, and the place behind it; a point has block number 0. Or neither stands there.
-#[derive(Drop)]
+#[derive(Clone, Copy)]
 pub enum Standing {
     Stands(Place, u64, usize),
     Nothing,

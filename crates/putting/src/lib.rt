@@ -12,7 +12,7 @@ use range::{Marks, fits, in_range};
 use wire::instances::{HANDSHAKE, count};
 
 // The number, and the record.
-#[derive(Drop)]
+#[derive(Clone, Copy)]
 pub struct Queued {
     pub number: u64,
     pub connection: Connection,

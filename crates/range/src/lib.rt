@@ -29,7 +29,7 @@ pub const MOST_CAPACITY: u64 = 131072;
 
 // The numbers of a record that stand in no array by instance: the payload limit, the turn, how many header bytes have
 // come, the instance and the rest of a payload under way, the mark of Accept, and the gate.
-#[derive(Drop)]
+#[derive(Clone, Copy)]
 pub struct Marks {
     pub limit: u64,
     pub turn: u64,
@@ -41,7 +41,7 @@ pub struct Marks {
 }
 
 // Whether a record is in range, and, if it is, how long its stores are.
-#[derive(Drop)]
+#[derive(Clone, Copy)]
 pub struct Range {
     pub ok: bool,
     pub receive: u64,

@@ -10,7 +10,7 @@ ghost use Rattle.ready.specs.Inside.{bit_set, chosen_in};
 use wire::instances::INSTANCES;
 
 // Status tells these: the word, how many instances are ready, and which is lowest, 255 if none.
-#[derive(Drop)]
+#[derive(Clone, Copy)]
 pub struct Ready {
     pub word: u64,
     pub count: u64,
@@ -18,7 +18,7 @@ pub struct Ready {
 }
 
 // Who is served next.
-#[derive(Drop)]
+#[derive(Clone, Copy)]
 pub enum Choice {
     Instance(usize),
     Nobody,

@@ -31,7 +31,7 @@ fn main() {
 }
 
 // What calls are given: the bundle; how many bytes of each store are lent; and how many lines were read.
-#[derive(Drop)]
+#[derive(Clone, Copy)]
 struct Given {
     bundle: u64,
     receive: usize,
@@ -40,14 +40,14 @@ struct Given {
 }
 
 // What a call hands back: the record, and whether its answer could be written.
-#[derive(Drop)]
+#[derive(Clone, Copy)]
 struct Made {
     connection: Connection,
     written: bool,
 }
 
 // What the last call handed back, and what calls are given.
-#[derive(Drop)]
+#[derive(Clone, Copy)]
 struct Desk {
     made: Made,
     given: Given,

@@ -8,7 +8,7 @@ ghost use Rattle.std.specs.Prelude.{◌≡◌, ◌<◌, length, get_or};
 ghost use Rattle.rows.specs.Rows.{done_of, rows_of, next_of, agency_of};
 ghost use Rattle.rows.specs.Inside.{place_of, protocols, firstIn, countIn, state_in, agent_in, leads_in, suits};
 
-#[derive(Drop)]
+#[derive(Clone, Copy)]
 pub enum Protocol {
     Handshake,
     ChainSync,
@@ -20,7 +20,7 @@ pub enum Protocol {
 }
 
 // Who may send in a state.
-#[derive(Drop)]
+#[derive(Clone, Copy)]
 pub enum Agency {
     Initiator,
     Responder,
@@ -28,7 +28,7 @@ pub enum Agency {
 }
 
 // Where a message leads.
-#[derive(Drop)]
+#[derive(Clone, Copy)]
 pub enum Next {
     To(u64),
     None,

@@ -9,7 +9,7 @@ pub mod runs;
 ghost use Rattle.std.specs.Prelude.{◌≤◌, length};
 
 // A part of a line: from a place on, up to another.
-#[derive(Drop)]
+#[derive(Clone, Copy)]
 pub struct Word {
     pub from: usize,
     pub to: usize,

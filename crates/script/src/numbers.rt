@@ -2,7 +2,7 @@
 use crate::{Word, text};
 
 // A number, or a word that is none.
-#[derive(Drop)]
+#[derive(Clone, Copy)]
 pub enum Number {
     Is(u64),
     Not,

@@ -4,7 +4,7 @@ ghost use Rattle.std.specs.Prelude.{◌+◌, ◌≤◌, length};
 use crate::Word;
 
 // The length of a run that was made bytes, or a word that is none.
-#[derive(Drop)]
+#[derive(Clone, Copy)]
 pub enum Run {
     Is(usize),
     Not,

@@ -17,7 +17,7 @@ use wire::instances::{Party, count};
 use wire::segment::{HEADER, Segment};
 
 // The number; where it is 0, how long header and payload are together; and the record.
-#[derive(Drop)]
+#[derive(Clone, Copy)]
 pub struct Made {
     pub number: u64,
     pub len: usize,

@@ -10,7 +10,7 @@ use wire::instances::{INSTANCES, count};
 
 // The number, 0 or 23; the held and waiting counts; the ready word, how many are ready and which is lowest; and the
 // gate, which holds the closing.
-#[derive(Drop)]
+#[derive(Clone, Copy)]
 pub struct Report {
     pub number: u64,
     pub held: [u64; INSTANCES],

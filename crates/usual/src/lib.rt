@@ -35,7 +35,7 @@ const BREAK: u8 = 255;
 
 // What a usual head does: it is passed, up to a place; from a place on a level of so many items is open, or one of a
 // kind that goes up to a break; it is a break. Others are not usual.
-#[derive(Drop)]
+#[derive(Clone, Copy)]
 pub enum Quick {
     Past(usize),
     Asks(usize, u64),
@@ -45,7 +45,7 @@ pub enum Quick {
 }
 
 // Where the bytes of the ring lie in one piece: what to add to a place and what to take from it, up to a place.
-#[derive(Drop)]
+#[derive(Clone, Copy)]
 pub struct Piece {
     pub plus: usize,
     pub minus: usize,

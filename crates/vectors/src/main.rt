@@ -125,7 +125,7 @@ fn show(bytes: &[u8]) -> bool
 }
 
 // What trying every proper prefix tells: how many are incomplete, and how long the longest of these is.
-#[derive(Drop)]
+#[derive(Clone, Copy)]
 struct Tried {
     count: usize,
     longest: usize,

@@ -16,14 +16,14 @@ pub const INSTANCES: usize = 9;
 pub const HANDSHAKE: usize = 0;
 
 // Our side of the connection. The dialler is initiator of Handshake.
-#[derive(Drop)]
+#[derive(Clone, Copy)]
 pub enum Side {
     Dialler,
     Accepter,
 }
 
 // Which of the two ends of a connection we are: the bundle that runs, by number, and our side.
-#[derive(Drop)]
+#[derive(Clone, Copy)]
 pub struct Party {
     pub bundle: u64,
     pub side: Side,
@@ -31,7 +31,7 @@ pub struct Party {
 
 // Where a segment goes: its protocol is unknown; its mode is that of our own side, at this instance;
 // it is for this instance.
-#[derive(Drop)]
+#[derive(Clone, Copy)]
 pub enum Route {
     Unknown,
     Wrong(usize),

@@ -14,7 +14,7 @@ pub const HEADER: usize = 8;
 const MODE: u64 = 32768;
 
 // What a header says: len counts the payload's bytes.
-#[derive(Drop)]
+#[derive(Clone, Copy)]
 pub struct Segment {
     pub time: u32,
     pub mode: u8,
@@ -23,7 +23,7 @@ pub struct Segment {
 }
 
 // The header bytes that have come so far: the first `count` of `bytes`.
-#[derive(Drop)]
+#[derive(Clone, Copy)]
 pub struct Header {
     pub bytes: [u8; HEADER],
     pub count: usize,
