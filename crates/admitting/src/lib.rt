@@ -2,6 +2,8 @@
 // fault, which closes, or a payload begins.
 //
 // A byte at a time, or all eight where they are there; the room of a payload is asked once for a segment.
+#![tactic(auto)]
+
 ghost use Rattle.std.specs.Prelude.{◌≡◌, ◌+◌, ◌≤◌, ◌<◌, length};
 ghost use Rattle.wire.specs.Instances.{most};
 ghost use Rattle.wire.specs.Segments.{header_length};

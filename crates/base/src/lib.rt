@@ -3,6 +3,8 @@
 //
 // An order of refusals, or a list of ranges, is one value made of tests, so that its proof is one equation and
 // not a case for each way through the code. The kit's `not`, `&&`, `||` and `cond` on Bool are what these functions mean.
+#![tactic(auto)]
+
 pub mod number;
 
 ghost use Rattle.std.specs.Prelude.{◌≡◌, not, ◌&&◌, ◌||◌, cond, ◌-◌, min};

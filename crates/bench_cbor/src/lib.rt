@@ -1,4 +1,6 @@
 // What bench/cbor.c and bench/front.c call: the walk over all bytes of a slice, seen as a ring from a place on.
+#![tactic(auto)]
+
 use item::Verdict;
 
 // Where the item ends; 0 where it is not whole.

@@ -1,6 +1,8 @@
 // What bench/front.c calls: the hot paths of a connection, each run many times, since a record does not cross to C.
 //
 // Nothing is promised of what comes back; bench/front.c holds it, and the lent memory, to what plain C comes to.
+#![tactic(auto)]
+
 use base::smaller;
 use connection::parts::{at, changed, with_receiving, with_sending, with_talk};
 use connection::{Connection, Receiving, Sending, Settings, Talk};

@@ -2,6 +2,8 @@
 //
 // One equation says the answer and every byte of the lent buffer, on every input. The specs also say that what is made
 // of parts reads back as the message that says them.
+#![tactic(auto)]
+
 ghost use Rattle.std.specs.Prelude.{◌≡◌, true, ◌<◌};
 ghost use Rattle.std.proofs.Math.Option.{some};
 ghost use Rattle.messages.specs.Inside.{form_count, form_at};

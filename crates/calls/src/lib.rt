@@ -15,6 +15,8 @@
 //   m     numbers up to the end of the line, each a word: how many, and which. Only as the last kind
 //
 // So a call is one entry of a table, and the places of its numbers follow from its kinds.
+#![tactic(auto)]
+
 ghost use Rattle.std.specs.Prelude.{◌≤◌, length};
 
 use base::smaller;

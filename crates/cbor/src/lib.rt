@@ -4,6 +4,8 @@
 //
 // The walk goes by heads: where nine bytes lie in one piece the crate `usual` tells what a usual head does, of all others
 // the crate `moves`. Its hot state is in the scalars of one loop, and the levels around are in lent arrays.
+#![tactic(auto)]
+
 ghost use Rattle.std.specs.Prelude.{◌≡◌, ◌≤◌, length, drop};
 ghost use Rattle.item.specs.Grammar.{nesting};
 ghost use Rattle.item.specs.Verdict.{judge, start, verdict};

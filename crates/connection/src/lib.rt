@@ -2,6 +2,8 @@
 //
 // The record goes into each call and comes back by value. It is grouped by what changes together: settings never,
 // receiving by feed and drop, sending by put and next segment, talk by drop and put, the gate by a fault.
+#![tactic(auto)]
+
 use wire::instances::{INSTANCES, Party};
 use wire::segment::Header;
 

@@ -1,6 +1,8 @@
 // Drop: the first message held of an instance is freed, if it is one that the other end may send now, and the state moves.
 //
 // It is the message that look shows. One equation says the answer and the whole next record, on every input.
+#![tactic(auto)]
+
 ghost use Rattle.std.specs.Prelude.{◌≡◌};
 ghost use Rattle.dropping.specs.Dropping.{drop_of};
 

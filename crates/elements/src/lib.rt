@@ -4,6 +4,8 @@
 // What is found at a place is exactly what stands there by `Matching`. One walk passes the elements of a list, of a map and of a
 // run that build is given. Nothing is walked twice that need not be: the bytes are known to be one item, so that its last element
 // ends where they end. Places past the end are met by no head and no item.
+#![tactic(auto)]
+
 ghost use Rattle.std.specs.Prelude.{◌≡◌, cond, ℕ, ◌+◌, ◌≤◌, ◌<◌, eqb, length, get_or};
 ghost use Rattle.ring.specs.Inside.{around};
 ghost use Rattle.item.specs.Grammar.{nesting};

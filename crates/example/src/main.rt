@@ -3,6 +3,8 @@
 //
 // The other end's bytes stand here, where a program would read them from the network. Each answer's number is printed, where a
 // program would act on it. What is printed is run and compared.
+#![tactic(auto)]
+
 ghost use Rattle.io.specs.Counts.{IsPrefixLen};
 
 use base::smaller;

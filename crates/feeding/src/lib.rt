@@ -4,6 +4,8 @@
 // input. It goes byte by byte; the code reads in steps: payload bytes in runs, the eight bytes of a header where they are
 // all there, and else one. The range is tested once for a call, the room once for a segment, and the record is put
 // together once, at the end.
+#![tactic(auto)]
+
 ghost use Rattle.std.specs.Prelude.{◌≡◌, ◌+◌, ◌-◌, ◌<◌, length};
 ghost use Rattle.connection.specs.declared.Gate.TheVariants.{Open};
 ghost use Rattle.admitting.specs.Inside.{reception};

@@ -10,6 +10,8 @@
 // RUNS of which are counted, in a lent buffer of LEN bytes; with `indefinite` behind it, its list is to be of indefinite
 // length. The answer is the instance and the kind, the number that build answers and, where it is 0, the bytes, and what
 // they are read as.
+#![tactic(auto)]
+
 mod built;
 
 ghost use Rattle.std.specs.Prelude.{◌≤◌, length};

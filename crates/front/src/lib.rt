@@ -66,6 +66,8 @@
 //
 // On a closed connection look and drop still answer for what is held whole. Where look tells no message, its place is Nowhere
 // and part is empty. An open that is refused hands back a record on which every call answers 23.
+#![tactic(auto)]
+
 pub use build::{Built, build};
 pub use connection::{Closing, Connection, Gate, Settings};
 pub use dropping::{Dropped, drop};

@@ -1,5 +1,7 @@
 // Heads of CBOR data items (RFC 8949, section 3): what an initial byte says; in `read` a head read at a place, in
 // `write` one written as short as can be. What was written is read back, and no shorter head says the same.
+#![tactic(auto)]
+
 pub mod read;
 pub mod write;
 

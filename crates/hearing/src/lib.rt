@@ -4,6 +4,8 @@
 // Look and drop stand on one judgement: `hear` asks whether the record is in range, whether there is such an instance, and
 // then, by `judging::heard`, whether its first message is one that the other end may send now. Nothing is changed, and no
 // buffer is asked for.
+#![tactic(auto)]
+
 ghost use Rattle.std.specs.Prelude.{◌≡◌, ◌<◌, length};
 ghost use Rattle.wire.specs.Instances.{instances};
 ghost use Rattle.connection.specs.Areas.{bytes_of};

@@ -2,6 +2,8 @@
 //
 // A reader of lines keeps what was read in a lent space, cut wherever the reads cut it. Each step goes behind the line at the
 // front, or reads more where that line is not whole yet. Of a line that is longer than is asked for only that is kept.
+#![tactic(auto)]
+
 ghost use Rattle.std.specs.Prelude.{◌≤◌, length};
 ghost use Rattle.io.specs.Counts.{IsPrefixLen};
 

@@ -2,6 +2,7 @@
 //
 // The specs say what a well-formed item within a nesting is and what the verdict on any run of bytes is; the proofs
 // show that the two agree on every run. The code that comes to the verdict is the crate `cbor`.
+#![tactic(auto)]
 
 // Nesting at most 16 (house).
 pub const NESTING: usize = 16;

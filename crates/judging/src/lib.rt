@@ -4,6 +4,8 @@
 // `heard` has the order of look's and drop's refusals and notices up to 16, `said` that of put's. One reader and one row search serve
 // both. They get numbers and bytes and no record, and nothing here changes anything. What comes of it has a name, which
 // carries what else is known; `number_of` and `offset_of` tell what an answer says of it.
+#![tactic(auto)]
+
 ghost use Rattle.std.specs.Prelude.{◌≡◌, not, ◌&&◌, cond, ◌≤◌, ◌<◌, eqb, length};
 ghost use Rattle.ring.specs.Inside.{around};
 ghost use Rattle.wire.specs.Instances.{instances, handshake, initiates, role_of};

@@ -2,6 +2,8 @@
 // is of indefinite length, with a break behind its run, where the caller asks for it.
 //
 // Each contract says how long they are, or every byte that the buffer then holds: nothing else is written.
+#![tactic(auto)]
+
 ghost use Rattle.std.specs.Prelude.{◌≡◌, [], ◌∷◌, ◌+◌, ◌≤◌, ◌<◌, leb, length};
 ghost use Rattle.std.proofs.lemmas.List.Edits.{sets};
 ghost use Rattle.messages.specs.Inside.{form_count, form_at};

@@ -1,5 +1,7 @@
 // Lists the segments of one direction of a connection, read from standard input to its end: a line for each
 // whole segment, of time, protocol, mode and length, and a last line. It has no last line if it ends before.
+#![tactic(auto)]
+
 use lister_core::Listing;
 
 fn main() {

@@ -1,5 +1,7 @@
 // The lister's lines for inputs that are easy to get wrong, each cut into runs of one byte, of three, and in one:
 // a line with the runs' size, and then what the lister prints.
+#![tactic(auto)]
+
 ghost use Rattle.std.specs.Prelude.{◌<◌};
 
 use base::smaller;

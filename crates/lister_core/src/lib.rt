@@ -3,6 +3,8 @@
 // Bytes come in runs cut anywhere. Each step takes the next bytes of a run, one of a header or those of a
 // payload that are there, and hands out a segment when its last byte is in. After all bytes, by whatever runs they came, the
 // segments handed out are those of the whole, in order, and both counts are right.
+#![tactic(auto)]
+
 ghost use Rattle.std.specs.Prelude.{◌≡◌, ◌-◌, min, drop};
 ghost use Rattle.lister_core.specs.Lister.{told, going, after, head_byte, begun, ended, Stepped};
 

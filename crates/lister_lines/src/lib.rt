@@ -1,6 +1,8 @@
 // The lister's lines on standard output: one for each whole segment, and the last line.
 //
 // What is listed is proved in `lister_core`; what is printed of it is run and compared.
+#![tactic(auto)]
+
 ghost use Rattle.std.specs.Prelude.{◌≡◌};
 ghost use Rattle.lister_core.specs.Lister.{fed};
 

@@ -5,6 +5,8 @@
 // hands out the bytes there, and so does `meet`, in whose signature store and scratch have a lifetime each. One equation
 // says look's answer, the whole next record and every byte of scratch, on every input; and `part` says its bytes and which
 // memory they lie in.
+#![tactic(auto)]
+
 ghost use Rattle.std.specs.Prelude.{◌≡◌, length, get_or};
 ghost use Rattle.ring.specs.Ring.{base_of};
 ghost use Rattle.connection.specs.Areas.{bytes_of};

@@ -3,6 +3,8 @@
 // Taking and putting read by the same function. It answers in phases, so that a reader can tell them apart: an array that an unsigned
 // number opens; a known kind; the count of elements; the fields from left to right. The fields are read before the count is told, so that no
 // list is walked to be counted: the head of the array says the count, or only the elements are counted that are left where the fields stop.
+#![tactic(auto)]
+
 pub mod forms;
 
 ghost use Rattle.std.specs.Prelude.{◌≡◌, cond, ℕ, ◌≤◌, ◌<◌, eqb, length, get_or, set};

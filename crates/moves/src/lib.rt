@@ -3,6 +3,8 @@
 // and makes its level another or opens one within it; or the bytes are bad there, or end before the head does. Each
 // such move is right whatever bytes come after: what was wanted at the old place is wanted at the new one, by the rules
 // of the crate `item`.
+#![tactic(auto)]
+
 ghost use Rattle.std.specs.Prelude.{◌≡◌, ◌+◌, ◌-◌, ◌^◌, ◌≤◌, ◌<◌, length, get_or};
 ghost use Rattle.head.specs.Initial.{initial};
 ghost use Rattle.head.specs.declared.Initial.TheVariants.{Short, Long, Simple};

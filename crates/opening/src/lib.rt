@@ -1,6 +1,8 @@
 // Open: settings become a record. One equation determines number and record, on every input; stores are tested and not written.
 //
 // Settings are in range, and the stores as long as they say, exactly if the record that they become is.
+#![tactic(auto)]
+
 ghost use Rattle.std.specs.Prelude.{◌≡◌, length};
 ghost use Rattle.opening.specs.Openings.{fresh, refused_open, open_of};
 

@@ -4,6 +4,8 @@
 // is no room, what stands before it is written out first. Once a write has failed nothing more is written, and the pen says
 // so up to the end of the line. What a number and a byte look like is proved in `text`; what is printed of them is run and
 // compared.
+#![tactic(auto)]
+
 ghost use Rattle.std.specs.Prelude.{◌+◌, ◌≤◌, length};
 
 use libc::{STDERR_FILENO, STDOUT_FILENO};

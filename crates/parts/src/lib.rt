@@ -2,6 +2,8 @@
 //
 // One equation says whether they make a message of a form, and the arguments of the heads that are then written: a number's and a
 // bool's head says it, a list's or a map's counts its elements. The specs also say that a run is counted exactly as what stands in it.
+#![tactic(auto)]
+
 mod runs;
 
 ghost use Rattle.std.specs.Prelude.{◌≡◌, cond, ◌+◌, ◌≤◌, ◌<◌, ltb};

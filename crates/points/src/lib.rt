@@ -2,6 +2,8 @@
 //
 // A point is [], the origin, or [slot, hash of 32 bytes]; a tip is [point, block number]. Arrays are of either length form,
 // heads of any width, and the hash is of definite length. A reading asks for exactly one item: anything else is 29.
+#![tactic(auto)]
+
 ghost use Rattle.std.specs.Prelude.{◌≡◌, cond, ◌&&◌, ◌+◌, ◌-◌, ◌≤◌, eqb, leb, length};
 ghost use Rattle.head.specs.Read.{head_at};
 ghost use Rattle.points.specs.Points.{leads, opening, ending, hash_at, hashed, hash_behind, block_at, ended, broken, point_by, point_at, numbered, pair_at, tip_by, tip_at, read_of, point_of, tip_of};

@@ -2,6 +2,8 @@
 //
 // It is judged by the same reader and the same rows as what is heard; `judging::said` has the order of its refusals. Then
 // comes the room. One equation says the answer, the whole next record and every byte of the send store, on every input.
+#![tactic(auto)]
+
 ghost use Rattle.std.specs.Prelude.{◌≡◌};
 ghost use Rattle.putting.specs.Putting.{told, refused, put_of};
 

@@ -3,6 +3,8 @@
 // Every call asks it first, of a record that it has taken apart: arrays by instance are lent, the other numbers are in
 // `Marks`. It ends at the first test that fails. One pass over the instances tests their numbers and sums their
 // capacities, which are tested before they are summed: so it tells how long the stores are, too.
+#![tactic(auto)]
+
 ghost use Rattle.std.specs.Prelude.{◌≡◌, ◌+◌, ◌<◌, ◌≤◌, false, not, ◌&&◌, ◌||◌, eqb, leb, ltb, get_or};
 ghost use Rattle.base.specs.Below.{all_below};
 ghost use Rattle.ring.specs.Ring.{base_of};

@@ -2,6 +2,8 @@
 //
 // Bit i of the word is set when instance i has bytes waiting. How many are ready and which is lowest are the word's
 // ones and trailing zeros; the next instance is found in the word, from the turn on.
+#![tactic(auto)]
+
 ghost use Rattle.std.specs.Prelude.{◌≡◌, ◌<◌, ◌≤◌, ◌^◌, length, take};
 ghost use Rattle.wire.specs.Instances.{most};
 ghost use Rattle.ready.specs.Ready.{bit_of, word_of, ready_of, after_of, turn_after};

@@ -1,5 +1,7 @@
 // The point log over a slice of records: what crate `slices` does over parallel slices. The functions are few and thin, for each is
 // proved by a walk of its code; what numbers and points decide is left to `point_log::decide`.
+#![tactic(auto)]
+
 ghost use Rattle.std.specs.Prelude.{◌≡◌, ◌≤◌, ◌<◌, length};
 ghost use Rattle.point_log.specs.Log.{slots_of, rises_to, find_of, back_of, told, add_of};
 ghost use Rattle.point_log.specs.Inside.{Between, last_of};

@@ -2,6 +2,8 @@
 //
 // `making` makes the call of each line, and `answering` prints what it is answered. The desk is what goes from line to line.
 // The stores, and the space for what is read, are lent.
+#![tactic(auto)]
+
 ghost use Rattle.io.specs.Counts.{IsPrefixLen};
 
 use base::smaller;

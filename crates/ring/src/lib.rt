@@ -2,6 +2,8 @@
 //
 // Byte n of a stream is kept in its area at place n mod capacity. A run is copied in at most two straight copies: up
 // to the area's end, and on from its front. Nothing else is written.
+#![tactic(auto)]
+
 ghost use Rattle.std.specs.Prelude.{◌≡◌, ◌+◌, ◌%◌, ◌^◌, ◌≤◌, ◌<◌, length, get_or};
 ghost use Rattle.std.proofs.lemmas.List.Edits.{sets};
 ghost use Rattle.ring.specs.Ring.{base_of, stream, laid, run};

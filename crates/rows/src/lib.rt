@@ -2,6 +2,8 @@
 //
 // One table serves taking and putting: `find` gives where a message leads in a state, `agent` who may send
 // there. There is no transition outside the table. States are numbered in row order, Done last.
+#![tactic(auto)]
+
 pub mod spoken;
 
 ghost use Rattle.std.specs.Prelude.{◌≡◌, ◌<◌, length, get_or};

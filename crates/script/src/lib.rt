@@ -3,6 +3,8 @@
 // A line is a slice without its line feed. A word is a part of it, up to a space or the end; where there is no word any
 // more, it is the empty one at the end, which is nothing that a call takes. Runs are made bytes in place: two digits of
 // the line become the byte at the front of them, so that a line needs no second buffer.
+#![tactic(auto)]
+
 pub mod numbers;
 pub mod runs;
 

@@ -1,6 +1,8 @@
 // Next segment: the next instance with bytes to send, in its turn, has the first of them put behind a header.
 //
 // One equation says the answer, the whole next record and every byte of the lent buffer, on every input.
+#![tactic(auto)]
+
 ghost use Rattle.std.specs.Prelude.{◌≡◌, ◌<◌, ◌≤◌, length};
 ghost use Rattle.std.proofs.lemmas.List.Edits.{sets};
 ghost use Rattle.wire.specs.Segments.{header_length, encoded};

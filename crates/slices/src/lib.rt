@@ -4,6 +4,8 @@
 // `add` and `back` are given a point's item, for a RollForward and of a RollBackward; `find` is given a slot. A refused call
 // changes nothing, and a record behind the count is written by nothing but an add. What is decided by numbers and points
 // alone is in `point_log::decide`.
+#![tactic(auto)]
+
 ghost use Rattle.std.specs.Prelude.{◌≡◌, ◌*◌, ◌≤◌, ◌<◌, eqb, length, set};
 ghost use Rattle.std.proofs.lemmas.List.Edits.{sets};
 ghost use Rattle.point_log.specs.Log.{rises_to};

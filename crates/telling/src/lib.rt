@@ -1,4 +1,6 @@
 // Status: what a connection holds, and why it was closed. One equation determines the report, on every record.
+#![tactic(auto)]
+
 ghost use Rattle.std.specs.Prelude.{◌≡◌, ◌≤◌};
 ghost use Rattle.wire.specs.Instances.{most};
 ghost use Rattle.telling.specs.Statuses.{up_to, refused_status, status_of};

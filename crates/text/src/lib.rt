@@ -1,5 +1,7 @@
 // Text in a lent buffer, for the programs: each function writes at a place and answers the place behind
 // what it wrote. The rest of the buffer stays as it was.
+#![tactic(auto)]
+
 ghost use Rattle.std.specs.Prelude.{◌≡◌, ◌+◌, ◌/◌, ◌%◌, ◌<◌, ◌≤◌, length, set, take};
 ghost use Rattle.std.proofs.lemmas.List.Edits.{sets};
 ghost use Rattle.io.specs.Digits.{hex_digit_ascii};

@@ -1,6 +1,8 @@
 // The usual heads of CBOR data items, told quickly: a head at a place with eight more bytes after it in one piece, so that
 // no byte of it is asked for twice and none may be missing. What is told of a head is one of the moves of the crate
 // `moves`, at any level that has a count; a head that is not usual is left to that crate.
+#![tactic(auto)]
+
 ghost use Rattle.std.specs.Prelude.{◌≡◌, ◌+◌, ◌-◌, ◌^◌, ◌≤◌, ◌<◌, length};
 ghost use Rattle.ring.specs.Inside.{around};
 ghost use Rattle.usual.specs.Inside.Pieces.{Spot, PieceAt};

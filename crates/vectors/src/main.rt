@@ -10,6 +10,8 @@
 // Appendix A has 81 examples, appendix F 94. Both lists are those of the RFC's text, as Debian's package doc-rfc-std
 // 20230121-1 has it, complete and in its order: taken out of that text and compared, hex for hex. All of A are whole; of
 // F, the 42 of too little data are incomplete, the 52 of a syntax error bad.
+#![tactic(auto)]
+
 ghost use Rattle.std.specs.Prelude.{◌<◌, ◌≤◌, length};
 
 use input::Lines;

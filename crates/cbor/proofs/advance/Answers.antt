@@ -1,0 +1,265 @@
+-- `cbor::advance` meets its contract: from head to head, where the walk is comes to what it began with comes to, and each
+-- way through the loop is one law of `Walking`. It ends, since each head takes it on and each level it leaves is one less.
+use Prim.Native.Nat.{ℕ, ◌+◌, ◌*◌, ◌-◌, ◌^◌, ◌≤◌, ◌<◌}
+use mathlib.Core.List.{List}
+use mathlib.Core.Path.{◌≡◌, sym, ◌∙◌}
+use mathlib.Core.Logic.{⊎_elim}
+use native.Mathlib.Omega.{arith}
+use lib.ListN.{length}
+use borrow.Author.Rules.{rules}
+use Rattle.ring.specs.Inside.{around}
+use Rattle.ring.proofs.Around.{around-length}
+use Rattle.moves.specs.Inside.Moves.{Stays, Downs, Skips}
+use Rattle.usual.specs.Inside.Pieces.{PieceAt}
+use Rattle.usual.proofs.Pieces.{pieces_none, pieces_later}
+use Rattle.usual.proofs.UsualMoves.{if_past, if-asks, if-opens, if-ends}
+use Rattle.cbor.specs.Inside.Walk.{walk_of}
+use Rattle.cbor.proofs.Walking.{Under, if-stay, if-down, if-skip, begins, stays, downs, pops, whole, faults, lacks, skips}
+use Rattle.cbor.proofs.advance.Goals as goal
+use Rattle.cbor.proofs.advance.Goals.{At-loop-count, In-Asks, In-Down, In-Opens, In-Past, In-Skip, In-Stay, Then-breaks}
+
+-- at the loop's head: the bytes, the numbers of the walk, and a place of the piece
+abbrev Loop : Type 0
+Loop = At-loop-count
+
+abbrev bytes : Loop → List ℕ
+bytes o = let a = o.args in around a.s.now a.from a.n
+
+sizes : (o : Loop)
+    → (o.loop-count.heads ≤ o.loop-count.at) × (o.loop-count.depth ≤ 17) × (length o.loop-count.kinds ≡ 17) × (length o.loop-count.counts ≡ 17)
+    × (length (bytes o) ≡ o.args.n)
+sizes o = let u = o.loop-count.inv.0 in (u.few, u.good.tall, u.outer.kinds_size, u.outer.counts_size, o.loop-count.inv.2)
+
+spot : (o : Loop) → o.loop-count.at < o.loop-count.z.lim
+    → (o.loop-count.z.minus ≤ o.loop-count.at + o.loop-count.z.plus) × (o.loop-count.at + o.loop-count.z.plus ≤ length o.args.s.now)
+spot o h = o.loop-count.inv.1.low o.loop-count.at (omega arith) h
+
+-- where a usual head was told, and where any head was: what is right to do
+past : (c : In-Past)
+    → let o = c in
+    Stays (bytes o) o.loop-count.at o.loop-count.kind o.loop-count.count o.loop-count.depth c.in-Past.p
+    (record { kind = o.loop-count.kind; count = o.loop-count.count - 1 })
+past c =
+    let o = c.loop-count in
+    if_past o.invariant.0.good (omega arith) c.usual-q.ensures c.in-Past.is
+
+asked : (c : In-Asks)
+    → let o = c in
+    Downs (bytes o) o.loop-count.at o.loop-count.kind o.loop-count.count o.loop-count.depth c.in-Asks.p
+    (record { kind = o.loop-count.kind; count = o.loop-count.count - 1 }) (record { kind = 0; count = c.in-Asks.c })
+asked c =
+    let o = c.loop-count in
+    if-asks o.invariant.0.good (omega arith) c.usual-q.ensures c.in-Asks.is
+
+opened : (c : In-Opens)
+    → let o = c in
+    Downs (bytes o) o.loop-count.at o.loop-count.kind o.loop-count.count o.loop-count.depth c.in-Opens.p
+    (record { kind = o.loop-count.kind; count = o.loop-count.count - 1 }) (record { kind = c.in-Opens.k; count = 2 ^ 63 })
+opened c =
+    let o = c.loop-count in
+    if-opens o.invariant.0.good (omega arith) c.usual-q.ensures c.in-Opens.is
+
+ended : (c : Then-breaks)
+    → let o = c in
+    Stays (bytes o) o.loop-count.at o.loop-count.kind o.loop-count.count o.loop-count.depth c.in-Ends.p
+    (record { kind = 0; count = 0 })
+ended c =
+    let o = c.loop-count in
+    if-ends o.invariant.0.good (omega arith) c.usual-q.ensures c.in-Ends.is
+    (sym c.breaks.ensures ∙ c.if-breaks.true)
+
+stayed : (c : In-Stay)
+    → let o = c in
+    Stays (bytes o) o.loop-count.at o.loop-count.kind o.loop-count.count o.loop-count.depth c.in-Stay.p c.in-Stay.l
+stayed c = if-stay c.any-m.ensures c.in-Stay.is
+
+down : (c : In-Down)
+    → let o = c in
+    let g = c.m-in-Down-1.given.0 in
+    Downs (bytes o) o.loop-count.at o.loop-count.kind o.loop-count.count o.loop-count.depth g.0 g.1.0 g.1.1.0
+down c = if-down c.any-m.ensures c.in-Down.is
+
+skipped : (c : In-Skip)
+    → let o = c in
+    Skips (bytes o) o.loop-count.at o.loop-count.kind o.loop-count.count o.loop-count.depth c.in-Skip.v c.in-Skip.l
+skipped c = if-skip c.any-m.ensures c.in-Skip.is
+
+pub loop-count-init : goal.loop-count-init
+loop-count-init c =
+    let a = c.args in
+    let p = c.requires in
+    let len = around-length a.s.now a.from a.n p.1 in (
+      begins (around a.s.now a.from a.n) a.at a.heads a.kind a.count a.depth a.kinds.now a.counts.now p.3
+          (omega arith),
+      pieces_none (length a.s.now) a.from a.n a.at,
+      len,
+    )
+
+pub returns-then-depth-eq0 : goal.returns-then-depth-eq0
+returns-then-depth-eq0 c =
+    let o = c.loop-count in
+    rw c.stopped.ensures
+    (whole o.invariant.0 c.if-kind-eq-ITEMS.true c.if-count-eq0.true c.if-depth-eq0.true)
+
+pub loop-count-preserved-then-kind-eq-ITEMS : goal.loop-count-preserved-then-kind-eq-ITEMS
+loop-count-preserved-then-kind-eq-ITEMS c =
+    let o = c.loop-count in
+    (pops o.invariant.0 c.if-kind-eq-ITEMS.true c.if-count-eq0.true (omega arith), o.invariant.1, o.invariant.2)
+
+pub usual-q-requires : goal.usual-q-requires
+usual-q-requires c =
+    let o = c in
+    let p = o.requires in
+    (p.0, p.1, o.loop-count.invariant.1.spot o.loop-count.at (omega arith) c.if-at-z.true)
+
+pub loop-count-preserved-in-Past : goal.loop-count-preserved-in-Past
+loop-count-preserved-in-Past c =
+    let o = c.loop-count in
+    (stays o.invariant.0 (past (goal.at.loop-count-preserved-in-Past c).In-Past), pieces_later c.in-Past.p (omega (arith, (past (goal.at.loop-count-preserved-in-Past c).In-Past).on)) o.invariant.1, o.invariant.2)
+
+pub loop-count-preserved-in-Asks : goal.loop-count-preserved-in-Asks
+loop-count-preserved-in-Asks c =
+    let o = c.loop-count in
+    (downs o.invariant.0 (asked (goal.at.loop-count-preserved-in-Asks c).In-Asks), pieces_later c.in-Asks.p (omega (arith, (asked (goal.at.loop-count-preserved-in-Asks c).In-Asks).on)) o.invariant.1, o.invariant.2)
+
+pub loop-count-preserved-in-Opens : goal.loop-count-preserved-in-Opens
+loop-count-preserved-in-Opens c =
+    let o = c.loop-count in
+    (downs o.invariant.0 (opened (goal.at.loop-count-preserved-in-Opens c).In-Opens), pieces_later c.in-Opens.p (omega (arith, (opened (goal.at.loop-count-preserved-in-Opens c).In-Opens).on)) o.invariant.1, o.invariant.2)
+
+pub loop-count-preserved-then-breaks : goal.loop-count-preserved-then-breaks
+loop-count-preserved-then-breaks c =
+    let o = c.loop-count in
+    (stays o.invariant.0 (ended (goal.at.loop-count-preserved-then-breaks c).Then-breaks), pieces_later c.in-Ends.p (omega (arith, (ended (goal.at.loop-count-preserved-then-breaks c).Then-breaks).on)) o.invariant.1, o.invariant.2)
+
+pub any-m-requires : goal.any-m-requires
+any-m-requires c =
+    let p = c.requires in
+    let o = c.loop-count in (
+      p.0,
+      p.1,
+      omega (arith, o.invariant.2, o.invariant.0.place),
+      o.invariant.0.good,
+      ⊎_elim (λ x. omega (arith, x.0.taken, x.1.left))
+          (⊎_elim (λ x. omega (arith, x.0.left)) (⊎_elim (λ x. omega (arith, x.0.left)) (λ x. omega (arith, x.0.left))))
+          c.if-count-eq0.branch,
+    )
+
+pub loop-count-preserved-in-Stay : goal.loop-count-preserved-in-Stay
+loop-count-preserved-in-Stay c =
+    let o = c.loop-count in
+    let piece = c.piece_of-z.ensures in
+    (stays o.invariant.0 (stayed (goal.at.loop-count-preserved-in-Stay c).In-Stay), pieces_later c.in-Stay.p (omega (arith, (stayed (goal.at.loop-count-preserved-in-Stay c).In-Stay).on)) piece, o.invariant.2)
+
+pub loop-count-preserved : goal.loop-count-preserved
+loop-count-preserved c =
+    let o = c.loop-count in
+    let piece = c.piece_of-z.ensures in
+    (downs o.invariant.0 (down (goal.at.loop-count-preserved c).In-Down), pieces_later c.in-Down.p (omega (arith, (down (goal.at.loop-count-preserved c).In-Down).on)) piece, o.invariant.2)
+
+pub returns-in-Skip : goal.returns-in-Skip
+returns-in-Skip c =
+    let o = c.loop-count in rw c.stopped-in-Skip.ensures (skips o.invariant.0 o.invariant.2 (skipped (goal.at.returns-in-Skip c).In-Skip))
+
+pub returns-in-Fault : goal.returns-in-Fault
+returns-in-Fault c =
+    let o = c.loop-count in
+    rw c.stopped-in-Fault.ensures (faults o.invariant.0 c.in-Fault.is c.any-m.ensures)
+
+pub returns-in-Lack : goal.returns-in-Lack
+returns-in-Lack c =
+    let o = c.loop-count in
+    rw c.stopped-in-Lack.ensures (lacks o.invariant.0 c.in-Lack.is c.any-m.ensures)
+
+pub bounds-kinds-depth : goal.bounds-kinds-depth
+bounds-kinds-depth c = omega (arith, sizes (goal.at.bounds-kinds-depth c).At-loop-count)
+
+pub offset_bounds-counts-depth : goal.offset_bounds-counts-depth
+offset_bounds-counts-depth c = omega (arith, sizes (goal.at.offset_bounds-counts-depth c).At-loop-count)
+
+pub bounds-counts-depth : goal.bounds-counts-depth
+bounds-counts-depth c = omega (arith, sizes (goal.at.bounds-counts-depth c).At-loop-count)
+
+pub overflow_add-at : goal.overflow_add-at
+overflow_add-at c = omega (arith, spot (goal.at.overflow_add-at c).At-loop-count c.if-at-z.true)
+
+pub overflow_sub-at : goal.overflow_sub-at
+overflow_sub-at c = omega (arith, spot (goal.at.overflow_sub-at c).At-loop-count c.if-at-z.true)
+
+pub overflow_add-heads : goal.overflow_add-heads
+overflow_add-heads c = omega (arith, past (goal.at.overflow_add-heads c).In-Past, sizes (goal.at.overflow_add-heads c).At-loop-count)
+
+pub loop-count-smaller-in-Past : goal.loop-count-smaller-in-Past
+loop-count-smaller-in-Past c = omega (arith, past (goal.at.loop-count-smaller-in-Past c).In-Past, sizes (goal.at.loop-count-smaller-in-Past c).At-loop-count)
+
+pub bounds-kinds-depth-in-Asks : goal.bounds-kinds-depth-in-Asks
+bounds-kinds-depth-in-Asks c = omega (arith, asked (goal.at.bounds-kinds-depth-in-Asks c).In-Asks, sizes (goal.at.bounds-kinds-depth-in-Asks c).At-loop-count)
+
+pub offset_bounds-counts-depth-in-Asks : goal.offset_bounds-counts-depth-in-Asks
+offset_bounds-counts-depth-in-Asks c = omega (arith, asked (goal.at.offset_bounds-counts-depth-in-Asks c).In-Asks, sizes (goal.at.offset_bounds-counts-depth-in-Asks c).At-loop-count)
+
+pub bounds-counts-depth-in-Asks : goal.bounds-counts-depth-in-Asks
+bounds-counts-depth-in-Asks c = omega (arith, asked (goal.at.bounds-counts-depth-in-Asks c).In-Asks, sizes (goal.at.bounds-counts-depth-in-Asks c).At-loop-count)
+
+pub overflow_add-depth : goal.overflow_add-depth
+overflow_add-depth c = omega (arith, asked (goal.at.overflow_add-depth c).In-Asks, sizes (goal.at.overflow_add-depth c).At-loop-count)
+
+pub overflow_add-heads-in-Asks : goal.overflow_add-heads-in-Asks
+overflow_add-heads-in-Asks c = omega (arith, asked (goal.at.overflow_add-heads-in-Asks c).In-Asks, sizes (goal.at.overflow_add-heads-in-Asks c).At-loop-count)
+
+pub loop-count-smaller-in-Asks : goal.loop-count-smaller-in-Asks
+loop-count-smaller-in-Asks c = omega (arith, asked (goal.at.loop-count-smaller-in-Asks c).In-Asks, sizes (goal.at.loop-count-smaller-in-Asks c).At-loop-count)
+
+pub bounds-kinds-depth-in-Opens : goal.bounds-kinds-depth-in-Opens
+bounds-kinds-depth-in-Opens c = omega (arith, opened (goal.at.bounds-kinds-depth-in-Opens c).In-Opens, sizes (goal.at.bounds-kinds-depth-in-Opens c).At-loop-count)
+
+pub offset_bounds-counts-depth-in-Opens : goal.offset_bounds-counts-depth-in-Opens
+offset_bounds-counts-depth-in-Opens c = omega (arith, opened (goal.at.offset_bounds-counts-depth-in-Opens c).In-Opens, sizes (goal.at.offset_bounds-counts-depth-in-Opens c).At-loop-count)
+
+pub bounds-counts-depth-in-Opens : goal.bounds-counts-depth-in-Opens
+bounds-counts-depth-in-Opens c = omega (arith, opened (goal.at.bounds-counts-depth-in-Opens c).In-Opens, sizes (goal.at.bounds-counts-depth-in-Opens c).At-loop-count)
+
+pub overflow_add-depth-in-Opens : goal.overflow_add-depth-in-Opens
+overflow_add-depth-in-Opens c = omega (arith, opened (goal.at.overflow_add-depth-in-Opens c).In-Opens, sizes (goal.at.overflow_add-depth-in-Opens c).At-loop-count)
+
+pub overflow_add-heads-in-Opens : goal.overflow_add-heads-in-Opens
+overflow_add-heads-in-Opens c = omega (arith, opened (goal.at.overflow_add-heads-in-Opens c).In-Opens, sizes (goal.at.overflow_add-heads-in-Opens c).At-loop-count)
+
+pub loop-count-smaller-in-Opens : goal.loop-count-smaller-in-Opens
+loop-count-smaller-in-Opens c = omega (arith, opened (goal.at.loop-count-smaller-in-Opens c).In-Opens, sizes (goal.at.loop-count-smaller-in-Opens c).At-loop-count)
+
+pub overflow_add-heads-then-breaks : goal.overflow_add-heads-then-breaks
+overflow_add-heads-then-breaks c = omega (arith, ended (goal.at.overflow_add-heads-then-breaks c).Then-breaks, sizes (goal.at.overflow_add-heads-then-breaks c).At-loop-count)
+
+pub loop-count-smaller-then-breaks : goal.loop-count-smaller-then-breaks
+loop-count-smaller-then-breaks c = omega (arith, ended (goal.at.loop-count-smaller-then-breaks c).Then-breaks, sizes (goal.at.loop-count-smaller-then-breaks c).At-loop-count)
+
+pub piece_of-z-requires : goal.piece_of-z-requires
+piece_of-z-requires c = let p = c.requires in (p.0, p.1)
+
+pub overflow_add-heads-in-Stay : goal.overflow_add-heads-in-Stay
+overflow_add-heads-in-Stay c = omega (arith, stayed (goal.at.overflow_add-heads-in-Stay c).In-Stay, sizes (goal.at.overflow_add-heads-in-Stay c).At-loop-count)
+
+pub loop-count-smaller-in-Stay : goal.loop-count-smaller-in-Stay
+loop-count-smaller-in-Stay c = omega (arith, stayed (goal.at.loop-count-smaller-in-Stay c).In-Stay, sizes (goal.at.loop-count-smaller-in-Stay c).At-loop-count)
+
+pub bounds-kinds-depth-in-Down : goal.bounds-kinds-depth-in-Down
+bounds-kinds-depth-in-Down c = omega (arith, down (goal.at.bounds-kinds-depth-in-Down c).In-Down, sizes (goal.at.bounds-kinds-depth-in-Down c).At-loop-count)
+
+pub offset_bounds-counts-depth-in-Down : goal.offset_bounds-counts-depth-in-Down
+offset_bounds-counts-depth-in-Down c = omega (arith, down (goal.at.offset_bounds-counts-depth-in-Down c).In-Down, sizes (goal.at.offset_bounds-counts-depth-in-Down c).At-loop-count)
+
+pub bounds-counts-depth-in-Down : goal.bounds-counts-depth-in-Down
+bounds-counts-depth-in-Down c = omega (arith, down (goal.at.bounds-counts-depth-in-Down c).In-Down, sizes (goal.at.bounds-counts-depth-in-Down c).At-loop-count)
+
+pub overflow_add-depth-in-Down : goal.overflow_add-depth-in-Down
+overflow_add-depth-in-Down c = omega (arith, down (goal.at.overflow_add-depth-in-Down c).In-Down, sizes (goal.at.overflow_add-depth-in-Down c).At-loop-count)
+
+pub overflow_add-heads-in-Down : goal.overflow_add-heads-in-Down
+overflow_add-heads-in-Down c = omega (arith, down (goal.at.overflow_add-heads-in-Down c).In-Down, sizes (goal.at.overflow_add-heads-in-Down c).At-loop-count)
+
+pub loop-count-smaller : goal.loop-count-smaller
+loop-count-smaller c = omega (arith, down (goal.at.loop-count-smaller c).In-Down, sizes (goal.at.loop-count-smaller c).At-loop-count)
+
+pub overflow_add-heads-in-Skip : goal.overflow_add-heads-in-Skip
+overflow_add-heads-in-Skip c = omega (arith, skipped (goal.at.overflow_add-heads-in-Skip c).In-Skip, sizes (goal.at.overflow_add-heads-in-Skip c).At-loop-count)

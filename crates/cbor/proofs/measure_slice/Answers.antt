@@ -1,0 +1,10 @@
+-- `cbor::measure_slice` meets its contract: a around-all slice is a ring that does not wrap.
+use mathlib.Core.Path.{ap, ◌∙◌}
+use borrow.Author.Rules.{rules}
+use Rattle.item.specs.Verdict.{verdict}
+use Rattle.ring.proofs.Around.{around_all}
+use Rattle.cbor.proofs.measure_slice.Goals as goal
+
+pub returns : goal.returns
+returns c =
+    c.measure.ensures ∙ ap verdict (around_all c.args.s.now)

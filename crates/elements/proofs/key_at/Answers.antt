@@ -1,0 +1,10 @@
+-- `elements::key_at` meets its contract: a number, or none, as the definition goes by.
+use Rattle.elements.proofs.Steps.{key-is, key-not}
+use borrow.Author.Rules.{rules}
+use Rattle.elements.proofs.key_at.Goals as goal
+
+pub returns-in-Is : goal.returns-in-Is
+returns-in-Is c = key-is _ _ _ c.unsigned_at-key.ensures c.in-Is.is c.and.ensures c.number_if.ensures
+
+pub returns-in-Not : goal.returns-in-Not
+returns-in-Not c = key-not _ _ _ c.unsigned_at-key.ensures c.in-Not.is

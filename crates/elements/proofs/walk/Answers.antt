@@ -1,0 +1,70 @@
+-- `elements::walk` meets its contract: the loop's invariant is that the elements left, behind those that are passed, come to what all of them come to.
+use mathlib.Core.Path.{◌≡◌, ap, ◌∙◌}
+use Prim.Native.Nat.{ℕ, ◌-◌, ◌≤◌}
+use native.Mathlib.Omega.{arith}
+use borrow.Author.Tests.{not-true, not-false}
+use lib.ListN.{length}
+use Rattle.ring.specs.Inside.{around}
+use Rattle.ring.proofs.Around.{around-length}
+use Rattle.elements.specs.Reading.{walk, elements_of}
+use Rattle.elements.proofs.Steps.{walk_end, walk-stop, walk-forward, walk-on}
+use borrow.Author.Rules.{rules}
+use Rattle.elements.proofs.walk.Goals as goal
+
+pub loop-e-init : goal.loop-e-init
+loop-e-init c =
+    let a = c.args in
+    let bs = around a.s.now a.from a.n in
+    let z : length bs - 0 ≡ length bs = omega arith in
+    (omega arith, ap (λ (b : ℕ). walk bs a.d a.e a.x b 0 0 a.first) z)
+
+pub returns-in_default : goal.returns-in_default
+returns-in_default c =
+    let a = c.args in
+    let l = c.loop-e in
+    walk-stop (around a.s.now a.from a.n) a.d a.e a.x l.k l.low l.at
+    c.is_closed.ensures (not-true _ c.loop-e-test.true) c.element_at-next.ensures
+    c.in_default.is
+    ∙ l.invariant.1
+
+pub overflow_add-k : goal.overflow_add-k
+overflow_add-k c =
+    let a = c.args in
+    let l = c.loop-e in
+    let long = around-length a.s.now a.from a.n (omega arith) in
+    let on = walk-forward (around a.s.now a.from a.n) a.d a.e a.x l.k l.low l.at
+    c.is_closed.ensures (not-true _ c.loop-e-test.true)
+    c.element_at-next.ensures c.in-Is.is in
+    record { fits = omega (arith, on) }
+
+pub loop-e-smaller : goal.loop-e-smaller
+loop-e-smaller c =
+    let a = c.args in
+    let l = c.loop-e in
+    let long = around-length a.s.now a.from a.n (omega arith) in
+    let on = walk-forward (around a.s.now a.from a.n) a.d a.e a.x l.k l.low l.at
+    c.is_closed.ensures (not-true _ c.loop-e-test.true)
+    c.element_at-next.ensures c.in-Is.is in
+    omega (arith, on)
+
+pub loop-e-preserved : goal.loop-e-preserved
+loop-e-preserved c =
+    let a = c.args in
+    let l = c.loop-e in
+    let long = around-length a.s.now a.from a.n (omega arith) in
+    let on = walk-forward (around a.s.now a.from a.n) a.d a.e a.x l.k l.low l.at
+    c.is_closed.ensures (not-true _ c.loop-e-test.true)
+    c.element_at-next.ensures c.in-Is.is in (
+      omega (arith, on, l.invariant.0),
+      walk-on (around a.s.now a.from a.n) a.d a.e a.x l.k l.low l.at
+          c.is_closed.ensures (not-true _ c.loop-e-test.true)
+          c.element_at-next.ensures c.in-Is.is l.invariant.0
+          ∙ l.invariant.1,
+    )
+
+pub returns : goal.returns
+returns c =
+    let a = c.args in
+    let l = c.loop-e in
+    walk_end (around a.s.now a.from a.n) a.d a.e a.x l.k l.low l.at c.is_closed.ensures (not-false _ c.loop-e-test.false)
+    ∙ l.invariant.1

@@ -1,0 +1,17 @@
+use mathlib.Core.Path.{◌≡◌, ap, ◌∙◌}
+use Prim.Native.Nat.{ℕ, ◌-◌, ◌≤◌}
+use native.Mathlib.Omega.{arith}
+use borrow.Author.Tests.{not-true, not-false}
+use lib.ListN.{length}
+use Rattle.ring.specs.Inside.{around}
+use Rattle.ring.proofs.Around.{around-length}
+use Rattle.elements.specs.Reading.{walk, elements_of}
+use Rattle.elements.proofs.Steps.{walk_end, walk-stop, walk-forward, walk-on}
+use borrow.Author.Rules.{rules}
+use Rattle.elements.proofs.walk.Given as goal
+
+abbrev pub invariant-loop-e : goal.invariant-loop-e
+invariant-loop-e l = (l.k ≤ l.at) × (walk (around l.s l.from l.n) l.d l.e l.x (length (around l.s l.from l.n) - l.k) l.k l.low l.at ≡ elements_of (around l.s l.from l.n) l.d l.e l.x l.first)
+
+abbrev pub decreases-loop-e : goal.decreases-loop-e
+decreases-loop-e l = l.n - l.at

@@ -1,0 +1,42 @@
+-- `messages::filled` meets its contract: the fields are read, and where that stopped, it is told whether the array has as many elements as the form.
+use mathlib.Core.Path.{◌≡◌, ◌∙◌}
+use native.Mathlib.Omega.{arith}
+use lib.ListN.{length}
+use Rattle.ring.specs.Inside.{around}
+use Rattle.ring.proofs.Around.{around-length}
+use Rattle.messages.specs.Reading.{count_from}
+use Rattle.messages.specs.Inside.{form_at}
+use Rattle.messages.proofs.FieldLaws.{kind-item, last-known, count-told, count_right, count-wrong}
+use borrow.Author.Rules.{rules}
+use Rattle.messages.proofs.filled.Goals as goal
+
+pub fields-stop-requires : goal.fields-stop-requires
+fields-stop-requires c =
+    let s = c in
+    let a = s.args in
+    let bs = around a.s.now a.from a.n in
+    let long : length bs ≡ a.n = around-length a.s.now a.from a.n (omega arith) in (
+      (search rules, search rules, s.requires.0.2, omega (arith, long, (kind-item bs s.requires.1).inside)),
+      λ q e. last-known bs a.x c.fields.ensures.0 s.requires.1 long c.last_end.ensures e,
+    )
+
+pub returns-then-has_count : goal.returns-then-has_count
+returns-then-has_count c =
+    let s = c in
+    let a = s.args in
+    let bs = around a.s.now a.from a.n in
+    let stop = c.fields-stop in
+    count_right bs (form_at a.row).fields (count_from bs a.x a.first) a.kind a.next
+    (count-told bs a.x c.fields.ensures.0 s.requires.1 c.has_count.ensures stop.ensures.1)
+    c.if-has_count.true stop.ensures.0
+
+pub returns : goal.returns
+returns c =
+    let s = c in
+    let a = s.args in
+    let bs = around a.s.now a.from a.n in
+    let stop = c.fields-stop in
+    c.fail.ensures
+    ∙ count-wrong bs (form_at a.row).fields (count_from bs a.x a.first) a.kind a.next
+    (count-told bs a.x c.fields.ensures.0 s.requires.1 c.has_count.ensures stop.ensures.1)
+    c.if-has_count.false

@@ -1,0 +1,23 @@
+-- `messages::opened` meets its contract: the kind, or that there is none, as the definition goes by.
+use mathlib.Core.Path.{sym, ap, ◌∙◌}
+use native.Mathlib.Omega.{arith}
+use Rattle.ring.proofs.Around.{around-length}
+use Rattle.item.specs.declared.Verdict.TheVariants.{Whole}
+use Rattle.messages.proofs.FieldLaws.{kind-named, kind-none}
+use borrow.Author.Rules.{rules}
+use Rattle.messages.proofs.opened.Goals as goal
+
+pub formed-requires : goal.formed-requires
+formed-requires c =
+    let s = c in
+    let a = s.args in
+    let long = around-length a.s.now a.from a.n (omega arith) in (
+      (search rules, search rules),
+      (s.requires.0.2 ∙ ap Whole (sym long), s.requires.1, sym c.unsigned_at-kind.ensures ∙ c.in-Is.is),
+    )
+
+pub returns-in-Is : goal.returns-in-Is
+returns-in-Is c = kind-named _ _ _ _ c.unsigned_at-kind.ensures c.in-Is.is c.formed.ensures
+
+pub returns-in-Not : goal.returns-in-Not
+returns-in-Not c = c.fail.ensures ∙ kind-none _ _ _ _ c.unsigned_at-kind.ensures c.in-Not.is

@@ -1,0 +1,29 @@
+-- `messages::read` meets its contract: an array, or none, as the definition goes by.
+use mathlib.Core.Path.{sym, ap, ◌∙◌}
+use native.Mathlib.Omega.{arith}
+use Rattle.ring.specs.Inside.{around}
+use Rattle.ring.proofs.Around.{around-length}
+use Rattle.item.specs.declared.Verdict.TheVariants.{Whole}
+use Rattle.messages.proofs.FieldLaws.{message-array, message-none}
+use borrow.Author.Rules.{rules}
+use Rattle.messages.proofs.read.Goals as goal
+
+pub opened-requires : goal.opened-requires
+opened-requires c =
+    ((search rules, search rules, c.requires.2), sym c.opens_at-array.ensures ∙ c.in-At.is)
+
+pub returns-in-At : goal.returns-in-At
+returns-in-At c =
+    let a = c.args in
+    let bs = around a.s.now a.from a.n in
+    let long = around-length a.s.now a.from a.n (omega arith) in
+    message-array bs a.p (c.requires.2 ∙ ap Whole (sym long)) c.opens_at-array.ensures
+    c.in-At.is c.opened.ensures
+
+pub returns-in-Not : goal.returns-in-Not
+returns-in-Not c =
+    let a = c.args in
+    let bs = around a.s.now a.from a.n in
+    let long = around-length a.s.now a.from a.n (omega arith) in
+    c.fail.ensures
+    ∙ message-none bs a.p (c.requires.2 ∙ ap Whole (sym long)) c.opens_at-array.ensures c.in-Not.is

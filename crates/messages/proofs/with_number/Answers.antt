@@ -1,0 +1,7 @@
+-- `messages::with_number` meets its contract: the number is set behind those before it.
+use Rattle.messages.proofs.FieldLaws.{number-said}
+use borrow.Author.Rules.{rules}
+use Rattle.messages.proofs.with_number.Goals as goal
+
+pub returns : goal.returns
+returns c = let a = c.args in number-said a.m a.v c.set_number-numbers.ensures

@@ -1,0 +1,36 @@
+-- `moves::follows` meets its contract: each arm does what the content of its major type asks for.
+use native.Mathlib.Omega.{arith}
+use borrow.Author.Rules.{rules}
+use Rattle.moves.proofs.AnyHead.{follow-number, follow-array, follow-map, follow-tag}
+use Rattle.moves.proofs.follows.Goals as goal
+
+pub returns-in-Number : goal.returns-in-Number
+returns-in-Number c =
+    let a = c.args in
+    rw c.in-Number.is (λ xs at k n d e b q s g l r t. follow-number xs at k n d a.p a.left b (omega arith) s l g a.v t)
+
+pub returns-in-Bytes : goal.returns-in-Bytes
+returns-in-Bytes c =
+    rw c.in-Bytes.is (λ xs at k n d e b q s g l r t. c.string.ensures xs at k n d e b q s g l t)
+
+pub returns-in-Text : goal.returns-in-Text
+returns-in-Text c =
+    rw c.in-Text.is (λ xs at k n d e b q s g l r t. c.string-in-Text.ensures xs at k n d e b q s g l t)
+
+pub returns-in-Array : goal.returns-in-Array
+returns-in-Array c =
+    let a = c.args in
+    rw (c.in-Array.is, c.down.ensures)
+    (λ xs at k n d e b q s g l r t. follow-array xs at k n d a.p a.left b (omega arith) s l g a.v r t)
+
+pub returns-in-Map : goal.returns-in-Map
+returns-in-Map c =
+    let a = c.args in
+    rw c.in-Map.is
+    (λ xs at k n d e b q s g l r t. follow-map xs at k n d a.p a.left b (omega arith) s l g a.v c.pairs.result c.pairs.ensures r t)
+
+pub returns-in-Tag : goal.returns-in-Tag
+returns-in-Tag c =
+    let a = c.args in
+    rw (c.in-Tag.is, c.down-in-Tag.ensures)
+    (λ xs at k n d e b q s g l r t. follow-tag xs at k n d a.p a.left b (omega arith) s l g a.v r t)

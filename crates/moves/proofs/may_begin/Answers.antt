@@ -1,0 +1,12 @@
+-- `moves::may_begin` meets its contract: kinds below four want items, the others chunks.
+use borrow.Author.Tests.{lt-ltb, le-ltb}
+use borrow.Author.Rules.{rules}
+use Rattle.moves.proofs.may_begin.Goals as goal
+
+pub returns-then-kind-lt-BYTES : goal.returns-then-kind-lt-BYTES
+returns-then-kind-lt-BYTES c =
+    rw (lt-ltb _ _ c.if-kind-lt-BYTES.true) c.room_for.ensures
+
+pub returns : goal.returns
+returns c =
+    rw (le-ltb _ _ c.if-kind-lt-BYTES.false) c.chunk_of.ensures

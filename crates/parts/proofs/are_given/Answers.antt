@@ -1,0 +1,6 @@
+-- `parts::are_given` meets its contract: the tests are those of the definition.
+use borrow.Author.Rules.{rules}
+use Rattle.parts.proofs.are_given.Goals as goal
+
+pub returns : goal.returns
+returns c = rw (c.and-2.ensures, c.and.ensures, c.or-two.ensures, c.or-one.ensures)

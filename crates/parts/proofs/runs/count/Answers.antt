@@ -1,0 +1,10 @@
+-- `parts::runs::count` meets its contract: the run is a ring that does not wrap.
+use Rattle.parts.proofs.RunLaws.{count-here}
+use borrow.Author.Rules.{rules}
+use Rattle.parts.proofs.runs.count.Goals as goal
+
+pub returns-in-Is : goal.returns-in-Is
+returns-in-Is c = count-here _ _ c.walk-found.ensures c.in-Is.is
+
+pub returns-in-Not : goal.returns-in-Not
+returns-in-Not c = count-here _ _ c.walk-found.ensures c.in-Not.is

@@ -1,0 +1,14 @@
+use mathlib.Core.Path.{◌≡◌, refl, sym, ap, ◌∙◌}
+use mathlib.Core.Bool.{true}
+use Prim.Native.Nat.{◌-◌, ◌<◌}
+use native.Mathlib.Omega.{arith}
+use Rattle.ready.specs.Inside.{bit_set, seek_in}
+use Rattle.ready.proofs.ReadyLaws.{seek_hit, seek_on}
+use borrow.Author.Rules.{rules}
+use Rattle.ready.proofs.choose.Given as goal
+
+abbrev pub invariant-loop-left : goal.invariant-loop-left
+invariant-loop-left l = (l.i < l.n) × (seek_in l.n l.word l.i l.left ≡ seek_in l.n l.word l.turn (l.n - 1))
+
+abbrev pub decreases-loop-left : goal.decreases-loop-left
+decreases-loop-left l = l.left

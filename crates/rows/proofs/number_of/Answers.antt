@@ -1,0 +1,6 @@
+-- `rows::number_of` meets its contract: the place is the protocol's.
+use borrow.Author.Rules.{rules}
+use Rattle.rows.proofs.number_of.Goals as goal
+
+pub returns : goal.returns
+returns c = rw c.place-at.ensures.0

@@ -1,0 +1,14 @@
+-- `rows::spoken::protocol` meets its contract: the table has the protocol of each number.
+use mathlib.Core.Path.{◌≡◌, ap, ◌∙◌}
+use Prim.Native.Nat.{ℕ, zero, suc, ◌<◌}
+use borrow.Author.Rules.{rules}
+use native.Mathlib.Omega.{arith}
+use lib.ListN.{get_or}
+use Rattle.wire.specs.Inside.{numbers}
+use Rattle.rows.specs.Spoken.{spoken, speaks}
+use Rattle.rows.proofs.SpokenLaws.{by_number, spoken_right}
+use Rattle.rows.proofs.spoken.protocol.Goals as goal
+
+pub returns : goal.returns
+unfolding speaks by_number
+returns c = spoken_right _ c.protocol.ensures.1 ∙ ap spoken c.protocol.ensures.0

@@ -1,0 +1,14 @@
+use mathlib.Core.Path.{◌≡◌, refl, ◌∙◌}
+use mathlib.Core.Logic.{◌⊎◌, inl, inr}
+use Prim.Native.Nat.{◌-◌, ◌≤◌}
+use native.Mathlib.Omega.{arith}
+use Rattle.point_log.specs.Log.{rises_to}
+use Rattle.point_log.proofs.SearchLaws.{rises_more, rises_end}
+use borrow.Author.Rules.{rules}
+use Rattle.slices.proofs.rises.Given as goal
+
+abbrev pub invariant-loop-i : goal.invariant-loop-i
+invariant-loop-i l = (1 ≤ l.i) × ((l.i ≤ l.n) ⊎ (l.i ≡ 1)) × (l.good ≡ rises_to l.slots l.i)
+
+abbrev pub decreases-loop-i : goal.decreases-loop-i
+decreases-loop-i l = l.n - l.i
