@@ -22,7 +22,7 @@ returns-then-n-at c =
 
 -- once the byte is told: the bytes, the head by what the byte says, and how many bytes can follow it
 abbrev bytes : After-initial_of-says → List ℕ
-bytes c = let a = c.before.before.before.before.args in around a.s.now a.from a.n
+bytes c = let a = c.args in around a.s.now a.from a.n
 
 by : (c : After-initial_of-says) {i : Initial} → c.initial_of-says.result ≡ i
     → head_by i (bytes c) (c.byte_at-b.result / 32) (c.args.at + 1)

@@ -1,12 +1,10 @@
 -- `head::read::number_at` meets its contract: after j turns v is the number that the first j bytes spell.
 use mathlib.Core.Path.{◌≡◌, refl}
-use Prim.Native.Nat.{◌-◌, ◌^◌, ◌≤◌, ◌<◌}
 use native.Mathlib.Omega.{arith}
 use borrow.Author.Rules.{rules}
 use lib.ListN.{length}
-use Rattle.base.specs.Numbers.{spelled, number}
+use Rattle.base.specs.Numbers.{spelled}
 use Rattle.base.proofs.NumberLaws.{number_more, room, grows}
-use Rattle.ring.specs.Ring.{run}
 use Rattle.ring.specs.Inside.{around}
 use Rattle.ring.proofs.Around.{around-length}
 use Rattle.head.proofs.read.number_at.Goals as goal

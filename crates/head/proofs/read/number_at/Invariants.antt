@@ -1,13 +1,8 @@
-use mathlib.Core.Path.{◌≡◌, refl}
+use mathlib.Core.Path.{◌≡◌}
 use Prim.Native.Nat.{◌-◌, ◌^◌, ◌≤◌, ◌<◌}
-use native.Mathlib.Omega.{arith}
-use borrow.Author.Rules.{rules}
-use lib.ListN.{length}
-use Rattle.base.specs.Numbers.{spelled, number}
-use Rattle.base.proofs.NumberLaws.{number_more, room, grows}
+use Rattle.base.specs.Numbers.{number}
 use Rattle.ring.specs.Ring.{run}
 use Rattle.ring.specs.Inside.{around}
-use Rattle.ring.proofs.Around.{around-length}
 use Rattle.head.proofs.read.number_at.Given as goal
 
 abbrev pub invariant-loop-j : goal.invariant-loop-j

@@ -1,7 +1,6 @@
 -- `head::write::write_head` meets its contract: the first byte is stored, and then the bytes of the argument.
 use mathlib.Core.Path.{ap, ◌∙◌}
 use native.Mathlib.Omega.{arith}
-use borrow.Author.Rules.{rules}
 use lib.ListN.{length, length-set}
 use lib.Seq.{length-sets}
 use Rattle.head.specs.declared.write.Width.{Width}
