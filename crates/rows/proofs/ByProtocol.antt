@@ -101,13 +101,13 @@ module _ {A : Type 0} (of : Protocol → List A) where
   module _ {B : Type 0} (s : Search A B) where
     -- a search that has come to i: the entries from there on say what all from a up to e do
     pub record Come (a e i : ℕ) : Type 0 where
-      pub up_to_lem : i ≤ e
+      pub up_to : i ≤ e
       pub inside : e ≤ length (table of)
       pub same : s.along (between i e) ≡ s.along (between a e)
 
     -- it begins at a protocol's first entry
     pub begun : (p : Protocol) {a n : ℕ} → a ≡ firstIn of p → n ≡ countIn of p → Come a (a + n) a
-    begun p from size = record { up_to_lem = omega arith; inside = omega (arith, ends p); same = refl }
+    begun p from size = record { up_to = omega arith; inside = omega (arith, ends p); same = refl }
 
     abbrev here : ℕ → A
     here i = get_or (table of) i s.past
@@ -116,7 +116,7 @@ module _ {A : Type 0} (of : Protocol → List A) where
     tests i e h l = ap s.along (between_more s.past i e h l) ∙ s.each (here i) (between (i + 1) e)
 
     pub onward : {a e i : ℕ} → Come a e i → i < e → s.test (here i) ≡ false → Come a e (i + 1)
-    onward {a} {e} {i} k m t = record { up_to_lem = omega arith; inside = k.inside; same = sym (rw t at (tests i e m k.inside)) ∙ k.same }
+    onward {a} {e} {i} k m t = record { up_to = omega arith; inside = k.inside; same = sym (rw t at (tests i e m k.inside)) ∙ k.same }
 
     module _ (p : Protocol) {a n i : ℕ} (from : a ≡ firstIn of p) (size : n ≡ countIn of p) (come : Come a (a + n) i) where
       pub found : i < a + n → s.test (here i) ≡ true → s.said (here i) ≡ s.along (of p)

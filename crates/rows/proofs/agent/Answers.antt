@@ -1,12 +1,12 @@
 -- `rows::agent` meets its contract. The loop's invariant: the rows from i on say what all of the protocol's do.
 use mathlib.Core.Path.{sym, ◌∙◌}
-use Prim.Native.Nat.{◌-◌, ◌<◌}
+use Prim.Native.Nat.{◌<◌}
 use native.Mathlib.Omega.{arith}
 use borrow.Author.Rules.{rules}
 use borrow.Author.Tests.{eq-eqb, ne_eqb}
 use Rattle.rows.specs.Rows.{rows_of, agency_in, place_in}
 use Rattle.rows.specs.Inside.{entries, row_count}
-use Rattle.rows.proofs.ByProtocol.{Come, ends, begun, onward, found, none_found}
+use Rattle.rows.proofs.ByProtocol.{ends, begun, onward, found, none_found}
 use Rattle.rows.proofs.RowLaws.{state-at, agent-at, holding}
 use Rattle.rows.proofs.agent.Goals as goal
 
@@ -47,3 +47,15 @@ returns c =
     let f = c.first-i in
     let n = c.count in
     none_found rows_of (holding a.state) a.p f.ensures n.ensures c.loop-i.invariant (search rules)
+
+pub offset_bounds-table-i : goal.offset_bounds-table-i
+unfolding entries place_in
+offset_bounds-table-i c = search rules
+
+pub bounds-table-i : goal.bounds-table-i
+unfolding entries place_in
+bounds-table-i c = search rules
+
+pub overflow_add-i : goal.overflow_add-i
+unfolding entries place_in
+overflow_add-i c = search rules

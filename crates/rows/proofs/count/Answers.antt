@@ -1,6 +1,5 @@
 -- `rows::count` meets its contract: the table by protocol has it.
 use mathlib.Core.Path.{◌∙◌}
-use borrow.Author.Rules.{rules}
 use Rattle.rows.specs.Inside.{countIn}
 use Rattle.rows.specs.Rows.{rows_of}
 use Rattle.rows.proofs.ByProtocol.{number_of}

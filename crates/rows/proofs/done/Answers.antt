@@ -1,6 +1,5 @@
 -- `rows::done` meets its contract: the table by protocol has it.
 use mathlib.Core.Path.{◌∙◌}
-use borrow.Author.Rules.{rules}
 use Rattle.rows.specs.Rows.{done_of, place_in}
 use Rattle.rows.proofs.ByProtocol.{number_of}
 use Rattle.rows.proofs.done.Goals as goal

@@ -1,6 +1,5 @@
 -- `rows::first` meets its contract: the table by protocol has it.
 use mathlib.Core.Path.{◌∙◌}
-use borrow.Author.Rules.{rules}
 use Rattle.rows.specs.Inside.{firstIn, entries}
 use Rattle.rows.specs.Rows.{rows_of, place_in}
 use Rattle.rows.proofs.ByProtocol.{number_of}

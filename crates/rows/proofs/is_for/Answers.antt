@@ -1,5 +1,4 @@
 -- `rows::is_for` meets its contract: the tests are those of the definition, on the row's columns.
-use borrow.Author.Rules.{rules}
 use Rattle.rows.proofs.is_for.Goals as goal
 
 pub returns : goal.returns

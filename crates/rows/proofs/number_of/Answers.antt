@@ -1,5 +1,4 @@
 -- `rows::number_of` meets its contract: the place is the protocol's.
-use borrow.Author.Rules.{rules}
 use Rattle.rows.proofs.number_of.Goals as goal
 
 pub returns : goal.returns

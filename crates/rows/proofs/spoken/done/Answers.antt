@@ -1,6 +1,5 @@
 -- `rows::spoken::done` meets its contract: the array by instance has it.
 use native.Mathlib.Omega.{arith}
-use borrow.Author.Rules.{rules}
 use Rattle.wire.proofs.InstanceLaws.{at_most}
 use Rattle.rows.proofs.spoken.done.Goals as goal
 

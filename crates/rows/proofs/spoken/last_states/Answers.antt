@@ -1,6 +1,5 @@
 -- `rows::spoken::last_states` meets its contract: the table has each bundle's last states, and an unknown one has no instance.
 use native.Mathlib.Omega.{arith}
-use borrow.Author.Rules.{rules}
 use Rattle.wire.proofs.InstanceLaws.{none_unknown}
 use Rattle.rows.specs.Rows.{place_in}
 use Rattle.rows.proofs.SpokenLaws.{lasts, last_right}

@@ -1,10 +1,5 @@
 -- `rows::spoken::protocol` meets its contract: the table has the protocol of each number.
-use mathlib.Core.Path.{◌≡◌, ap, ◌∙◌}
-use Prim.Native.Nat.{ℕ, zero, suc, ◌<◌}
-use borrow.Author.Rules.{rules}
-use native.Mathlib.Omega.{arith}
-use lib.ListN.{get_or}
-use Rattle.wire.specs.Inside.{numbers}
+use mathlib.Core.Path.{ap, ◌∙◌}
 use Rattle.rows.specs.Spoken.{spoken, speaks}
 use Rattle.rows.proofs.SpokenLaws.{by_number, spoken_right}
 use Rattle.rows.proofs.spoken.protocol.Goals as goal
