@@ -108,6 +108,7 @@ rest_met (then no_byte r) = rest_met r
 
 -- where nothing more is wanted, nothing more is read
 pub met-none : {fs : Stack} {b : ℕ} {bs : List ℕ} → Rest fs [] → Rest fs (b ∷ bs) → ⊥
+met-none {b = b} {bs = bs} done q = elim q [ ]
 met-none (then no_more r) (then no_more q) = met-none r q
 met-none (then (item g h) r) q = absurd (some_byte g)
 met-none (then (element g h) r) q = absurd (some_byte g)
