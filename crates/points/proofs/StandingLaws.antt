@@ -165,10 +165,13 @@ module _ (bs : List ℕ) where
   point-found (origin (definite e)) = ap (λ (h : Head). point_by bs (opening h)) e
   point-found (origin (indefinite {a = a} e f)) =
       ap (λ (h : Head). point_by bs (opening h)) e ∙ ap (λ (h : Head). on_end (broken bs (block_at bs a)) (ending h) (λ q. Stands Origin 0 q)) f
-  point-found (block {a = a} (definite e) f g h) = ap (λ (h : Head). point_by bs (opening h)) e ∙ block-found a f g h
-  point-found (block {a = a} {slot = slot} {c = c} (indefinite e k) f g h) =
-      ap (λ (h : Head). point_by bs (opening h)) e ∙ ap (λ (h : Head). on_end (broken bs (block_at bs a)) (ending h) (λ q. Stands Origin 0 q)) f
-      ∙ ap (broken bs) (block-found a f g h) ∙ ap (λ (h : Head). on_end Nothing (ending h) (λ q. Stands (Block (point slot (hash_at bs c))) 0 q)) k
+  point-found {p = p} (block {a = a} {slot = slot} {c = c} o f g h) = go o
+    where
+      go : {q : ℕ} → ArrayAt bs 2 p a (c + 32) q → point_at bs p ≡ Stands (Block (point slot (hash_at bs c))) 0 q
+      go (definite e) = ap (λ (h : Head). point_by bs (opening h)) e ∙ block-found a f g h
+      go (indefinite e k) =
+          ap (λ (h : Head). point_by bs (opening h)) e ∙ ap (λ (h : Head). on_end (broken bs (block_at bs a)) (ending h) (λ q. Stands Origin 0 q)) f
+          ∙ ap (broken bs) (block-found a f g h) ∙ ap (λ (h : Head). on_end Nothing (ending h) (λ q. Stands (Block (point slot (hash_at bs c))) 0 q)) k
 
   -- ---- tips
 
