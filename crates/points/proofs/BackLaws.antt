@@ -1,13 +1,12 @@
 -- A point or a tip written with heads of any width, in arrays of either form, stands where it was written; so it reads back.
 -- Assumes nothing.
-use Prim.Native.Nat.{ℕ, zero, suc, ◌+◌, ◌-◌, ◌≤◌}
+use Prim.Native.Nat.{ℕ, suc, ◌+◌, ◌≤◌}
 use mathlib.Core.Path.{◌≡◌, refl, sym, ap, subst, ◌∙◌}
 use mathlib.Core.List.{List, [], ◌∷◌, ◌++◌, append_assoc, append-nil}
 use native.Mathlib.Omega.{arith}
 use native.Mathlib.Nat.{add-zero, zero-add}
 use lib.ListN.{length, drop, length-append}
 use lib.Seq.{drop-append_seam}
-use Rattle.base.specs.Numbers.{number}
 use Rattle.ring.specs.Ring.{run}
 use Rattle.ring.proofs.Runs.{run_front, run_drop}
 use Rattle.head.specs.Initial.{initial}
@@ -17,7 +16,7 @@ use Rattle.head.specs.declared.read.Head.TheVariants.{Definite, Indefinite, Brea
 use Rattle.head.proofs.ReadLaws.{moved, head-moved, head-longer}
 use Rattle.points.specs.declared.Hash.{Hash}
 use Rattle.points.specs.declared.Place.{Place}
-use Rattle.points.specs.declared.Place.TheVariants.{Origin, Block}
+use Rattle.points.specs.declared.Place.TheVariants.{Block}
 use Rattle.points.specs.Points.{unsigned, bytes, array, hash_at, point}
 use Rattle.points.specs.Besides.Standing as at
 use Rattle.points.specs.Besides.Standing.{ArrayAt, PointAt, TipAt}

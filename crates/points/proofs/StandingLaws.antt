@@ -2,7 +2,7 @@
 -- Assumes nothing.
 use Prim.Native.Nat.{ℕ, ◌+◌, ◌-◌, ◌≤◌}
 use mathlib.Core.Path.{◌≡◌, refl, sym, ap, subst, ◌∙◌}
-use mathlib.Core.Bool.{Bool, true, false, cond, ◌&&◌}
+use mathlib.Core.Bool.{◌&&◌}
 use mathlib.Core.List.{List}
 use mathlib.Core.Logic.{◌↔◌}
 use native.Mathlib.Omega.{arith}
@@ -25,7 +25,7 @@ use Rattle.points.specs.declared.End.TheVariants.{At, Nowhere}
 use Rattle.points.specs.declared.Standing.{Standing}
 use Rattle.points.specs.declared.Standing.TheVariants.{Stands, Nothing}
 use Rattle.points.specs.Points.{unsigned, bytes, array, leads, opening, ending, on_number, on_end, hash_at, point, hashed, hash_behind, block_at, broken, point_by, point_at, with_number, pair_at, tip_by, tip_at, read_of, point_of, tip_of}
-use Rattle.points.specs.Besides.Standing.{ArrayAt, definite, indefinite, PointAt, origin, block, TipAt, tip, WhenPoint, a_point, no_point, WhenTip, a_tip, no_tip, read, Readings, ReadsAll}
+use Rattle.points.specs.Besides.Standing.{ArrayAt, definite, indefinite, PointAt, origin, block, TipAt, tip, WhenPoint, a_point, no_point, WhenTip, a_tip, no_tip, read, ReadsAll}
 
 -- ---- heads
 

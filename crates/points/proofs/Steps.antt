@@ -1,8 +1,8 @@
 -- Ways out of the code that reads points: by what was found, the answer is what the definition says.
 -- Assumes nothing.
 use Prim.Native.Nat.{ℕ, ◌+◌, ◌-◌, ◌≤◌}
-use mathlib.Core.Path.{◌≡◌, refl, sym, ap, ◌∙◌}
-use mathlib.Core.Bool.{Bool, true, false, cond, ◌&&◌}
+use mathlib.Core.Path.{◌≡◌, sym, ap, ◌∙◌}
+use mathlib.Core.Bool.{Bool, true, false, ◌&&◌}
 use mathlib.Core.List.{List}
 use native.Mathlib.Omega.{arith}
 use lib.Dec.{eqb, leb}
@@ -16,7 +16,7 @@ use Rattle.points.specs.declared.Place.TheVariants.{Origin, Block}
 use Rattle.points.specs.declared.Number.{Number}
 use Rattle.points.specs.declared.Number.TheVariants.{Is, Not}
 use Rattle.points.specs.declared.Opening.{Opening}
-use Rattle.points.specs.declared.Opening.TheVariants.{Counted, Endless}
+use Rattle.points.specs.declared.Opening.TheVariants.{Endless}
 use Rattle.points.specs.declared.End.{End}
 use Rattle.points.specs.declared.End.TheVariants.{At, Nowhere}
 use Rattle.points.specs.declared.Hash.{Hash}

@@ -1,7 +1,6 @@
 -- `points::answer` meets its contract: something stands, or nothing, as the definition goes by.
 use mathlib.Core.Path.{sym, ap, ◌∙◌}
 use Rattle.points.specs.Points.{read_of}
-use borrow.Author.Rules.{rules}
 use Rattle.points.proofs.answer.Goals as goal
 
 pub returns-in-Stands : goal.returns-in-Stands

@@ -1,6 +1,5 @@
 -- `points::block_at` meets its contract: a slot, or none, as the definition goes by.
 use Rattle.points.proofs.Steps.{block-is, block-not}
-use borrow.Author.Rules.{rules}
 use Rattle.points.proofs.block_at.Goals as goal
 
 pub returns-in-Is : goal.returns-in-Is

@@ -3,7 +3,6 @@ use Prim.Native.Nat.{◌+◌, ◌≤◌}
 use native.Mathlib.Omega.{arith}
 use lib.ListN.{length}
 use Rattle.points.proofs.Steps.{hash-there, hashed-is, hashed-not}
-use borrow.Author.Rules.{rules}
 use Rattle.points.proofs.block_of.Goals as goal
 
 pub returns-then-not-and : goal.returns-then-not-and

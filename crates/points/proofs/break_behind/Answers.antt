@@ -1,6 +1,5 @@
 -- `points::break_behind` meets its contract: something stands, or nothing, as the definition goes by.
 use Rattle.points.proofs.Steps.{broken-by}
-use borrow.Author.Rules.{rules}
 use Rattle.points.proofs.break_behind.Goals as goal
 
 pub returns-in-Stands : goal.returns-in-Stands

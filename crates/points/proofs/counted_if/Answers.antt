@@ -1,5 +1,4 @@
 -- `points::counted_if` meets its contract: the test decides.
-use borrow.Author.Rules.{rules}
 use Rattle.points.proofs.counted_if.Goals as goal
 
 pub returns-then-test : goal.returns-then-test

@@ -2,7 +2,6 @@
 use mathlib.Core.Path.{◌∙◌}
 use borrow.Author.Tests.{eq-eqb, ne_eqb}
 use Rattle.base.proofs.Conds.{tests}
-use borrow.Author.Rules.{rules}
 use Rattle.points.proofs.counted_point.Goals as goal
 
 pub returns-then-n-eq0 : goal.returns-then-n-eq0

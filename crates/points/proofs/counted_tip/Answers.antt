@@ -2,7 +2,6 @@
 use mathlib.Core.Path.{◌∙◌}
 use borrow.Author.Tests.{eq-eqb}
 use Rattle.base.proofs.Conds.{tests}
-use borrow.Author.Rules.{rules}
 use Rattle.points.proofs.counted_tip.Goals as goal
 
 pub returns-then-n-eq2 : goal.returns-then-n-eq2

@@ -1,5 +1,4 @@
 -- `points::endless_if` meets its contract: the test decides.
-use borrow.Author.Rules.{rules}
 use Rattle.points.proofs.endless_if.Goals as goal
 
 pub returns-then-test : goal.returns-then-test

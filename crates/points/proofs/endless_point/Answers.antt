@@ -1,6 +1,5 @@
 -- `points::endless_point` meets its contract: a break, or none, as the definition goes by.
 use Rattle.points.proofs.Steps.{endless_origin, endless-block}
-use borrow.Author.Rules.{rules}
 use Rattle.points.proofs.endless_point.Goals as goal
 
 pub returns-in-At : goal.returns-in-At

@@ -1,5 +1,4 @@
 -- `points::hash_at` meets its contract: four words are read.
-use borrow.Author.Rules.{rules}
 use Rattle.points.proofs.hash_at.Goals as goal
 
 pub returns : goal.returns

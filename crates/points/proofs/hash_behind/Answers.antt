@@ -1,6 +1,5 @@
 -- `points::hash_behind` meets its contract: a string, or none, as the definition goes by.
 use Rattle.points.proofs.Steps.{hash-is, hash-not}
-use borrow.Author.Rules.{rules}
 use Rattle.points.proofs.hash_behind.Goals as goal
 
 pub returns-in-Is : goal.returns-in-Is

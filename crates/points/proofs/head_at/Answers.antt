@@ -1,10 +1,9 @@
 -- `points::head_at` meets its contract: a slice read from its front to its end does not go around.
-use mathlib.Core.Path.{◌≡◌, ap, ◌∙◌}
+use mathlib.Core.Path.{ap, ◌∙◌}
 use mathlib.Core.List.{List}
 use Prim.Native.Nat.{ℕ}
 use Rattle.ring.proofs.Around.{around_all}
 use Rattle.head.specs.Read.{head_at}
-use borrow.Author.Rules.{rules}
 use Rattle.points.proofs.head_at.Goals as goal
 
 pub returns : goal.returns

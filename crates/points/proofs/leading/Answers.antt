@@ -1,7 +1,6 @@
 -- `points::leading` meets its contract: each head is one of the definition's cases.
 use mathlib.Core.Path.{sym, ap, ◌∙◌}
 use Rattle.points.specs.Points.{leads}
-use borrow.Author.Rules.{rules}
 use Rattle.points.proofs.leading.Goals as goal
 
 pub returns-in-Definite : goal.returns-in-Definite

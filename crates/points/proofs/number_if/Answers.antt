@@ -1,5 +1,4 @@
 -- `points::number_if` meets its contract: the test decides.
-use borrow.Author.Rules.{rules}
 use Rattle.points.proofs.number_if.Goals as goal
 
 pub returns-then-test : goal.returns-then-test

@@ -1,7 +1,6 @@
 -- `points::opened` meets its contract: each head is one of the definition's cases.
 use mathlib.Core.Path.{sym, ap, ◌∙◌}
 use Rattle.points.specs.Points.{opening}
-use borrow.Author.Rules.{rules}
 use Rattle.points.proofs.opened.Goals as goal
 
 pub returns-in-Definite : goal.returns-in-Definite

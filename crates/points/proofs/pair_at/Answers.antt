@@ -1,6 +1,5 @@
 -- `points::pair_at` meets its contract: a point, or none, as the definition goes by.
 use Rattle.points.proofs.Steps.{pair_is, pair-not}
-use borrow.Author.Rules.{rules}
 use Rattle.points.proofs.pair_at.Goals as goal
 
 pub returns-in-Stands : goal.returns-in-Stands

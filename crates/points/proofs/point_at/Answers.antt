@@ -1,7 +1,6 @@
 -- `points::point_at` meets its contract: an array, or none, as the definition goes by.
 use mathlib.Core.Path.{refl}
 use Rattle.points.proofs.Steps.{point-by}
-use borrow.Author.Rules.{rules}
 use Rattle.points.proofs.point_at.Goals as goal
 
 pub returns-in-Counted : goal.returns-in-Counted

@@ -1,7 +1,6 @@
 -- `points::read_point` meets its contract: the answer for the point at the front.
 use mathlib.Core.Path.{ap, ◌∙◌}
 use Rattle.points.specs.Points.{read_of, point_of}
-use borrow.Author.Rules.{rules}
 use Rattle.points.proofs.read_point.Goals as goal
 
 pub returns : goal.returns

@@ -1,7 +1,6 @@
 -- `points::read_tip` meets its contract: the answer for the tip at the front.
 use mathlib.Core.Path.{ap, ◌∙◌}
 use Rattle.points.specs.Points.{read_of, tip_of}
-use borrow.Author.Rules.{rules}
 use Rattle.points.proofs.read_tip.Goals as goal
 
 pub returns : goal.returns

@@ -2,7 +2,6 @@
 use mathlib.Core.Path.{refl, ap, ◌∙◌}
 use Rattle.points.specs.Points.{broken}
 use Rattle.points.proofs.Steps.{tip-by}
-use borrow.Author.Rules.{rules}
 use Rattle.points.proofs.tip_at.Goals as goal
 
 pub returns-in-Counted : goal.returns-in-Counted
