@@ -1,6 +1,5 @@
 -- `ready::after` meets its contract: the test decides.
 use Rattle.base.proofs.Conds.{tests}
-use borrow.Author.Rules.{rules}
 use Rattle.ready.proofs.after.Goals as goal
 
 pub returns-then-i-n : goal.returns-then-i-n

@@ -1,7 +1,7 @@
 -- `ready::choose` meets its contract. The loop's invariant: the search from here on finds what that from the turn on finds.
 use mathlib.Core.Path.{◌≡◌, refl, sym, ap, ◌∙◌}
 use mathlib.Core.Bool.{true}
-use Prim.Native.Nat.{◌-◌, ◌<◌}
+use Prim.Native.Nat.{◌-◌}
 use native.Mathlib.Omega.{arith}
 use Rattle.ready.specs.Inside.{bit_set, seek_in}
 use Rattle.ready.proofs.ReadyLaws.{seek_hit, seek_on}

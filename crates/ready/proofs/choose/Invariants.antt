@@ -1,10 +1,6 @@
-use mathlib.Core.Path.{◌≡◌, refl, sym, ap, ◌∙◌}
-use mathlib.Core.Bool.{true}
+use mathlib.Core.Path.{◌≡◌}
 use Prim.Native.Nat.{◌-◌, ◌<◌}
-use native.Mathlib.Omega.{arith}
-use Rattle.ready.specs.Inside.{bit_set, seek_in}
-use Rattle.ready.proofs.ReadyLaws.{seek_hit, seek_on}
-use borrow.Author.Rules.{rules}
+use Rattle.ready.specs.Inside.{seek_in}
 use Rattle.ready.proofs.choose.Given as goal
 
 abbrev pub invariant-loop-left : goal.invariant-loop-left

@@ -7,7 +7,6 @@ use lib.Count.{count_trailing_zeros, trailing_le, ones-le}
 use Rattle.wire.specs.Instances.{most}
 use Rattle.ready.specs.Ready.{word_of}
 use Rattle.ready.proofs.ReadyLaws.{ones_ready, lowest_none, lowest_some}
-use borrow.Author.Rules.{rules}
 use Rattle.ready.proofs.ready_of.Goals as goal
 
 pub overflow_cast-count : goal.overflow_cast-count

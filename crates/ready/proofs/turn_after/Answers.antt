@@ -1,7 +1,6 @@
 -- `ready::turn_after` meets its contract: the test decides.
 use Rattle.base.proofs.Conds.{tests}
 use borrow.Author.Tests.{ne_eqb}
-use borrow.Author.Rules.{rules}
 use Rattle.ready.proofs.turn_after.Goals as goal
 
 pub returns-then-i-eq0 : goal.returns-then-i-eq0

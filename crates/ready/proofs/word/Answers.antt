@@ -1,6 +1,6 @@
 -- `ready::word` meets its contract. The loop's invariant: the word so far is that of the first n counts, from i on.
 use mathlib.Core.Path.{◌≡◌, ap, ◌∙◌}
-use Prim.Native.Nat.{◌+◌, ◌-◌, ◌*◌, ◌≤◌, ◌<◌, ◌^◌}
+use Prim.Native.Nat.{◌+◌, ◌-◌, ◌*◌}
 use native.Mathlib.Omega.{arith}
 use lib.ListN.{length, take, drop, drop_of_length-le}
 use lib.Seq.{length-take-le, get_or-take}
@@ -14,17 +14,17 @@ pub loop-i-init : goal.loop-i-init
 unfolding word_of
 loop-i-init c =
     let a = c.args in
-    let all : length a.t1 ≡ most = c.well_formed_lem.0.1.0.1 in
-    let long : length (take a.n a.t1) ≡ a.n = length-take-le a.n a.t1 (omega (arith, c.requires)) in
-    (search rules, long, rw (drop_of_length-le (take a.n a.t1) {i = a.n} (omega arith)), search rules)
+    let all : length a.waiting ≡ most = search rules in
+    let long : length (take a.n a.waiting) ≡ a.n = length-take-le a.n a.waiting (omega (arith, c.requires)) in
+    (search rules, long, rw (drop_of_length-le (take a.n a.waiting) {i = a.n} (omega arith)), search rules)
 
 pub loop-i-preserved : goal.loop-i-preserved
 loop-i-preserved c =
     let l = c.loop-i in
     let a = c.args in
-    let ws = take a.n a.t1 in
+    let ws = take a.n a.waiting in
     let q : l.word * 2 + c.bit.result ≡ word_of (drop (l.i - 1) ws) =
-    rw (l.invariant.2, c.bit.ensures.0, ← get_or-take a.n a.t1 (l.i - 1) 0 (search rules)) (word_turn ws l.i (search rules) (search rules)) in
+    rw (l.invariant.2, c.bit.ensures.0, ← get_or-take a.n a.waiting (l.i - 1) 0 (search rules)) (word_turn ws l.i (search rules) (search rules)) in
     (search rules, l.invariant.1, q, rw q (word_small ws (l.i - 1) most (omega arith)))
 
 pub returns : goal.returns
@@ -32,4 +32,4 @@ returns c =
     let l = c.loop-i in
     let a = c.args in
     let z : l.i ≡ 0 = omega arith in
-    (l.invariant.2 ∙ ap (λ k. word_of (drop k (take a.n a.t1))) z, l.invariant.3, l.invariant.1)
+    (l.invariant.2 ∙ ap (λ k. word_of (drop k (take a.n a.waiting))) z, l.invariant.3, l.invariant.1)

@@ -1,12 +1,8 @@
-use mathlib.Core.Path.{◌≡◌, ap, ◌∙◌}
-use Prim.Native.Nat.{◌+◌, ◌-◌, ◌*◌, ◌≤◌, ◌<◌, ◌^◌}
-use native.Mathlib.Omega.{arith}
-use lib.ListN.{length, take, drop, drop_of_length-le}
-use lib.Seq.{length-take-le, get_or-take}
+use mathlib.Core.Path.{◌≡◌}
+use Prim.Native.Nat.{◌≤◌, ◌<◌, ◌^◌}
+use lib.ListN.{length, take, drop}
 use Rattle.wire.specs.Instances.{most}
 use Rattle.ready.specs.Ready.{word_of}
-use Rattle.ready.proofs.ReadyLaws.{word_turn, word_small}
-use borrow.Author.Rules.{rules}
 use Rattle.ready.proofs.word.Given as goal
 
 abbrev pub invariant-loop-i : goal.invariant-loop-i
