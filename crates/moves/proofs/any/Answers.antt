@@ -1,7 +1,6 @@
 -- `moves::any` meets its contract: each arm does what its initial byte says.
 use mathlib.Core.Path.{refl, sym, ap, ◌∙◌}
 use native.Mathlib.Omega.{arith}
-use borrow.Author.Rules.{rules}
 use Rattle.head.specs.Initial.{initial}
 use Rattle.head.proofs.ReadLaws.{long_small}
 use Rattle.ring.specs.Inside.{around}
@@ -26,7 +25,7 @@ long-requires c =
     let p = c.requires in
     let e = ap initial (sym c.byte_at.ensures) ∙ sym c.initial_of-i.ensures ∙ c.in-Long.is in
     let small = long_small _ refl e in
-    ((p.0, p.1, omega arith, omega arith, p.3, p.4), e)
+    record { from_in_bounds = (p.0, p.1, omega arith, omega arith, p.3, p.4); at_value = e }
 
 pub indefinite-requires : goal.indefinite-requires
 indefinite-requires c =
@@ -36,7 +35,7 @@ pub simple-requires : goal.simple-requires
 simple-requires c =
     let p = c.requires in
     let e = ap initial (sym c.byte_at.ensures) ∙ sym c.initial_of-i.ensures ∙ c.in-Simple.is in
-    ((p.0, p.1, omega arith, p.3, p.4), e)
+    record { from_in_bounds = (p.0, p.1, omega arith, p.3, p.4); at_value = e }
 
 pub returns-in-Short : goal.returns-in-Short
 returns-in-Short c =

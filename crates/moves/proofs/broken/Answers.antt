@@ -1,6 +1,5 @@
 -- `moves::broken` meets its contract: where a break may come, the level wants nothing from then on.
 use mathlib.Core.Path.{sym, ◌∙◌}
-use borrow.Author.Rules.{rules}
 use Rattle.moves.proofs.AnyHead.{ends, no_end}
 use Rattle.moves.proofs.broken.Goals as goal
 

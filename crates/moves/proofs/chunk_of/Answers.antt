@@ -1,5 +1,4 @@
 -- `moves::chunk_of` meets its contract: each arm is the definition's clause.
-use borrow.Author.Rules.{rules}
 use Rattle.moves.proofs.chunk_of.Goals as goal
 
 pub returns-in-Bytes : goal.returns-in-Bytes

@@ -1,6 +1,5 @@
 -- `moves::follows` meets its contract: each arm does what the content of its major type asks for.
 use native.Mathlib.Omega.{arith}
-use borrow.Author.Rules.{rules}
 use Rattle.moves.proofs.AnyHead.{follow-number, follow-array, follow-map, follow-tag}
 use Rattle.moves.proofs.follows.Goals as goal
 

@@ -1,7 +1,6 @@
 -- `moves::indefinite` meets its contract: among items, and within the nesting, a level is opened.
 use mathlib.Core.Path.{sym, ◌∙◌}
 use native.Mathlib.Omega.{arith}
-use borrow.Author.Rules.{rules}
 use Rattle.moves.proofs.AnyHead.{no_chunk, no_room}
 use Rattle.moves.proofs.indefinite.Goals as goal
 

@@ -1,6 +1,5 @@
 -- `moves::left_of` meets its contract: one less of the count; at a count of nought, by the kind.
 use native.Mathlib.Omega.{arith}
-use borrow.Author.Rules.{rules}
 use Rattle.moves.proofs.Frames.{leaves_some, leaves_huge, leaves_anew, leaves_chunk}
 use Rattle.moves.proofs.left_of.Goals as goal
 

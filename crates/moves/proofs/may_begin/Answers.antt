@@ -1,6 +1,5 @@
 -- `moves::may_begin` meets its contract: kinds below four want items, the others chunks.
 use borrow.Author.Tests.{lt-ltb, le-ltb}
-use borrow.Author.Rules.{rules}
 use Rattle.moves.proofs.may_begin.Goals as goal
 
 pub returns-then-kind-lt-BYTES : goal.returns-then-kind-lt-BYTES

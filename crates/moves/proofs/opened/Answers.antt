@@ -1,5 +1,4 @@
 -- `moves::opened` meets its contract: each arm opens the level of its major type, and no other type has an indefinite length.
-use borrow.Author.Rules.{rules}
 use Rattle.moves.proofs.AnyHead.{no_number, no-tag, open-bytes, open-text, open_array, open_map}
 use Rattle.moves.proofs.opened.Goals as goal
 

@@ -1,6 +1,5 @@
 -- `moves::pairs` meets its contract: twice 2^63 and what is above is 2^64 and twice what is above.
 use native.Mathlib.Omega.{arith}
-use borrow.Author.Rules.{rules}
 use Rattle.moves.proofs.Frames.{doubles_small, doubles_huge}
 use Rattle.moves.proofs.pairs.Goals as goal
 

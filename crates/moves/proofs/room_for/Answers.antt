@@ -1,5 +1,4 @@
 -- `moves::room_for` meets its contract: each arm is the definition's clause.
-use borrow.Author.Rules.{rules}
 use Rattle.moves.proofs.room_for.Goals as goal
 
 pub returns-in-Array : goal.returns-in-Array

@@ -2,7 +2,6 @@
 use mathlib.Core.Path.{◌≡◌, sym, ◌∙◌}
 use mathlib.Core.Bool.{true}
 use native.Mathlib.Omega.{arith}
-use borrow.Author.Rules.{rules}
 use Rattle.moves.specs.Inside.Frames.{may_begin}
 use Rattle.moves.proofs.AnyHead.{asked-short, no_short}
 use Rattle.moves.proofs.short.Goals as goal

@@ -1,6 +1,5 @@
 -- `moves::simple` meets its contract: the second byte is not there, or below 32, or not.
 use native.Mathlib.Omega.{arith}
-use borrow.Author.Rules.{rules}
 use Rattle.ring.specs.Inside.{around}
 use Rattle.ring.proofs.Around.{around-length}
 use Rattle.moves.proofs.AnyHead.{no-simple, simple-cut, simple-low, simple-high}
@@ -11,36 +10,36 @@ returns-then-kind-ge-BYTES c =
     let a = c.args in
     let p = c.requires in
     let xs = around a.s.now a.from a.n in
-    let len = around-length a.s.now a.from a.n p.0.1 in
-    no-simple xs a.at a.kind a.count a.depth (omega arith) p.0.4 p.1 c.if-kind-ge-BYTES.true
+    let len = around-length a.s.now a.from a.n p.from_in_bounds.1 in
+    no-simple xs a.at a.kind a.count a.depth (omega arith) p.from_in_bounds.4 p.at_value c.if-kind-ge-BYTES.true
 
 pub returns-then-n-at : goal.returns-then-n-at
 returns-then-n-at c =
     let a = c.args in
     let p = c.requires in
     let xs = around a.s.now a.from a.n in
-    let len = around-length a.s.now a.from a.n p.0.1 in
-    simple-cut xs a.at a.kind a.count a.depth (omega arith) p.0.4 p.1 (omega arith) (omega arith)
+    let len = around-length a.s.now a.from a.n p.from_in_bounds.1 in
+    simple-cut xs a.at a.kind a.count a.depth (omega arith) p.from_in_bounds.4 p.at_value (omega arith) (omega arith)
 
 pub returns-then-byte_at-lt32 : goal.returns-then-byte_at-lt32
 returns-then-byte_at-lt32 c =
     let a = c.args in
     let p = c.requires in
     let xs = around a.s.now a.from a.n in
-    let len = around-length a.s.now a.from a.n p.0.1 in
+    let len = around-length a.s.now a.from a.n p.from_in_bounds.1 in
     let b = c.byte_at.ensures in
-    simple-low xs a.at a.kind a.count a.depth (omega arith) p.0.4 p.1 (omega arith) (omega arith) (omega arith)
+    simple-low xs a.at a.kind a.count a.depth (omega arith) p.from_in_bounds.4 p.at_value (omega arith) (omega arith) (omega arith)
 
 pub left_of-requires : goal.left_of-requires
 left_of-requires c =
-    let p = c.requires in (p.0.4, p.0.3.none)
+    let p = c.requires in (p.from_in_bounds.4, p.from_in_bounds.3.none)
 
 pub returns : goal.returns
 returns c =
     let a = c.args in
     let p = c.requires in
     let xs = around a.s.now a.from a.n in
-    let len = around-length a.s.now a.from a.n p.0.1 in
+    let len = around-length a.s.now a.from a.n p.from_in_bounds.1 in
     let b = c.byte_at.ensures in
-    simple-high xs a.at a.kind a.count a.depth (omega arith) p.0.4 c.left_of.result c.left_of.ensures p.0.3 p.1
+    simple-high xs a.at a.kind a.count a.depth (omega arith) p.from_in_bounds.4 c.left_of.result c.left_of.ensures p.from_in_bounds.3 p.at_value
     (omega arith) (omega arith) (omega arith)

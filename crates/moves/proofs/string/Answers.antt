@@ -1,7 +1,6 @@
 -- `moves::string` meets its contract: the bytes are all there, or they go on after all that is there.
 use Prim.Native.Nat.{◌-◌}
 use native.Mathlib.Omega.{arith}
-use borrow.Author.Rules.{rules}
 use Rattle.moves.proofs.AnyHead.{string-there, string-cut}
 use Rattle.moves.proofs.string.Goals as goal
 
