@@ -1,7 +1,6 @@
 -- The short log goes as it should: each item reads as it does in `points`, and the rest computes.
 -- Assumes nothing.
 use mathlib.Core.Path.{refl}
-use Rattle.points.specs.Besides.Examples.{Edges}
 use Rattle.points.proofs.Examples.{edges}
 use Rattle.point_log.specs.Log.{rises_to, upto_of, find_of, count_to, back_of, above, add_of}
 use Rattle.point_log.specs.Besides.Examples.{Replayed}

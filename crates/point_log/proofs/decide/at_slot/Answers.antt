@@ -2,7 +2,6 @@
 use mathlib.Core.Path.{sym, ap}
 use Rattle.points.specs.declared.Place.{Place}
 use Rattle.point_log.specs.Inside.{at_slot}
-use borrow.Author.Rules.{rules}
 use Rattle.point_log.proofs.decide.at_slot.Goals as goal
 
 pub returns-in-Block : goal.returns-in-Block

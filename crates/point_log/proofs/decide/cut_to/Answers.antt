@@ -1,5 +1,4 @@
 -- `decide::cut_to` meets its contract: the test decides.
-use borrow.Author.Rules.{rules}
 use Rattle.point_log.proofs.decide.cut_to.Goals as goal
 
 pub returns-then-is_block : goal.returns-then-is_block

@@ -3,7 +3,6 @@ use mathlib.Core.Path.{sym, ap, ◌∙◌}
 use Rattle.points.specs.declared.Place.{Place}
 use borrow.Author.Tests.{eq-eqb, ne_eqb}
 use Rattle.point_log.specs.Inside.{growth_by}
-use borrow.Author.Rules.{rules}
 use Rattle.point_log.proofs.decide.growth.Goals as goal
 
 pub returns-then-f-ne0 : goal.returns-then-f-ne0

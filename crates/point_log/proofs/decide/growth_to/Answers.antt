@@ -1,6 +1,5 @@
 -- `decide::growth_to` meets its contract: the tests decide.
 use borrow.Author.Tests.{lt-ltb, le-ltb}
-use borrow.Author.Rules.{rules}
 use Rattle.point_log.proofs.decide.growth_to.Goals as goal
 
 pub returns-then-f-count : goal.returns-then-f-count

@@ -1,5 +1,4 @@
 -- `decide::same_point` meets its contract: slot and hash.
-use borrow.Author.Rules.{rules}
 use Rattle.point_log.proofs.decide.same_point.Goals as goal
 
 pub returns : goal.returns
