@@ -1,5 +1,5 @@
 -- `lister_core::header_byte` meets its contract: the test whether the header is whole decides.
-use Rattle.std.proofs.Common.{sym, ◌∙◌, rules}
+use Rattle.std.proofs.Common.{sym, ◌∙◌}
 use Rattle.lister_core.proofs.ListerLaws.{head-whole, head-part}
 use Rattle.lister_core.proofs.header_byte.Goals as goal
 

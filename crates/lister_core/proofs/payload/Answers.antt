@@ -1,5 +1,5 @@
 -- `lister_core::payload` meets its contract: the smaller of the two numbers is used.
-use Rattle.std.proofs.Common.{◌≡◌, ◌-◌, min, sym, ◌∙◌, arith, rules}
+use Rattle.std.proofs.Common.{◌≡◌, ◌-◌, min, arith}
 use Rattle.lister_core.proofs.payload.Goals as goal
 
 pub returns-then-rest-n : goal.returns-then-rest-n

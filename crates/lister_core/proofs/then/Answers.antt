@@ -1,5 +1,5 @@
 -- `lister_core::then` meets its contract: the test decides whether the segment has ended.
-use Rattle.std.proofs.Common.{◌≡◌, true, false, ltb, refl, ◌∙◌, rules, le-ltb, lt-ltb}
+use Rattle.std.proofs.Common.{◌≡◌, true, false, ltb, refl, le-ltb, lt-ltb}
 use Rattle.lister_core.specs.Lister.{after}
 use Rattle.lister_core.proofs.then.Goals as goal
 
@@ -16,8 +16,8 @@ returns c =
       rw (
         ended,
         c.empty.ensures,
-        c.wrapping_add_u64.ensures,
-        c.wrapping_add_u64-2.ensures,
+        c.wrapping_add_u64.ensures.value,
+        c.wrapping_add_u64-2.ensures.value,
         c.segment.ensures.0,
       ),
       refl,

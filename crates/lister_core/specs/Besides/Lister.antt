@@ -1,9 +1,9 @@
 -- T17: what the lister's lines are, and that its contracts determine them, as statements.
-use Rattle.std.specs.Prelude.{◌≡◌, ℕ, ◌+◌, ◌%◌, ◌^◌, List, ◌++◌, map, length, ◌==◌}
+use Rattle.std.specs.Prelude.{◌≡◌, ℕ, ◌%◌, ◌^◌, List, ◌++◌, map, length, ◌==◌}
 use Rattle.wire.specs.Segments.{Carried, Divided}
 use Rattle.lister_core.specs.declared.Listing.{Listing}
 use Rattle.lister_core.specs.declared.Step.{Step}
-use Rattle.lister_core.specs.Lister.{ending, then, fed, begun, ended, Stepped}
+use Rattle.lister_core.specs.Lister.{then, fed, begun, ended, Stepped}
 
 -- what the bytes xs come to from the start, by their whole segments and what is left of them
 pub record Lists (xs : List ℕ) (cs : List Carried) (left : List ℕ) : Type 0 where

@@ -1,5 +1,4 @@
 -- `lister_core::Listing::begin` meets its contract: the header is the empty one.
-use Rattle.std.proofs.Common.{rules}
 use Rattle.lister_core.proofs.Listing.begin.Goals as goal
 
 pub returns : goal.returns
