@@ -1,7 +1,6 @@
 -- `connection::areas::write` meets its contract: the area lies in the store.
 use mathlib.Core.Path.{◌∙◌}
 use native.Mathlib.Omega.{arith}
-use borrow.Author.Rules.{rules}
 use Rattle.connection.proofs.areas.write.Goals as goal
 
 pub base_of-base-requires : goal.base_of-base-requires

@@ -1,7 +1,6 @@
 -- `connection::closings::fault_leaves` meets its contract, case by case.
 use mathlib.Core.Path.{ap, sym, ◌∙◌}
 use Rattle.connection.specs.Closings.{fault_leaves}
-use borrow.Author.Rules.{rules}
 use Rattle.connection.proofs.closings.fault_leaves.Goals as goal
 
 pub returns-in-Bare : goal.returns-in-Bare

@@ -1,6 +1,5 @@
 -- `connection::closings::gate_ok` meets its contract, case by case.
 use mathlib.Core.Path.{sym, ap, ◌∙◌}
-use borrow.Author.Rules.{rules}
 use Rattle.connection.specs.Closings.{gate_ok}
 use Rattle.connection.proofs.closings.gate_ok.Goals as goal
 

@@ -1,7 +1,6 @@
 -- `connection::closings::heard_fault` meets its contract: the tests are those of the list, one by one.
 use mathlib.Core.Bool.{or-false}
 use lib.Dec.{eqb}
-use borrow.Author.Rules.{rules}
 use Rattle.connection.specs.Closings.{among, after_done}
 use Rattle.connection.proofs.closings.heard_fault.Goals as goal
 

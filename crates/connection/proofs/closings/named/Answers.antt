@@ -1,7 +1,6 @@
 -- `connection::closings::named` meets its contract: the tests are those of the definition.
 use Prim.Native.Nat.{◌<◌}
 use native.Mathlib.Omega.{arith}
-use borrow.Author.Rules.{rules}
 use borrow.Author.Tests.{lt-ltb, le-ltb}
 use Rattle.wire.specs.Instances.{instances}
 use Rattle.connection.proofs.closings.named.Goals as goal

@@ -9,5 +9,5 @@ use Rattle.connection.proofs.parts.at.Goals as goal
 pub returns-else-i-lt-INSTANCES : goal.returns-else-i-lt-INSTANCES
 returns-else-i-lt-INSTANCES c =
     let a = c.args in
-    let long : length a.t1 ≡ most = c.well_formed_lem.0.1.0.1 in
-    sym (get_or-eq_default a.t1 0 {n = a.i} (omega arith))
+    let long : length a.a ≡ most = search rules in
+    sym (get_or-eq_default a.a 0 {n = a.i} (omega arith))

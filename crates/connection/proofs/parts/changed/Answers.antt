@@ -10,5 +10,5 @@ use Rattle.connection.proofs.parts.changed.Goals as goal
 pub returns-else-i-lt-INSTANCES : goal.returns-else-i-lt-INSTANCES
 returns-else-i-lt-INSTANCES c =
     let a = c.args in
-    let long : length a.a ≡ most = c.well_formed_lem.0.1.0.1 in
+    let long : length a.a ≡ most = search rules in
     sym (set_past a.a a.i a.n (omega arith))
