@@ -2,7 +2,6 @@
 use mathlib.Core.Path.{refl}
 use native.Mathlib.Omega.{arith}
 use Rattle.slices.proofs.CallLaws.{add-fits, add-in, add-not}
-use borrow.Author.Rules.{rules}
 use Rattle.slices.proofs.add.Goals as goal
 
 pub returns-then-number-ne0 : goal.returns-then-number-ne0
@@ -32,6 +31,6 @@ returns c =
     let m = c in
     let b = m in
     let a = b.args in
-    rw (m.put.ensures.0, m.put.ensures.1, m.point_of.ensures)
+    rw (m.put.ensures.slots, m.put.ensures.hashes, m.point_of.ensures)
     (add-in a.slots.now a.hashes.now a.count a.item.now b.read_point-read.ensures b.slot_of.ensures b.find.ensures
     refl m.growth-number.ensures m.if-number-ne0.false)

@@ -1,6 +1,5 @@
 -- `slices::back` meets its contract: what was found at the slot that was read decides.
 use Rattle.slices.proofs.CallLaws.{back-in}
-use borrow.Author.Rules.{rules}
 use Rattle.slices.proofs.back.Goals as goal
 
 pub returns : goal.returns

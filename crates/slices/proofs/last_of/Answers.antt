@@ -5,7 +5,6 @@ use Prim.Native.Nat.{◌-◌}
 use native.Mathlib.Omega.{arith}
 use Rattle.point_log.proofs.RecordLaws.{last_none}
 use Rattle.slices.proofs.RecordLaws.{last_is}
-use borrow.Author.Rules.{rules}
 use Rattle.slices.proofs.last_of.Goals as goal
 
 pub returns-then-k-eq0 : goal.returns-then-k-eq0

@@ -1,7 +1,6 @@
 -- `slices::matched` meets its contract: four words to a slot.
 use mathlib.Core.Path.{◌∙◌}
 use Rattle.slices.proofs.RecordLaws.{four}
-use borrow.Author.Rules.{rules}
 use Rattle.slices.proofs.matched.Goals as goal
 
 pub returns : goal.returns

@@ -18,4 +18,4 @@ bounds-hashes-at-4 c = simp length-set (search rules)
 pub returns : goal.returns
 returns c =
     let a = c.args in
-    let h = a.p.hash in (refl, stored a.hashes.now (a.i * 4) h.a h.b h.c h.d)
+    let h = a.p.hash in record { slots = refl; hashes = stored a.hashes.now (a.i * 4) h.a h.b h.c h.d }

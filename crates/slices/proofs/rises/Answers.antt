@@ -1,11 +1,9 @@
 -- `slices::rises` meets its contract. The loop's invariant: `good` tells the rise of the first i slots.
-use mathlib.Core.Path.{◌≡◌, refl, ◌∙◌}
-use mathlib.Core.Logic.{◌⊎◌, inl, inr}
-use Prim.Native.Nat.{◌-◌, ◌≤◌}
+use mathlib.Core.Path.{refl, ◌∙◌}
+use mathlib.Core.Logic.{inl, inr}
 use native.Mathlib.Omega.{arith}
 use Rattle.point_log.specs.Log.{rises_to}
 use Rattle.point_log.proofs.SearchLaws.{rises_more, rises_end}
-use borrow.Author.Rules.{rules}
 use Rattle.slices.proofs.rises.Goals as goal
 
 pub loop-i-init : goal.loop-i-init

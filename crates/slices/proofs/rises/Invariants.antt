@@ -1,10 +1,7 @@
-use mathlib.Core.Path.{◌≡◌, refl, ◌∙◌}
-use mathlib.Core.Logic.{◌⊎◌, inl, inr}
+use mathlib.Core.Path.{◌≡◌}
+use mathlib.Core.Logic.{◌⊎◌}
 use Prim.Native.Nat.{◌-◌, ◌≤◌}
-use native.Mathlib.Omega.{arith}
 use Rattle.point_log.specs.Log.{rises_to}
-use Rattle.point_log.proofs.SearchLaws.{rises_more, rises_end}
-use borrow.Author.Rules.{rules}
 use Rattle.slices.proofs.rises.Given as goal
 
 abbrev pub invariant-loop-i : goal.invariant-loop-i

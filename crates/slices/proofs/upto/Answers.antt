@@ -2,10 +2,8 @@
 -- above it. The measure is `looks`, ⌊log2⌋ + 1 of what lies between them: each turn has one look and makes it less.
 use Prim.Native.Nat.{◌-◌, ◌<◌}
 use native.Mathlib.Omega.{arith}
-use Rattle.point_log.specs.Inside.{Between, looks}
 use Rattle.point_log.proofs.SearchLaws.{between_start, between-up, between-down, between_met}
 use Rattle.point_log.proofs.LookLaws.{fewer}
-use borrow.Author.Rules.{rules}
 use Rattle.slices.proofs.upto.Goals as goal
 
 pub loop-low-init : goal.loop-low-init

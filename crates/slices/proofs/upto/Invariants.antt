@@ -1,9 +1,5 @@
-use Prim.Native.Nat.{◌-◌, ◌<◌}
-use native.Mathlib.Omega.{arith}
+use Prim.Native.Nat.{◌-◌}
 use Rattle.point_log.specs.Inside.{Between, looks}
-use Rattle.point_log.proofs.SearchLaws.{between_start, between-up, between-down, between_met}
-use Rattle.point_log.proofs.LookLaws.{fewer}
-use borrow.Author.Rules.{rules}
 use Rattle.slices.proofs.upto.Given as goal
 
 abbrev pub invariant-loop-low : goal.invariant-loop-low
