@@ -28,11 +28,11 @@ bytes o = let a = o.args in around a.s.now a.from a.n
 sizes : (o : Loop)
     → (o.loop-count.heads ≤ o.loop-count.at) × (o.loop-count.depth ≤ 17) × (length o.loop-count.kinds ≡ 17) × (length o.loop-count.counts ≡ 17)
     × (length (bytes o) ≡ o.args.n)
-sizes o = let u = o.loop-count.inv.0 in (u.few, u.good.tall, u.outer.kinds_size, u.outer.counts_size, o.loop-count.inv.2)
+sizes o = let u = o.loop-count.invariant.0 in (u.few, u.good.tall, u.outer.kinds_size, u.outer.counts_size, o.loop-count.invariant.2)
 
 spot : (o : Loop) → o.loop-count.at < o.loop-count.z.lim
     → (o.loop-count.z.minus ≤ o.loop-count.at + o.loop-count.z.plus) × (o.loop-count.at + o.loop-count.z.plus ≤ length o.args.s.now)
-spot o h = o.loop-count.inv.1.low o.loop-count.at (omega arith) h
+spot o h = o.loop-count.invariant.1.low o.loop-count.at (omega arith) h
 
 -- where a usual head was told, and where any head was: what is right to do
 past : (c : In-Past)
@@ -75,8 +75,7 @@ stayed c = if-stay c.any-m.ensures c.in-Stay.is
 
 down : (c : In-Down)
     → let o = c in
-    let g = c.m-in-Down-1.given.0 in
-    Downs (bytes o) o.loop-count.at o.loop-count.kind o.loop-count.count o.loop-count.depth g.0 g.1.0 g.1.1.0
+    Downs (bytes o) o.loop-count.at o.loop-count.kind o.loop-count.count o.loop-count.depth c.in-Down.p c.in-Down.l c.in-Down.i
 down c = if-down c.any-m.ensures c.in-Down.is
 
 skipped : (c : In-Skip)

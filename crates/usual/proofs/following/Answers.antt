@@ -20,4 +20,4 @@ returns-in-27 c =
 
 pub returns-in_default : goal.returns-in_default
 returns-in_default c =
-    width-other _ c.in_default.rest.0.0.0.1 c.in_default.rest.0.0.1 c.in_default.rest.0.1 c.in_default.rest.1
+    width-other _ c.in_default.in_default-own.rest.0.0.0.1 c.in_default.in_default-own.rest.0.0.1 c.in_default.in_default-own.rest.0.1 c.in_default.in_default-own.rest.1

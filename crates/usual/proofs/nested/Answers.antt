@@ -2,7 +2,6 @@
 use mathlib.Core.Path.{sym, subst}
 use native.Mathlib.Omega.{arith}
 use Prim.Native.Nat.{ℕ, ◌+◌, ◌*◌}
-use borrow.Author.Rules.{rules}
 use Rattle.usual.specs.Inside.Usual.{Enters}
 use Rattle.usual.proofs.UsualHeads.{enter-array, enter-map, open_array, open_map}
 use Rattle.usual.proofs.nested.Goals as goal

@@ -2,7 +2,6 @@
 use Prim.Native.Nat.{◌-◌}
 use mathlib.Core.Path.{subst⁻¹}
 use native.Mathlib.Omega.{arith}
-use borrow.Author.Rules.{rules}
 use Rattle.usual.specs.Inside.Pieces.{Pieces}
 use Rattle.usual.proofs.Pieces.{pieces_near, pieces_far}
 use Rattle.usual.proofs.piece_of.Goals as goal

@@ -3,7 +3,6 @@ use mathlib.Core.Path.{◌≡◌, ap, ◌∙◌}
 use native.Mathlib.Omega.{arith}
 use Prim.Native.Nat.{ℕ, ◌+◌, ◌%◌}
 use lib.ListN.{get_or}
-use borrow.Author.Rules.{rules}
 use Rattle.usual.specs.Inside.Usual.{following, small_of}
 use Rattle.usual.proofs.UsualHeads.{width-most, pass-string}
 use Rattle.usual.proofs.short_string.Goals as goal

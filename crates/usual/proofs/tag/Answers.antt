@@ -2,7 +2,6 @@
 use mathlib.Core.Path.{ap}
 use native.Mathlib.Omega.{arith}
 use Prim.Native.Nat.{ℕ, ◌+◌, ◌%◌}
-use borrow.Author.Rules.{rules}
 use Rattle.usual.proofs.UsualHeads.{width-most, enter-tag}
 use Rattle.usual.proofs.tag.Goals as goal
 

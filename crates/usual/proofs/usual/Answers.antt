@@ -4,7 +4,6 @@ use mathlib.Core.Path.{◌≡◌, refl, ap}
 use native.Mathlib.Omega.{arith}
 use Prim.Native.Nat.{ℕ, ◌+◌, ◌%◌, ◌<◌}
 use lib.ListN.{length, get_or}
-use borrow.Author.Rules.{rules}
 use Rattle.ring.specs.Inside.{around}
 use Rattle.ring.proofs.Around.{around-length}
 use Rattle.usual.proofs.Pieces.{spot_here, spot_byte}
@@ -29,25 +28,25 @@ info c = get_or c.args.s.now c.args.p 0 % 32
 
 pub returns-then-b : goal.returns-then-b
 returns-then-b c =
-    let s = c in
-    is-break (bytes s) s.args.at s.args.depth _ (near (goal.at.returns-then-b s).Start).0 (first (goal.at.returns-then-b s).Start) c.if-b.true
+    let s = (goal.at.returns-then-b c).Start in
+    is-break (bytes s) s.args.at s.args.depth _ (near s).0 (first s) c.if-b.true
 
 pub returns-then-b-lt-STRINGS : goal.returns-then-b-lt-STRINGS
 returns-then-b-lt-STRINGS c =
-    let s = c in
-    pass-number (bytes s) s.args.at s.args.depth _ (near (goal.at.returns-then-b-lt-STRINGS s).Start).0 (first (goal.at.returns-then-b-lt-STRINGS s).Start) (s.args.at + 1 + c.following.result)
+    let s = (goal.at.returns-then-b-lt-STRINGS c).Start in
+    pass-number (bytes s) s.args.at s.args.depth _ (near s).0 (first s) (s.args.at + 1 + c.following.result)
     (ap (λ (w : ℕ). s.args.at + 1 + w) c.following.ensures) (omega arith) (omega arith)
 
 pub returns-then-b-lt-ARRAYS : goal.returns-then-b-lt-ARRAYS
 returns-then-b-lt-ARRAYS c =
-    let s = c in
+    let s = (goal.at.returns-then-b-lt-ARRAYS c).Start in
     let second = spot_byte s.args.s.now s.args.from s.args.n s.args.at s.args.p 1 s.requires.1 s.requires.2 (omega arith) in
-    c.short_string.ensures (bytes s) s.args.depth _ (near (goal.at.returns-then-b-lt-ARRAYS s).Start).1 (first (goal.at.returns-then-b-lt-ARRAYS s).Start) second refl (omega arith) (omega arith)
+    c.short_string.ensures (bytes s) s.args.depth _ (near s).1 (first s) second refl (omega arith) (omega arith)
 
 pub returns : goal.returns
 returns c =
-    let s = c in
-    pass-simple (bytes s) s.args.at s.args.depth _ (near (goal.at.returns s).Start).0 (first (goal.at.returns s).Start) (s.args.at + 1 + c.following-2.result)
+    let s = (goal.at.returns c).Start in
+    pass-simple (bytes s) s.args.at s.args.depth _ (near s).0 (first s) (s.args.at + 1 + c.following-2.result)
     (ap (λ (w : ℕ). s.args.at + 1 + w) c.following-2.ensures) (omega arith) (omega arith)
     (omega (arith, c.type_inv.s s.args.p))
     c.if-i-eq-ONE_BYTE.false
@@ -62,7 +61,7 @@ pub overflow_add-result-then-b-lt-STRINGS : goal.overflow_add-result-then-b-lt-S
 overflow_add-result-then-b-lt-STRINGS c = omega (arith, near (goal.at.overflow_add-result-then-b-lt-STRINGS c).Start)
 
 pub overflow_add-result-then-b-lt-STRINGS-2 : goal.overflow_add-result-then-b-lt-STRINGS-2
-overflow_add-result-then-b-lt-STRINGS-2 c = omega (arith, near (goal.at.overflow_add-result-then-b-lt-STRINGS-2 c).Start, width-most (info c))
+overflow_add-result-then-b-lt-STRINGS-2 c = omega (arith, near (goal.at.overflow_add-result-then-b-lt-STRINGS-2 c).Start, width-most (info (goal.at.overflow_add-result-then-b-lt-STRINGS-2 c).Start))
 
 pub overflow_add-p : goal.overflow_add-p
 overflow_add-p c = omega (arith, near (goal.at.overflow_add-p c).Start)
@@ -77,16 +76,16 @@ pub nested-requires : goal.nested-requires
 nested-requires c = let h = near (goal.at.nested-requires c).Start in (omega arith, omega arith, omega arith)
 
 pub returns-then-b-lt-TAGS : goal.returns-then-b-lt-TAGS
-returns-then-b-lt-TAGS c = let s = c in c.nested.ensures (bytes s) (near (goal.at.returns-then-b-lt-TAGS s).Start).0 (first (goal.at.returns-then-b-lt-TAGS s).Start)
+returns-then-b-lt-TAGS c = let s = (goal.at.returns-then-b-lt-TAGS c).Start in c.nested.ensures (bytes s) (near s).0 (first s)
 
 pub tag-requires : goal.tag-requires
 tag-requires c = let h = near (goal.at.tag-requires c).Start in (omega arith, omega arith, omega arith)
 
 pub returns-then-b-lt-SIMPLES : goal.returns-then-b-lt-SIMPLES
-returns-then-b-lt-SIMPLES c = let s = c in c.tag.ensures (bytes s) (near (goal.at.returns-then-b-lt-SIMPLES s).Start).0 (first (goal.at.returns-then-b-lt-SIMPLES s).Start)
+returns-then-b-lt-SIMPLES c = let s = (goal.at.returns-then-b-lt-SIMPLES c).Start in c.tag.ensures (bytes s) (near s).0 (first s)
 
 pub overflow_add-result-2 : goal.overflow_add-result-2
 overflow_add-result-2 c = omega (arith, near (goal.at.overflow_add-result-2 c).Start)
 
 pub overflow_add-result-3 : goal.overflow_add-result-3
-overflow_add-result-3 c = omega (arith, near (goal.at.overflow_add-result-3 c).Start, width-most (info c))
+overflow_add-result-3 c = omega (arith, near (goal.at.overflow_add-result-3 c).Start, width-most (info (goal.at.overflow_add-result-3 c).Start))
