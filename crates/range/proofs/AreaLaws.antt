@@ -1,14 +1,14 @@
 -- Laws of the range as it is tested: instance by instance, up to the first test that fails, while the capacities are summed.
 -- Assumes nothing.
 use mathlib.Core.Path.{◌≡◌, refl, sym, ap, subst, ◌∙◌}
-use mathlib.Core.Bool.{Bool, true, false, true≢false, not, ◌&&◌}
+use mathlib.Core.Bool.{Bool, true, false, true≢false, ◌&&◌}
 use mathlib.Core.List.{List}
 use Prim.Native.Nat.{ℕ, zero, suc, ◌+◌, ◌*◌, ◌^◌, ◌≤◌, ◌<◌}
 use native.Mathlib.Omega.{arith}
 use native.Mathlib.Numerals.{add-one}
-use lib.Dec.{T, eqb, leb, ltb}
+use lib.Dec.{T, leb, ltb}
 use lib.ListN.{get_or, length}
-use borrow.Author.Tests.{ltb-true, ltb-false, lt-ltb, not-true, not-false}
+use borrow.Author.Tests.{ltb-true, ltb-false, lt-ltb}
 use Rattle.base.specs.Below.{all_below}
 use Rattle.base.proofs.Conds.{by_test, so, and_left, and_right, both_true, below_at, below_next}
 use Rattle.ring.specs.Ring.{base_of}
@@ -29,11 +29,11 @@ and-false true = refl
 and-false false = refl
 
 -- what is answered where the first of two fails, and where it passes
-pub stop : {r a : Bool} (x : Bool) → r ≡ a → not r ≡ true → false ≡ (a && x)
-stop {r} x e t = rw (sym e ∙ not-true r t)
+pub stop : {r a : Bool} (x : Bool) → r ≡ a → r ≡ false → false ≡ (a && x)
+stop {r} x e t = rw (sym e ∙ t)
 
-pub on : {r a x y : Bool} → r ≡ a → not r ≡ false → y ≡ x → y ≡ (a && x)
-on {r} e t f = rw (sym e ∙ not-false r t) f
+pub on : {r a x y : Bool} → r ≡ a → r ≡ true → y ≡ x → y ≡ (a && x)
+on {r} e t f = rw (sym e ∙ t) f
 
 -- ---- tests of each number below another
 

@@ -1,12 +1,12 @@
 -- Laws of the range: what a record in range promises.
 -- Assumes nothing.
-use mathlib.Core.Path.{◌≡◌, refl, sym, ap, ◌∙◌}
-use mathlib.Core.Bool.{Bool, true, false, true≢false, cond, not, ◌&&◌, ◌||◌}
-use mathlib.Core.List.{List, [], ◌∷◌, map}
-use Prim.Native.Nat.{ℕ, zero, suc, ◌+◌, ◌-◌, ◌*◌, ◌^◌, ◌≤◌, ◌<◌}
+use mathlib.Core.Path.{◌≡◌, sym, ap, ◌∙◌}
+use mathlib.Core.Bool.{Bool, true, false, true≢false, not, ◌&&◌, ◌||◌}
+use mathlib.Core.List.{List}
+use Prim.Native.Nat.{ℕ, ◌+◌, ◌-◌, ◌≤◌, ◌<◌}
 use native.Mathlib.Omega.{arith}
 use lib.Dec.{T, eqb, leb, ltb, leb→le, ltb→lt, eqb→eq}
-use lib.ListN.{length, get_or}
+use lib.ListN.{get_or}
 use borrow.Author.Tests.{eq-eqb, ne_eqb, eqb-false, lt-ltb, le-leb, lt-leb, leb-true, leb-false}
 use Rattle.base.specs.Below.{all_below}
 use Rattle.base.proofs.Conds.{by_test, so, is, and_left, and_right, below_at, below_all, and_equal}
@@ -147,8 +147,8 @@ ranged c e =
           let q = second (eqb r.rest 0) way h.1 (ne_eqb r.rest 0 (λ z. omega arith)) in
           let within = ltb r.instance n && leb (get_or r.held r.instance 0 + r.rest) (get_or s.receive r.instance 0) in
           let (none, q1) = both (eqb r.header.count 0) within q in
-          let (one_of_lem, fit) = both (ltb r.instance n) (leb (get_or r.held r.instance 0 + r.rest) (get_or s.receive r.instance 0)) q1 in
-          (eqb→eq r.header.count 0 none, ltb→lt r.instance n one_of_lem, leb→le _ _ fit);
+          let (one_of, fit) = both (ltb r.instance n) (leb (get_or r.held r.instance 0 + r.rest) (get_or s.receive r.instance 0)) q1 in
+          (eqb→eq r.header.count 0 none, ltb→lt r.instance n one_of, leb→le _ _ fit);
       accepted = λ a. eqb→eq (get_or t.states 0 0) (done_of (speaks b 0)) (second (not t.accepted) (eqb (get_or t.states 0 0) (done_of (speaks b 0))) accept-so (ap not a));
       closing = is (gate_ok b c.gate) gate-so;
     }
@@ -206,8 +206,8 @@ is_in_range c k =
         by_test (eqb r.rest 0) (λ q. rw (lt-ltb r.header.count header_length h, q))
         (λ q.
         let ne = eqb-false r.rest 0 q in
-        let (none, one_of_lem, fit) = u (omega arith) in
-        rw (lt-ltb r.header.count header_length h, q, eq-eqb r.header.count 0 none, lt-ltb r.instance n one_of_lem, le-leb _ _ fit))
+        let (none, one_of, fit) = u (omega arith) in
+        rw (lt-ltb r.header.count header_length h, q, eq-eqb r.header.count 0 none, lt-ltb r.instance n one_of, le-leb _ _ fit))
 
     accept-is : (b : ℕ) (t : Talk) → (t.accepted ≡ true → get_or t.states 0 0 ≡ done_of (speaks b 0)) → accept_ok b t.accepted t.states ≡ true
     accept-is b t h = by_test t.accepted (λ q. rw (q, eq-eqb (get_or t.states 0 0) (done_of (speaks b 0)) (h q))) (λ q. rw q)

@@ -1,7 +1,6 @@
 -- What only functions below the operations cite: the range of a record that is taken apart.
 use Rattle.std.specs.Prelude.{ℕ, ◌≡◌, Bool, true, ◌&&◌, List}
 use Rattle.base.specs.Below.{all_below}
-use Rattle.ring.specs.Ring.{base_of}
 use Rattle.wire.specs.Instances.{known, instances}
 use Rattle.connection.specs.Closings.{gate_ok}
 use Rattle.range.specs.declared.Marks.{Marks}

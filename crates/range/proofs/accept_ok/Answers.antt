@@ -1,5 +1,4 @@
 -- `range::accept_ok` meets its contract: the mark decides, and then the state.
-use borrow.Author.Rules.{rules}
 use Rattle.range.proofs.accept_ok.Goals as goal
 
 pub returns-then-accepted : goal.returns-then-accepted

@@ -1,6 +1,5 @@
 -- `range::area_ok` meets its contract: the tests are those of the definition, up to the first that fails.
 use borrow.Author.Tests.{le-leb, lt-leb, lt-ltb, le-ltb}
-use native.Mathlib.Omega.{arith}
 use Rattle.range.proofs.area_ok.Goals as goal
 
 pub returns-then-cap-lt-LEAST_CAPACITY : goal.returns-then-cap-lt-LEAST_CAPACITY

@@ -1,11 +1,9 @@
 -- `range::areas` meets its contract. The loop's invariant: the instances before i pass, and the sums are where areas i begin. One that fails decides.
 use mathlib.Core.Path.{◌≡◌, refl, sym, ap, ◌∙◌}
-use mathlib.Core.Bool.{true}
-use Prim.Native.Nat.{ℕ, ◌+◌, ◌-◌, ◌<◌, ◌≤◌}
+use Prim.Native.Nat.{ℕ, ◌+◌, ◌<◌}
 use native.Mathlib.Omega.{arith}
 use lib.ListN.{get_or}
 use borrow.Author.Rules.{rules}
-use borrow.Author.Tests.{not-true, not-false}
 use Rattle.base.specs.Below.{all_below}
 use Rattle.ring.specs.Ring.{base_of}
 use Rattle.wire.specs.Instances.{instances}
@@ -34,7 +32,7 @@ returns-then-not-numbers_ok c =
     let e : f i ≡ _ =
     tested a.bundle a.receive.now a.starts.now a.held.now a.send.now a.firsts.now a.waiting.now a.states.now i _
     c.numbers_ok.ensures last
-    ∙ not-true _ c.if-not-numbers_ok.true in
+    ∙ c.if-not-numbers_ok.true in
     out_spans c.out.ensures (below_not f a.n i (search rules) e)
 
 pub overflow_add-a : goal.overflow_add-a
@@ -48,7 +46,7 @@ overflow_add-a c =
     let e =
     tested a.bundle a.receive.now a.starts.now a.held.now a.send.now a.firsts.now a.waiting.now a.states.now l.i _
     c.numbers_ok.ensures last
-    ∙ not-false _ c.if-not-numbers_ok.false in
+    ∙ c.if-not-numbers_ok.false in
     let s =
     sums a.bundle a.receive.now a.starts.now a.held.now a.send.now a.firsts.now a.waiting.now a.states.now l.i
     (omega (arith, at_most a.bundle)) l.invariant.1 e in
@@ -65,7 +63,7 @@ overflow_add-b c =
     let e =
     tested a.bundle a.receive.now a.starts.now a.held.now a.send.now a.firsts.now a.waiting.now a.states.now l.i _
     c.numbers_ok.ensures last
-    ∙ not-false _ c.if-not-numbers_ok.false in
+    ∙ c.if-not-numbers_ok.false in
     let s =
     sums a.bundle a.receive.now a.starts.now a.held.now a.send.now a.firsts.now a.waiting.now a.states.now l.i
     (omega (arith, at_most a.bundle)) l.invariant.1 e in
@@ -83,7 +81,7 @@ loop-i-preserved c =
     let e =
     tested a.bundle a.receive.now a.starts.now a.held.now a.send.now a.firsts.now a.waiting.now a.states.now l.i _
     c.numbers_ok.ensures last
-    ∙ not-false _ c.if-not-numbers_ok.false in
+    ∙ c.if-not-numbers_ok.false in
     let s =
     sums a.bundle a.receive.now a.starts.now a.held.now a.send.now a.firsts.now a.waiting.now a.states.now l.i
     (omega (arith, at_most a.bundle)) l.invariant.1 e in (

@@ -1,16 +1,9 @@
-use mathlib.Core.Path.{◌≡◌, refl, sym, ap, ◌∙◌}
+use mathlib.Core.Path.{◌≡◌}
 use mathlib.Core.Bool.{true}
-use Prim.Native.Nat.{ℕ, ◌+◌, ◌-◌, ◌<◌, ◌≤◌}
-use native.Mathlib.Omega.{arith}
-use lib.ListN.{get_or}
-use borrow.Author.Rules.{rules}
-use borrow.Author.Tests.{not-true, not-false}
+use Prim.Native.Nat.{◌-◌, ◌≤◌}
 use Rattle.base.specs.Below.{all_below}
 use Rattle.ring.specs.Ring.{base_of}
-use Rattle.wire.specs.Instances.{instances}
-use Rattle.wire.proofs.InstanceLaws.{at_most}
 use Rattle.range.specs.Inside.{instance_in}
-use Rattle.range.proofs.AreaLaws.{below_not, below_more, tested, sums, out_spans}
 use Rattle.range.proofs.areas.Given as goal
 
 abbrev pub invariant-loop-i : goal.invariant-loop-i

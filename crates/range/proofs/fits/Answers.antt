@@ -3,7 +3,6 @@ use mathlib.Core.Path.{sym}
 use native.Mathlib.Omega.{arith}
 use borrow.Author.Tests.{lt-leb}
 use Rattle.range.proofs.RangeLaws.{fits-left}
-use borrow.Author.Rules.{rules}
 use Rattle.range.proofs.fits.Goals as goal
 
 pub returns-then-count-cap : goal.returns-then-count-cap

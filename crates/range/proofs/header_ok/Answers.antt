@@ -1,7 +1,6 @@
 -- `range::header_ok` meets its contract: the tests are those of the definition, up to the first that decides.
 use mathlib.Core.Path.{sym}
 use lib.Dec.{eqb}
-use borrow.Author.Rules.{rules}
 use borrow.Author.Tests.{eq-eqb, ne_eqb, lt-ltb, le-ltb}
 use Rattle.range.proofs.AreaLaws.{and-false}
 use Rattle.range.proofs.header_ok.Goals as goal

@@ -2,7 +2,6 @@
 -- known.
 use mathlib.Core.Path.{◌≡◌, sym, ap, ◌∙◌}
 use mathlib.Core.Bool.{true}
-use borrow.Author.Rules.{rules}
 use borrow.Author.Tests.{not-true, not-false}
 use Rattle.base.specs.Below.{all_below}
 use Rattle.base.proofs.Conds.{both_true}
@@ -17,7 +16,7 @@ pub returns-then-not-limit_ok : goal.returns-then-not-limit_ok
 returns-then-not-limit_ok c =
     let a = c.args in
     out_spans c.out.ensures
-    (second_fails (known a.bundle) (limit_ok a.m.limit) _ (sym c.limit_ok.ensures ∙ not-true _ c.if-not-limit_ok.true))
+    (second_fails (known a.bundle) (limit_ok a.m.limit) _ (sym c.limit_ok.ensures ∙ c.if-not-limit_ok.true))
 
 pub returns-then-not-r : goal.returns-then-not-r
 returns-then-not-r c =
@@ -32,7 +31,7 @@ pub returns-then-not-marks_ok : goal.returns-then-not-marks_ok
 returns-then-not-marks_ok c =
     let a = c.args in
     let f = instance_in a.bundle a.receive.now a.starts.now a.held.now a.send.now a.firsts.now a.waiting.now a.states.now in
-    let e = sym c.marks_ok.ensures ∙ not-true _ c.if-not-marks_ok.true in
+    let e = sym c.marks_ok.ensures ∙ c.if-not-marks_ok.true in
     out_spans c.out-then-not-marks_ok.ensures
     (last_fails (known a.bundle) (limit_ok a.m.limit) (all_below f (instances a.bundle))
     (marks_in a.bundle a.receive.now a.held.now a.states.now a.m) e)
@@ -48,8 +47,8 @@ returns c =
     let n : _ ≡ instances a.bundle = counted.count-n.ensures.0 in
     let ok = not-false _ c.if-not-r.false in
     let all : all_below f (instances a.bundle) ≡ true = ap (all_below f) (sym n) ∙ sym tested.areas-r.ensures.ok ∙ ok in
-    let limit : limit_ok a.m.limit ≡ true = sym limited.limit_ok.ensures ∙ not-false _ tested.if-not-limit_ok.false in
-    let marks : m ≡ true = sym c.marks_ok.ensures ∙ not-false _ c.if-not-marks_ok.false in
+    let limit : limit_ok a.m.limit ≡ true = sym limited.limit_ok.ensures ∙ tested.if-not-limit_ok.false in
+    let marks : m ≡ true = sym c.marks_ok.ensures ∙ c.if-not-marks_ok.false in
     let bundle : known a.bundle ≡ true =
     turn_known a.bundle a.m.turn (both_true (turn_ok (instances a.bundle) a.m.turn) _ marks).0 in
     record {

@@ -4,8 +4,7 @@ use mathlib.Core.Bool.{true, ◌&&◌}
 use Prim.Native.Nat.{◌<◌}
 use native.Mathlib.Omega.{arith}
 use lib.Dec.{leb, ltb}
-use borrow.Author.Rules.{rules}
-use borrow.Author.Tests.{ltb-true, not-false}
+use borrow.Author.Tests.{ltb-true}
 use Rattle.base.proofs.Conds.{both_true}
 use Rattle.range.proofs.AreaLaws.{stop, on}
 use Rattle.range.proofs.marks_ok.Goals as goal
@@ -24,7 +23,7 @@ accept_ok-requires c =
     let turn = c in
     let start = turn in
     let a = start.args in
-    let e : (leb 1 a.m.turn && ltb a.m.turn a.n) ≡ true = sym turn.and.ensures ∙ not-false _ turn.if-not-and.false in
+    let e : (leb 1 a.m.turn && ltb a.m.turn a.n) ≡ true = sym turn.and.ensures ∙ turn.if-not-and.false in
     let l : a.m.turn < a.n = ltb-true a.m.turn a.n (both_true (leb 1 a.m.turn) (ltb a.m.turn a.n) e).1 in
     omega (arith, start.requires.0)
 

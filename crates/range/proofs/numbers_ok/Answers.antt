@@ -1,6 +1,5 @@
 -- `range::numbers_ok` meets its contract: the tests are those of the definition, up to the first that fails.
 use mathlib.Core.Path.{refl}
-use borrow.Author.Rules.{rules}
 use Rattle.range.proofs.AreaLaws.{stop, on}
 use Rattle.range.proofs.numbers_ok.Goals as goal
 

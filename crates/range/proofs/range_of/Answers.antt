@@ -1,5 +1,4 @@
 -- `range::range_of` meets its contract: what is lent are the record's own arrays and numbers.
-use borrow.Author.Rules.{rules}
 use Rattle.range.specs.Ranges.{in_range}
 use Rattle.range.proofs.range_of.Goals as goal
 
