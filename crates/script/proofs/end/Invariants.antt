@@ -1,6 +1,5 @@
 use Prim.Native.Nat.{◌≤◌, ◌-◌}
 use lib.ListN.{length}
-use borrow.Author.Rules.{rules}
 use Rattle.script.proofs.end.Given as goal
 
 abbrev pub invariant-loop-at : goal.invariant-loop-at
