@@ -10,6 +10,7 @@ ghost use Rattle.io.specs.Counts.{IsPrefixLen};
 use base::smaller;
 use front::{Connection, INSTANCES, Party, Settings, Side};
 use output::Pen;
+use std::io::Stdout;
 
 // Every capacity, in bytes. A store is as long as its nine capacities together, and scratch as long as one.
 const CAPACITY: u64 = 16;
@@ -39,19 +40,35 @@ struct Step {
 }
 
 // A line of a word and numbers, unless one before it could not be written.
-fn say(written: bool, word: &[u8], numbers: &[u64]) -> bool {
+fn say(stdout: Stdout, written: bool, word: &[u8], numbers: &[u64]) -> bool {
     let mut space = [0u8; LINE];
     let out: &mut [u8] = &mut space;
-    let p = output::words(out, Pen { at: 0, written }, word);
+    let p = output::words(
+        out,
+        Pen {
+            stdout,
+            at: 0,
+            written,
+        },
+        word,
+    );
     let q = output::numbers(out, p, numbers);
     output::end(out, q)
 }
 
 // The same of bytes in hex.
-fn show(written: bool, bytes: &[u8]) -> bool {
+fn show(stdout: Stdout, written: bool, bytes: &[u8]) -> bool {
     let mut space = [0u8; LINE];
     let out: &mut [u8] = &mut space;
-    let p = output::hex(out, Pen { at: 0, written }, bytes);
+    let p = output::hex(
+        out,
+        Pen {
+            stdout,
+            at: 0,
+            written,
+        },
+        bytes,
+    );
     output::end(out, p)
 }
 
@@ -78,7 +95,7 @@ fn settings() -> Settings {
 
 // Proposes version 7 with parameters 0. Behind the kind, build is given: whether a list is to be of indefinite length (Propose
 // has no list); no numbers; one run of bytes, the map's key and value; and an empty second run.
-fn propose(c: Connection, send: &mut [u8]) -> Step {
+fn propose(stdout: Stdout, c: Connection, send: &mut [u8]) -> Step {
     let mut message = [0; ROOM];
     let built = front::build(
         0,
@@ -91,31 +108,31 @@ fn propose(c: Connection, send: &mut [u8]) -> Step {
         b"",
         &mut message,
     );
-    let written = say(true, b"build", &[built.number, built.len as u64]);
+    let written = say(stdout, true, b"build", &[built.number, built.len as u64]);
     let n = among(built.len, &message);
     let queued = front::put(c, send, HANDSHAKE, &message[..n]);
     let connection = queued.connection;
     Step {
         connection,
-        written: say(written, b"put", &[queued.number]),
+        written: say(stdout, written, b"put", &[queued.number]),
     }
 }
 
 // What is to be sent, as one segment. The time in its header is the caller's, here 5.
-fn send_out(s: Step, send: &[u8]) -> Step {
+fn send_out(stdout: Stdout, s: Step, send: &[u8]) -> Step {
     let mut segment = [0; ROOM];
     let made = front::next_segment(s.connection, send, 5, &mut segment);
-    let written = say(s.written, b"next", &[made.number, made.len as u64]);
+    let written = say(stdout, s.written, b"next", &[made.number, made.len as u64]);
     let n = among(made.len, &segment);
     let connection = made.connection;
     Step {
         connection,
-        written: show(written, &segment[..n]),
+        written: show(stdout, written, &segment[..n]),
     }
 }
 
 // The other end's answer: Accept of version 7, with parameters 0.
-fn hear(s: Step, receive: &mut [u8]) -> Step {
+fn hear(stdout: Stdout, s: Step, receive: &mut [u8]) -> Step {
     let fed = front::feed(
         s.connection,
         receive,
@@ -124,50 +141,66 @@ fn hear(s: Step, receive: &mut [u8]) -> Step {
     let connection = fed.connection;
     Step {
         connection,
-        written: say(s.written, b"feed", &[fed.number, fed.used as u64]),
+        written: say(stdout, s.written, b"feed", &[fed.number, fed.used as u64]),
     }
 }
 
 // What it says, looked at where it lies. Here a program would decide whether it wants it.
-fn consider(s: Step, receive: &[u8]) -> Step {
+fn consider(stdout: Stdout, s: Step, receive: &[u8]) -> Step {
     let mut scratch = [0; SCRATCH];
     let looked = front::look(s.connection, receive, HANDSHAKE, &mut scratch);
     let shown = looked.shown;
     let what = shown.message;
     let numbers = what.numbers;
-    let mut written = say(s.written, b"look", &[shown.number, shown.len as u64]);
-    written = say(written, b"kind and version", &[what.kind, numbers[0]]);
+    let mut written = say(
+        stdout,
+        s.written,
+        b"look",
+        &[shown.number, shown.len as u64],
+    );
+    written = say(
+        stdout,
+        written,
+        b"kind and version",
+        &[what.kind, numbers[0]],
+    );
     let place = looked.place;
     let message = front::part(receive, &scratch, place, shown.len);
     let connection = looked.connection;
     Step {
         connection,
-        written: show(written, message),
+        written: show(stdout, written, message),
     }
 }
 
 // The message is done with: its bytes are freed, and Handshake has ended.
-fn let_go(s: Step, receive: &[u8]) -> Step {
+fn let_go(stdout: Stdout, s: Step, receive: &[u8]) -> Step {
     let dropped = front::drop(s.connection, receive, HANDSHAKE);
     let shown = dropped.shown;
     let connection = dropped.connection;
     Step {
         connection,
-        written: say(s.written, b"drop", &[shown.number, shown.len as u64]),
+        written: say(
+            stdout,
+            s.written,
+            b"drop",
+            &[shown.number, shown.len as u64],
+        ),
     }
 }
 
-fn main() {
+fn main(rt: HostRuntime) {
+    let stdout = rt.stdout();
     let mut receive = [0; STORE];
     let mut send = [0; STORE];
     let opened = front::open(settings(), &receive, &send);
-    let proposed = propose(opened.connection, &mut send);
-    let sent = send_out(proposed, &send);
-    let heard = hear(sent, &mut receive);
-    let considered = consider(heard, &receive);
-    let accepted = let_go(considered, &receive);
+    let proposed = propose(stdout, opened.connection, &mut send);
+    let sent = send_out(stdout, proposed, &send);
+    let heard = hear(stdout, sent, &mut receive);
+    let considered = consider(stdout, heard, &receive);
+    let accepted = let_go(stdout, considered, &receive);
     let report = front::status(accepted.connection);
-    if !say(accepted.written, b"status", &[report.number]) {
-        output::stop(b"example: cannot write to standard output\n");
+    if !say(stdout, accepted.written, b"status", &[report.number]) {
+        output::stop(rt.stderr(), b"example: cannot write to standard output\n");
     }
 }

@@ -6,6 +6,7 @@ use base::smaller;
 use build::Built;
 use calls::WORDS;
 use output::Pen;
+use std::io::Stdout;
 
 // What a lent buffer is filled with.
 const FILL: u8 = 0xee;
@@ -14,13 +15,13 @@ const FILL: u8 = 0xee;
 const ROOM: usize = 32;
 
 // build B,I KIND,RUNS,LEN NUMS FIRST,SECOND, and the same with `indefinite` behind it
-pub fn build(line: &[u8], words: [u64; WORDS]) -> bool {
+pub fn build(stdout: Stdout, line: &[u8], words: [u64; WORDS]) -> bool {
     if !fitting(words) {
-        return bad();
+        return bad(stdout);
     }
     let mut buf = [FILL; ROOM];
     let n = lent(words[8] as usize, &buf);
-    built(line, words, &mut buf[..n])
+    built(stdout, line, words, &mut buf[..n])
 }
 
 // Whether the lists have as many numbers and runs, and there is room for the buffer.
@@ -38,11 +39,11 @@ fn lent(n: usize, s: &[u8]) -> usize
 }
 
 // Builds into a lent buffer, and prints the line.
-fn built(line: &[u8], words: [u64; WORDS], buf: &mut [u8]) -> bool {
+fn built(stdout: Stdout, line: &[u8], words: [u64; WORDS], buf: &mut [u8]) -> bool {
     let m = made(line, words, buf);
     let mut space = [0u8; OUT];
     let out: &mut [u8] = &mut space;
-    let mut p = begun(out, words[2], words[6], m.number);
+    let mut p = begun(stdout, out, words[2], words[6], m.number);
     p = answer(out, p, words[1], words[2], m.number, buf, m.len);
     output::end(out, p)
 }
@@ -64,8 +65,8 @@ fn made(line: &[u8], words: [u64; WORDS], buf: &mut [u8]) -> Built {
 }
 
 // The instance, the kind and the number.
-fn begun(out: &mut [u8], i: u64, kind: u64, number: u64) -> Pen {
-    let mut p = output::decimal(out, output::begin(), i);
+fn begun(stdout: Stdout, out: &mut [u8], i: u64, kind: u64, number: u64) -> Pen {
+    let mut p = output::decimal(out, output::begin(stdout), i);
     p = output::number(out, p, kind);
     p = output::byte(out, p, b':');
     output::number(out, p, number)

@@ -22,6 +22,7 @@ use item::Verdict;
 use messages::{MOST_PLACES, Message, Reading};
 use output::Pen;
 use rows::Protocol;
+use std::io::Stdout;
 
 // No line of the script is longer.
 const LINE: usize = 1024;
@@ -32,89 +33,99 @@ const SPACE: usize = 4096;
 // How much of an answer is written at once.
 const OUT: usize = 256;
 
-fn main() {
+fn main(rt: HostRuntime) {
     let mut space = [0; SPACE];
-    run(&mut space);
+    run(rt, &mut space);
 }
 
 // Runs the script to its end, line by line.
 //
 // A proved loop has to end, and nothing says that the input does. So the loop counts its turns down, from a number that
 // no run uses up.
-fn run(space: &mut [u8; SPACE]) {
+fn run(rt: HostRuntime, space: &mut [u8; SPACE]) {
     let mut lines = input::begin();
     let mut turns = u64::MAX;
     while 0 < turns {
         turns -= 1;
-        if !step(space, lines) {
-            unwritten();
+        if !step(rt.stdout(), space, lines) {
+            unwritten(rt);
             return;
         }
-        lines = input::step(space, LINE, lines);
+        lines = input::step(rt.stdin(), space, LINE, lines);
         if lines.over {
-            ended(lines.failed);
+            ended(rt, lines.failed);
             return;
         }
     }
 }
 
 // Why nothing more is run: an answer could not be written, or the input has ended, or could not be read.
-fn unwritten() {
-    output::stop(b"form_cases: cannot write to standard output\n");
+fn unwritten(rt: HostRuntime) {
+    output::stop(
+        rt.stderr(),
+        b"form_cases: cannot write to standard output\n",
+    );
 }
 
-fn ended(failed: bool) {
+fn ended(rt: HostRuntime, failed: bool) {
     if failed {
-        output::stop(b"form_cases: cannot read standard input\n");
+        output::stop(rt.stderr(), b"form_cases: cannot read standard input\n");
     }
 }
 
 // Runs the line at the front, if it is whole, and answers whether its answer was written.
-fn step(space: &mut [u8], l: Lines) -> bool {
+fn step(stdout: Stdout, space: &mut [u8], l: Lines) -> bool {
     if !input::whole(l) {
         return true;
     }
     if l.long {
-        return bad();
+        return bad(stdout);
     }
     let w = input::line(space, l);
     let from = w.from;
     let to = w.to;
-    line(&mut space[from..to])
+    line(stdout, &mut space[from..to])
 }
 
-fn line(line: &mut [u8]) -> bool {
+fn line(stdout: Stdout, line: &mut [u8]) -> bool {
     let mut words = [0; WORDS];
     let case = calls::said(b"read lr build lllpi", 2, line, &mut words);
     match case {
-        0 => read(line, words),
-        1 => built::build(line, words),
-        _ => other(line),
+        0 => read(stdout, line, words),
+        1 => built::build(stdout, line, words),
+        _ => other(stdout, line),
     }
 }
 
 // A remark, or no case.
-fn other(line: &[u8]) -> bool {
+fn other(stdout: Stdout, line: &[u8]) -> bool {
     if script::is(line, script::first(line), b"#") {
         return true;
     }
-    bad()
+    bad(stdout)
 }
 
 // A line that is no case.
-fn bad() -> bool {
-    output::line(b"bad line")
+fn bad(stdout: Stdout) -> bool {
+    output::line(stdout, b"bad line")
 }
 
 // read B,I,FROM RUN
-fn read(line: &[u8], words: [u64; WORDS]) -> bool {
+fn read(stdout: Stdout, line: &[u8], words: [u64; WORDS]) -> bool {
     if words[0] != 3 {
-        return bad();
+        return bad(stdout);
     }
     let mut space = [0u8; OUT];
     let out: &mut [u8] = &mut space;
     let bytes = calls::bytes(line, words, 5);
-    let p = spoken(out, output::begin(), words[1], words[2], bytes, words[3]);
+    let p = spoken(
+        out,
+        output::begin(stdout),
+        words[1],
+        words[2],
+        bytes,
+        words[3],
+    );
     output::end(out, p)
 }
 

@@ -8,8 +8,8 @@ ghost use Rattle.std.specs.Prelude.{◌≤◌, length};
 ghost use Rattle.io.specs.Counts.{IsPrefixLen};
 
 use base::smaller;
-use libc::STDIN_FILENO;
 use script::Word;
+use std::io::{Read, Stdin};
 
 // What a read came to: how many bytes, none at the end of the input; and whether it failed.
 #[derive(Clone, Copy)]
@@ -19,13 +19,18 @@ pub struct Got {
 }
 
 // Reads some bytes to the front of a space.
-pub fn read(space: &mut [u8]) -> Got
+pub fn read(mut stdin: Stdin, space: &mut [u8]) -> Got
     ensures { IsPrefixLen result.count space.new }
 {
-    let got = libc::read(STDIN_FILENO, space);
-    Got {
-        count: io::count(got, space),
-        failed: got < 0,
+    match stdin.read(space) {
+        Ok(count) => Got {
+            count,
+            failed: false,
+        },
+        Err(_) => Got {
+            count: 0,
+            failed: true,
+        },
     }
 }
 
@@ -75,17 +80,17 @@ fn between(from: usize, to: usize) -> usize {
 }
 
 // The next step, where a line has at most so many characters, fewer than the space.
-pub fn step(space: &mut [u8], most: usize, l: Lines) -> Lines {
+pub fn step(stdin: Stdin, space: &mut [u8], most: usize, l: Lines) -> Lines {
     if whole(l) {
         let next = std::num::wrapping_add_usize(l.end, 1);
         return seen(space, most, next, l.to, false);
     }
     let n = between(l.from, l.to);
     if most < n {
-        return more(space, most, 0, true);
+        return more(stdin, space, most, 0, true);
     }
     shift(space, l.from, n);
-    more(space, most, n, l.long)
+    more(stdin, space, most, n, l.long)
 }
 
 // What was read, from a place on up to another, with where its first line ends.
@@ -114,9 +119,9 @@ fn shift(space: &mut [u8], from: usize, n: usize) {
 }
 
 // Reads behind the first n bytes.
-fn more(space: &mut [u8], most: usize, n: usize, long: bool) -> Lines {
+fn more(stdin: Stdin, space: &mut [u8], most: usize, n: usize, long: bool) -> Lines {
     let k = smaller(n, space.len());
-    let got = read(&mut space[k..]);
+    let got = read(stdin, &mut space[k..]);
     if got.failed {
         return over(true);
     }

@@ -4,26 +4,26 @@
 
 use lister_core::Listing;
 
-fn main() {
+fn main(rt: HostRuntime) {
     let mut space = io::large_buffer();
-    read_all(Listing::begin(), &mut space);
+    read_all(rt, Listing::begin(), &mut space);
 }
 
 // A proved loop has to end, and nothing says that the input does. So the loop counts its reads down, from a
 // number that no run uses up.
-fn read_all(l: Listing, space: &mut [u8]) {
+fn read_all(rt: HostRuntime, l: Listing, space: &mut [u8]) {
     let mut known = l;
     let mut reads = u64::MAX;
     while 0 < reads {
-        let got = input::read(space);
+        let got = input::read(rt.stdin(), space);
         let n = got.count;
         if n == 0 {
-            ended(known, got.failed);
+            ended(rt, known, got.failed);
             return;
         }
-        let printed = lister_lines::print_run(known, &space[..n]);
+        let printed = lister_lines::print_run(rt.stdout(), known, &space[..n]);
         if !printed.written {
-            unwritten();
+            unwritten(rt);
             return;
         }
         let next = printed.listing;
@@ -33,16 +33,16 @@ fn read_all(l: Listing, space: &mut [u8]) {
 }
 
 // The last line is that of the whole input.
-fn ended(l: Listing, failed: bool) {
+fn ended(rt: HostRuntime, l: Listing, failed: bool) {
     if failed {
-        output::stop(b"lister: cannot read standard input\n");
+        output::stop(rt.stderr(), b"lister: cannot read standard input\n");
         return;
     }
-    if !lister_lines::print_last(l) {
-        unwritten();
+    if !lister_lines::print_last(rt.stdout(), l) {
+        unwritten(rt);
     }
 }
 
-fn unwritten() {
-    output::stop(b"lister: cannot write to standard output\n");
+fn unwritten(rt: HostRuntime) {
+    output::stop(rt.stderr(), b"lister: cannot write to standard output\n");
 }

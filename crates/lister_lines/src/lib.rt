@@ -8,6 +8,7 @@ ghost use Rattle.lister_core.specs.Lister.{fed};
 
 use lister_core::{Line, Listing};
 use output::Pen;
+use std::io::Stdout;
 use wire::segment::Segment;
 
 // No line is longer.
@@ -21,7 +22,7 @@ pub struct Printed {
 }
 
 // Lists a run of bytes. Once a line could not be written, no other is.
-pub fn print_run(l: Listing, run: &[u8]) -> Printed
+pub fn print_run(stdout: Stdout, l: Listing, run: &[u8]) -> Printed
     ensures { result.listing ≡ (fed l run.now).listing }
 {
     let mut known = l;
@@ -30,7 +31,7 @@ pub fn print_run(l: Listing, run: &[u8]) -> Printed
     while from < run.len() {
         let t = known.step(run, from);
         let line = t.line;
-        written = print_line(line, written);
+        written = print_line(stdout, line, written);
         let next = t.listing;
         known = next;
         from += t.used;
@@ -42,21 +43,21 @@ pub fn print_run(l: Listing, run: &[u8]) -> Printed
 }
 
 // A line where a segment ended, after others that were written.
-fn print_line(line: Line, written: bool) -> bool {
+fn print_line(stdout: Stdout, line: Line, written: bool) -> bool {
     if !written {
         return false;
     }
     match line {
         Line::None => true,
-        Line::Whole(s) => print_segment(s),
+        Line::Whole(s) => print_segment(stdout, s),
     }
 }
 
 // Time, protocol, mode, length.
-fn print_segment(s: Segment) -> bool {
+fn print_segment(stdout: Stdout, s: Segment) -> bool {
     let mut space = [0u8; LINE];
     let out: &mut [u8] = &mut space;
-    let mut p = output::decimal(out, output::begin(), s.time as u64);
+    let mut p = output::decimal(out, output::begin(stdout), s.time as u64);
     p = output::number(out, p, s.protocol as u64);
     p = output::number(out, p, s.mode as u64);
     p = output::number(out, p, s.len as u64);
@@ -64,19 +65,19 @@ fn print_segment(s: Segment) -> bool {
 }
 
 // `end` or, where bytes break off inside a segment, `cut`; then whole segments, then bytes read.
-pub fn print_last(l: Listing) -> bool {
+pub fn print_last(stdout: Stdout, l: Listing) -> bool {
     let mut space = [0u8; LINE];
     let out: &mut [u8] = &mut space;
-    let mut p = ending(out, l.at_end());
+    let mut p = ending(stdout, out, l.at_end());
     p = output::number(out, p, l.segments);
     p = output::number(out, p, l.bytes);
     output::end(out, p)
 }
 
 // The last line's first word.
-fn ending(out: &mut [u8], whole: bool) -> Pen {
+fn ending(stdout: Stdout, out: &mut [u8], whole: bool) -> Pen {
     if whole {
-        return output::words(out, output::begin(), b"end");
+        return output::words(out, output::begin(stdout), b"end");
     }
-    output::words(out, output::begin(), b"cut")
+    output::words(out, output::begin(stdout), b"cut")
 }

@@ -8,7 +8,7 @@
 
 ghost use Rattle.std.specs.Prelude.{◌+◌, ◌≤◌, length};
 
-use libc::{STDERR_FILENO, STDOUT_FILENO};
+use std::io::{Stderr, Stdout};
 use text::DIGITS;
 
 // How many digits a byte has.
@@ -17,16 +17,18 @@ const HEX: usize = 2;
 // How much of a line of words alone is written at once.
 const SPACE: usize = 64;
 
-// The place of the next byte in the buffer, and whether all that was to be written out so far was.
+// Standard output, the place of the next byte in the buffer, and whether all that was to be written out so far was.
 #[derive(Clone, Copy)]
 pub struct Pen {
+    pub stdout: Stdout,
     pub at: usize,
     pub written: bool,
 }
 
 // At the start of a line.
-pub fn begin() -> Pen {
+pub fn begin(stdout: Stdout) -> Pen {
     Pen {
+        stdout,
         at: 0,
         written: true,
     }
@@ -35,6 +37,7 @@ pub fn begin() -> Pen {
 // In a buffer that is too short for a piece: it is lost, and the pen says so.
 fn lost(p: Pen) -> Pen {
     Pen {
+        stdout: p.stdout,
         at: p.at,
         written: false,
     }
@@ -49,7 +52,7 @@ fn flush(out: &[u8], p: Pen) -> bool {
     if out.len() < n {
         return false;
     }
-    io::write_all(STDOUT_FILENO, &out[..n])
+    p.stdout.write_all(&out[..n]).is_ok()
 }
 
 // Room for n bytes: the pen where it is, or at the front once the bytes before it are written out.
@@ -61,6 +64,7 @@ fn room(out: &[u8], p: Pen, n: usize) -> Pen
         return p;
     }
     Pen {
+        stdout: p.stdout,
         at: 0,
         written: flush(out, p),
     }
@@ -73,6 +77,7 @@ pub fn byte(out: &mut [u8], p: Pen, b: u8) -> Pen {
     }
     let q = room(out, p, 1);
     Pen {
+        stdout: q.stdout,
         at: text::byte(out, q.at, b),
         written: q.written,
     }
@@ -96,6 +101,7 @@ pub fn decimal(out: &mut [u8], p: Pen, n: u64) -> Pen {
     }
     let q = room(out, p, DIGITS);
     Pen {
+        stdout: q.stdout,
         at: text::decimal(out, q.at, n),
         written: q.written,
     }
@@ -148,6 +154,7 @@ fn digits(out: &mut [u8], p: Pen, b: u8) -> Pen {
     }
     let q = room(out, p, HEX);
     Pen {
+        stdout: q.stdout,
         at: text::hex(out, q.at, b),
         written: q.written,
     }
@@ -180,14 +187,14 @@ pub fn end(out: &mut [u8], p: Pen) -> bool {
 }
 
 // A line of words alone.
-pub fn line(said: &[u8]) -> bool {
+pub fn line(stdout: Stdout, said: &[u8]) -> bool {
     let mut space = [0u8; SPACE];
     let out: &mut [u8] = &mut space;
-    let p = words(out, begin(), said);
+    let p = words(out, begin(stdout), said);
     end(out, p)
 }
 
 // Says on standard error, in a line of words, why the program ends before its work is done.
-pub fn stop(line: &[u8]) {
-    io::write_all(STDERR_FILENO, line);
+pub fn stop(stderr: Stderr, line: &[u8]) {
+    let _ = stderr.write_all(line);
 }

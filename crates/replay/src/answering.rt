@@ -6,56 +6,63 @@ use hearing::Shown;
 use looking::Place;
 use messages::{MOST_PLACES, Message};
 use output::Pen;
+use std::io::Stdout;
 use telling::Report;
 
 // How much of a line is written at once.
 const OUT: usize = 4096;
 
 // A name, and numbers.
-fn numbers(name: &[u8], numbers: &[u64]) -> bool {
+fn numbers(stdout: Stdout, name: &[u8], numbers: &[u64]) -> bool {
     let mut space = [0u8; OUT];
     let out: &mut [u8] = &mut space;
-    let p = begun(out, name, numbers);
+    let p = begun(stdout, out, name, numbers);
     output::end(out, p)
 }
 
-fn begun(out: &mut [u8], name: &[u8], numbers: &[u64]) -> Pen {
-    let p = output::words(out, output::begin(), name);
+fn begun(stdout: Stdout, out: &mut [u8], name: &[u8], numbers: &[u64]) -> Pen {
+    let p = output::words(out, output::begin(stdout), name);
     output::numbers(out, p, numbers)
 }
 
 // The name of a call alone, with its number, and with its number and a count.
-pub fn name(name: &[u8]) -> bool {
-    numbers(name, &[])
+pub fn name(stdout: Stdout, name: &[u8]) -> bool {
+    numbers(stdout, name, &[])
 }
 
-pub fn number(name: &[u8], n: u64) -> bool {
-    numbers(name, &[n])
+pub fn number(stdout: Stdout, name: &[u8], n: u64) -> bool {
+    numbers(stdout, name, &[n])
 }
 
-pub fn counted(name: &[u8], n: u64, count: usize) -> bool {
-    numbers(name, &[n, count as u64])
+pub fn counted(stdout: Stdout, name: &[u8], n: u64, count: usize) -> bool {
+    numbers(stdout, name, &[n, count as u64])
 }
 
 // What a line that is no call is answered: its number, counted from 1.
-pub fn bad(line: u64) -> bool {
-    numbers(b"bad line", &[line])
+pub fn bad(stdout: Stdout, line: u64) -> bool {
+    numbers(stdout, b"bad line", &[line])
 }
 
 // A number and a count, with the lent buffer.
-pub fn filled(name: &[u8], n: u64, count: usize, buf: &[u8]) -> bool {
+pub fn filled(stdout: Stdout, name: &[u8], n: u64, count: usize, buf: &[u8]) -> bool {
     let mut space = [0u8; OUT];
     let out: &mut [u8] = &mut space;
-    let mut p = begun(out, name, &[n, count as u64]);
+    let mut p = begun(stdout, out, name, &[n, count as u64]);
     p = output::run(out, p, buf);
     output::end(out, p)
 }
 
 // What a look is answered: what it shows, where the message is, its bytes, and scratch.
-pub fn looked<'a>(s: Shown, place: Place, store: &'a [u8], scratch: &'a [u8]) -> bool {
+pub fn looked<'a>(
+    stdout: Stdout,
+    s: Shown,
+    place: Place,
+    store: &'a [u8],
+    scratch: &'a [u8],
+) -> bool {
     let mut space = [0u8; OUT];
     let out: &mut [u8] = &mut space;
-    let mut p = shown(out, b"look", s);
+    let mut p = shown(stdout, out, b"look", s);
     p = placed(out, p, place);
     p = output::run(out, p, looking::part(store, scratch, place, s.len));
     p = output::run(out, p, scratch);
@@ -63,17 +70,18 @@ pub fn looked<'a>(s: Shown, place: Place, store: &'a [u8], scratch: &'a [u8]) ->
 }
 
 // What a drop is answered.
-pub fn dropped(s: Shown) -> bool {
+pub fn dropped(stdout: Stdout, s: Shown) -> bool {
     let mut space = [0u8; OUT];
     let out: &mut [u8] = &mut space;
-    let p = shown(out, b"drop", s);
+    let p = shown(stdout, out, b"drop", s);
     output::end(out, p)
 }
 
 // What both say of a message: the number, its kind, its length, the offset, and its numbers and places.
-fn shown(out: &mut [u8], name: &[u8], s: Shown) -> Pen {
+fn shown(stdout: Stdout, out: &mut [u8], name: &[u8], s: Shown) -> Pen {
     let m = s.message;
     let p = begun(
+        stdout,
         out,
         name,
         &[s.number, m.kind, s.len as u64, s.offset as u64],
@@ -119,13 +127,13 @@ fn places_of(m: Message) -> [u64; 2 * MOST_PLACES] {
 }
 
 // What status tells, with so many counts.
-pub fn status(r: Report, n: usize) -> bool {
+pub fn status(stdout: Stdout, r: Report, n: usize) -> bool {
     let mut space = [0u8; OUT];
     let out: &mut [u8] = &mut space;
     let numbers = numbers_of(r);
     let held = r.held;
     let waiting = r.waiting;
-    let mut p = begun(out, b"status", &numbers);
+    let mut p = begun(stdout, out, b"status", &numbers);
     p = listed(out, p, &held, n);
     p = listed(out, p, &waiting, n);
     output::end(out, p)
@@ -162,10 +170,10 @@ fn closed(why: Closing) -> [u64; 3] {
 }
 
 // The lent parts of both stores.
-pub fn stores(receive: &[u8], send: &[u8]) -> bool {
+pub fn stores(stdout: Stdout, receive: &[u8], send: &[u8]) -> bool {
     let mut space = [0u8; OUT];
     let out: &mut [u8] = &mut space;
-    let mut p = output::words(out, output::begin(), b"stores");
+    let mut p = output::words(out, output::begin(stdout), b"stores");
     p = output::run(out, p, receive);
     p = output::run(out, p, send);
     output::end(out, p)

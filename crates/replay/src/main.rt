@@ -10,6 +10,7 @@ use base::smaller;
 use calls::{STORE, WORDS};
 use connection::Connection;
 use input::Lines;
+use std::io::Stdout;
 
 mod answering;
 mod making;
@@ -25,11 +26,11 @@ const SPACE: usize = LINE + CHUNK;
 // Every byte of the stores at the start, and of the lent buffer before each call.
 const FILL: u8 = 238;
 
-fn main() {
+fn main(rt: HostRuntime) {
     let mut receive = [FILL; STORE];
     let mut send = [FILL; STORE];
     let mut space = [0; SPACE];
-    run(&mut receive, &mut send, &mut space);
+    run(rt, &mut receive, &mut send, &mut space);
 }
 
 // What calls are given: the bundle; how many bytes of each store are lent; and how many lines were read.
@@ -76,20 +77,25 @@ fn begin() -> Desk {
 //
 // A proved loop has to end, and nothing says that the input does. So the loop counts its turns down, from a number that
 // no run uses up.
-fn run(receive: &mut [u8; STORE], send: &mut [u8; STORE], space: &mut [u8; SPACE]) {
+fn run(
+    rt: HostRuntime,
+    receive: &mut [u8; STORE],
+    send: &mut [u8; STORE],
+    space: &mut [u8; SPACE],
+) {
     let mut desk = begin();
     let mut lines = input::begin();
     let mut turns = u64::MAX;
     while 0 < turns {
         turns -= 1;
-        desk = step(desk, receive, send, space, lines);
+        desk = step(rt.stdout(), desk, receive, send, space, lines);
         if !written(desk) {
-            unwritten();
+            unwritten(rt);
             return;
         }
-        lines = input::step(space, LINE, lines);
+        lines = input::step(rt.stdin(), space, LINE, lines);
         if lines.over {
-            ended(lines.failed);
+            ended(rt, lines.failed);
             return;
         }
     }
@@ -102,18 +108,19 @@ fn written(d: Desk) -> bool {
 }
 
 // Why nothing more is run: an answer could not be written, or the input has ended, or could not be read.
-fn unwritten() {
-    output::stop(b"replay: cannot write to standard output\n");
+fn unwritten(rt: HostRuntime) {
+    output::stop(rt.stderr(), b"replay: cannot write to standard output\n");
 }
 
-fn ended(failed: bool) {
+fn ended(rt: HostRuntime, failed: bool) {
     if failed {
-        output::stop(b"replay: cannot read standard input\n");
+        output::stop(rt.stderr(), b"replay: cannot read standard input\n");
     }
 }
 
 // Runs the line at the front, if it is whole.
 fn step(
+    stdout: Stdout,
     d: Desk,
     receive: &mut [u8; STORE],
     send: &mut [u8; STORE],
@@ -126,7 +133,7 @@ fn step(
     let w = input::line(space, l);
     let from = w.from;
     let to = w.to;
-    making::line(d, receive, send, &mut space[from..to], l.long)
+    making::line(stdout, d, receive, send, &mut space[from..to], l.long)
 }
 
 // How many bytes of a slice are lent: so many, and all where that is more.

@@ -10,6 +10,7 @@ use base::smaller;
 use build::Built;
 use calls::{LENT, STORE, WORDS};
 use connection::{Connection, Settings};
+use std::io::Stdout;
 use wire::instances::{INSTANCES, Party, Side, count, known};
 
 // The calls by their places in the table; a line that is no call; and one that is passed over.
@@ -83,6 +84,7 @@ fn each(bundle: u64) -> usize
 
 // Makes the call that a line spells.
 pub fn line(
+    stdout: Stdout,
     d: Desk,
     receive: &mut [u8; STORE],
     send: &mut [u8; STORE],
@@ -96,7 +98,7 @@ pub fn line(
     let m = d.made;
     let c = m.connection;
     let mut buf = [FILL; LENT];
-    let made = made(c, given, receive, send, line, &mut buf, call, words);
+    let made = made(stdout, c, given, receive, send, line, &mut buf, call, words);
     Desk { made, given }
 }
 
@@ -203,6 +205,7 @@ fn side(n: u64) -> Side {
 
 // Makes a call, prints its answer, and hands back the record and whether the answer could be written.
 fn made(
+    stdout: Stdout,
     c: Connection,
     g: Given,
     receive: &mut [u8; STORE],
@@ -213,25 +216,25 @@ fn made(
     words: [u64; WORDS],
 ) -> Made {
     match call {
-        OPEN => open(g, receive, send, words),
-        FEED => feed(c, g, receive, line, words),
-        LOOK => look(c, g, receive, words, buf),
-        DROP => drop(c, g, receive, words),
-        BUILD => build(c, g, line, words, buf),
-        PUT => put(c, g, send, line, words),
-        NEXT => next(c, g, send, words, buf),
-        SHOW => show(c, g, receive, send),
-        _ => plain(c, g, call),
+        OPEN => open(stdout, g, receive, send, words),
+        FEED => feed(stdout, c, g, receive, line, words),
+        LOOK => look(stdout, c, g, receive, words, buf),
+        DROP => drop(stdout, c, g, receive, words),
+        BUILD => build(stdout, c, g, line, words, buf),
+        PUT => put(stdout, c, g, send, line, words),
+        NEXT => next(stdout, c, g, send, words, buf),
+        SHOW => show(stdout, c, g, receive, send),
+        _ => plain(stdout, c, g, call),
     }
 }
 
 // The calls that are lent nothing, and a line that is no call.
-fn plain(c: Connection, g: Given, call: usize) -> Made {
+fn plain(stdout: Stdout, c: Connection, g: Given, call: usize) -> Made {
     let written = match call {
-        BUNDLE => answering::name(b"bundle"),
-        LEND => answering::name(b"lend"),
-        STATUS => status(c),
-        BAD => answering::bad(g.lines),
+        BUNDLE => answering::name(stdout, b"bundle"),
+        LEND => answering::name(stdout, b"lend"),
+        STATUS => status(stdout, c),
+        BAD => answering::bad(stdout, g.lines),
         _ => true,
     };
     Made {
@@ -241,46 +244,67 @@ fn plain(c: Connection, g: Given, call: usize) -> Made {
 }
 
 // status, with as many counts as the record's bundle has instances
-fn status(c: Connection) -> bool {
+fn status(stdout: Stdout, c: Connection) -> bool {
     let s = c.settings;
     let party = s.party;
     let r = telling::status(c);
     if r.number == 0 {
-        return answering::status(r, count(party.bundle));
+        return answering::status(stdout, r, count(party.bundle));
     }
-    answering::status(r, NINE)
+    answering::status(stdout, r, NINE)
 }
 
 // open SIDE S R.. W..
-fn open(g: Given, receive: &[u8], send: &[u8], words: [u64; WORDS]) -> Made {
+fn open(stdout: Stdout, g: Given, receive: &[u8], send: &[u8], words: [u64; WORDS]) -> Made {
     let r = lent(g.receive, receive);
     let s = lent(g.send, send);
     let o = opening::open(settings(g.bundle, words), &receive[..r], &send[..s]);
     let connection = o.connection;
     Made {
         connection,
-        written: answering::number(b"open", o.number),
+        written: answering::number(stdout, b"open", o.number),
     }
 }
 
 // feed RUN
-fn feed(c: Connection, g: Given, receive: &mut [u8], line: &[u8], words: [u64; WORDS]) -> Made {
+fn feed(
+    stdout: Stdout,
+    c: Connection,
+    g: Given,
+    receive: &mut [u8],
+    line: &[u8],
+    words: [u64; WORDS],
+) -> Made {
     let r = lent(g.receive, receive);
     let f = feeding::feed(c, &mut receive[..r], calls::bytes(line, words, 0));
     let connection = f.connection;
     Made {
         connection,
-        written: answering::counted(b"feed", f.number, f.used),
+        written: answering::counted(stdout, b"feed", f.number, f.used),
     }
 }
 
 // look I LEN
-fn look(c: Connection, g: Given, receive: &[u8], words: [u64; WORDS], buf: &mut [u8]) -> Made {
+fn look(
+    stdout: Stdout,
+    c: Connection,
+    g: Given,
+    receive: &[u8],
+    words: [u64; WORDS],
+    buf: &mut [u8],
+) -> Made {
     let n = lent(words[1] as usize, buf);
-    looked(c, g, receive, words[0], &mut buf[..n])
+    looked(stdout, c, g, receive, words[0], &mut buf[..n])
 }
 
-fn looked(c: Connection, g: Given, receive: &[u8], i: u64, scratch: &mut [u8]) -> Made {
+fn looked(
+    stdout: Stdout,
+    c: Connection,
+    g: Given,
+    receive: &[u8],
+    i: u64,
+    scratch: &mut [u8],
+) -> Made {
     let r = lent(g.receive, receive);
     let l = looking::look(c, &receive[..r], i, scratch);
     let shown = l.shown;
@@ -288,33 +312,40 @@ fn looked(c: Connection, g: Given, receive: &[u8], i: u64, scratch: &mut [u8]) -
     let connection = l.connection;
     Made {
         connection,
-        written: answering::looked(shown, place, &receive[..r], scratch),
+        written: answering::looked(stdout, shown, place, &receive[..r], scratch),
     }
 }
 
 // drop I
-fn drop(c: Connection, g: Given, receive: &[u8], words: [u64; WORDS]) -> Made {
+fn drop(stdout: Stdout, c: Connection, g: Given, receive: &[u8], words: [u64; WORDS]) -> Made {
     let r = lent(g.receive, receive);
     let d = dropping::drop(c, &receive[..r], words[0]);
     let connection = d.connection;
     Made {
         connection,
-        written: answering::dropped(d.shown),
+        written: answering::dropped(stdout, d.shown),
     }
 }
 
 // build I KIND NUMS PARTS LEN, build I KIND NUMS PARTS LEN indefinite
-fn build(c: Connection, g: Given, line: &[u8], words: [u64; WORDS], buf: &mut [u8]) -> Made {
+fn build(
+    stdout: Stdout,
+    c: Connection,
+    g: Given,
+    line: &[u8],
+    words: [u64; WORDS],
+    buf: &mut [u8],
+) -> Made {
     let n = lent(words[14] as usize, buf);
     Made {
         connection: c,
-        written: built(g.bundle, line, words, &mut buf[..n]),
+        written: built(stdout, g.bundle, line, words, &mut buf[..n]),
     }
 }
 
-fn built(bundle: u64, line: &[u8], words: [u64; WORDS], buf: &mut [u8]) -> bool {
+fn built(stdout: Stdout, bundle: u64, line: &[u8], words: [u64; WORDS], buf: &mut [u8]) -> bool {
     let b = message(bundle, line, words, buf);
-    answering::filled(b"build", b.number, b.len, buf)
+    answering::filled(stdout, b"build", b.number, b.len, buf)
 }
 
 // Of three runs the last is counted, and not handed over.
@@ -334,39 +365,60 @@ fn message(bundle: u64, line: &[u8], words: [u64; WORDS], buf: &mut [u8]) -> Bui
 }
 
 // put I RUN
-fn put(c: Connection, g: Given, send: &mut [u8], line: &[u8], words: [u64; WORDS]) -> Made {
+fn put(
+    stdout: Stdout,
+    c: Connection,
+    g: Given,
+    send: &mut [u8],
+    line: &[u8],
+    words: [u64; WORDS],
+) -> Made {
     let s = lent(g.send, send);
     let q = putting::put(c, &mut send[..s], words[0], calls::bytes(line, words, 1));
     let connection = q.connection;
     Made {
         connection,
-        written: answering::number(b"put", q.number),
+        written: answering::number(stdout, b"put", q.number),
     }
 }
 
 // next TIME LEN
-fn next(c: Connection, g: Given, send: &[u8], words: [u64; WORDS], buf: &mut [u8]) -> Made {
+fn next(
+    stdout: Stdout,
+    c: Connection,
+    g: Given,
+    send: &[u8],
+    words: [u64; WORDS],
+    buf: &mut [u8],
+) -> Made {
     let n = lent(words[1] as usize, buf);
-    segment(c, g, send, words[0], &mut buf[..n])
+    segment(stdout, c, g, send, words[0], &mut buf[..n])
 }
 
-fn segment(c: Connection, g: Given, send: &[u8], time: u64, buf: &mut [u8]) -> Made {
+fn segment(
+    stdout: Stdout,
+    c: Connection,
+    g: Given,
+    send: &[u8],
+    time: u64,
+    buf: &mut [u8],
+) -> Made {
     let s = lent(g.send, send);
     let t = (time % 4294967296) as u32;
     let m = sending::next_segment(c, &send[..s], t, buf);
     let connection = m.connection;
     Made {
         connection,
-        written: answering::filled(b"next", m.number, m.len, buf),
+        written: answering::filled(stdout, b"next", m.number, m.len, buf),
     }
 }
 
 // stores
-fn show(c: Connection, g: Given, receive: &[u8], send: &[u8]) -> Made {
+fn show(stdout: Stdout, c: Connection, g: Given, receive: &[u8], send: &[u8]) -> Made {
     let r = lent(g.receive, receive);
     let s = lent(g.send, send);
     Made {
         connection: c,
-        written: answering::stores(&receive[..r], &send[..s]),
+        written: answering::stores(stdout, &receive[..r], &send[..s]),
     }
 }

@@ -19,6 +19,7 @@ use item::Verdict;
 use output::Pen;
 use script::runs::Run;
 use script::{Word, runs};
+use std::io::Stdout;
 
 // No vector is longer than the ring.
 const ROOM: usize = 32;
@@ -29,97 +30,97 @@ const LINE: usize = 128;
 // Space for what is read.
 const SPACE: usize = 4096;
 
-fn main() {
+fn main(rt: HostRuntime) {
     let mut space = [0; SPACE];
-    run(&mut space);
+    run(rt, &mut space);
 }
 
 // Runs line by line to the end of the input.
 //
 // A proved loop has to end, and nothing says that the input does. So the loop counts its turns down, from a number that
 // no run uses up.
-fn run(space: &mut [u8; SPACE]) {
+fn run(rt: HostRuntime, space: &mut [u8; SPACE]) {
     let mut lines = input::begin();
     let mut turns = u64::MAX;
     while 0 < turns {
         turns -= 1;
-        if !step(space, lines) {
-            unwritten();
+        if !step(rt.stdout(), space, lines) {
+            unwritten(rt);
             return;
         }
-        lines = input::step(space, LINE, lines);
+        lines = input::step(rt.stdin(), space, LINE, lines);
         if lines.over {
-            ended(lines.failed);
+            ended(rt, lines.failed);
             return;
         }
     }
 }
 
 // Why nothing more is run: an answer could not be written, or the input has ended, or could not be read.
-fn unwritten() {
-    output::stop(b"vectors: cannot write to standard output\n");
+fn unwritten(rt: HostRuntime) {
+    output::stop(rt.stderr(), b"vectors: cannot write to standard output\n");
 }
 
-fn ended(failed: bool) {
+fn ended(rt: HostRuntime, failed: bool) {
     if failed {
-        output::stop(b"vectors: cannot read standard input\n");
+        output::stop(rt.stderr(), b"vectors: cannot read standard input\n");
     }
 }
 
 // Runs the line at the front, if it is whole, and answers whether its answer was written.
-fn step(space: &mut [u8], l: Lines) -> bool {
+fn step(stdout: Stdout, space: &mut [u8], l: Lines) -> bool {
     if !input::whole(l) {
         return true;
     }
     if l.long {
-        return output::line(b"too long");
+        return output::line(stdout, b"too long");
     }
     let w = input::line(space, l);
     let from = w.from;
     let to = w.to;
-    line(&mut space[from..to])
+    line(stdout, &mut space[from..to])
 }
 
 // A title, a remark, or a vector.
-fn line(line: &mut [u8]) -> bool {
+fn line(stdout: Stdout, line: &mut [u8]) -> bool {
     let first = script::first(line);
     if script::is(line, first, b":") {
         let title = Word {
             from: 2,
             to: line.len(),
         };
-        return output::line(script::text(line, title));
+        return output::line(stdout, script::text(line, title));
     }
     if script::is(line, first, b"#") {
         return true;
     }
-    vector(line)
+    vector(stdout, line)
 }
 
 // One vector, in hex, which is made bytes.
-fn vector(word: &mut [u8]) -> bool {
+fn vector(stdout: Stdout, word: &mut [u8]) -> bool {
     let Run::Is(n) = runs::read(word) else {
-        return output::line(b"no vector");
+        return output::line(stdout, b"no vector");
     };
-    measure(script::text(word, script::within(word, 0, n)))
+    measure(stdout, script::text(word, script::within(word, 0, n)))
 }
 
-fn measure(bytes: &[u8]) -> bool {
+fn measure(stdout: Stdout, bytes: &[u8]) -> bool {
     if ROOM < bytes.len() {
-        return output::line(b"too long");
+        return output::line(stdout, b"too long");
     }
-    show(bytes)
+    show(stdout, bytes)
 }
 
 // The line of one vector.
-fn show(bytes: &[u8]) -> bool
+fn show(stdout: Stdout, bytes: &[u8]) -> bool
     requires { length bytes.now ≤ 32 }
 {
     let v = cbor::measure_slice(bytes);
     let t = prefixes(bytes);
     let mut space = [0u8; LINE];
     let out: &mut [u8] = &mut space;
-    let mut p = output::hex(out, output::begin(), bytes);
+    let mut p = output::hex(out, output::begin(stdout), bytes);
     p = verdict(out, p, v, t.longest);
     p = count(out, p, b", prefixes", t.count);
     p = count(out, p, b", rings", rings(bytes, v));

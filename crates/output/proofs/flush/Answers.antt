@@ -1,7 +1,6 @@
 -- `output::flush` is safe: it lends no more than the buffer has.
 use native.Mathlib.Omega.{arith}
 use lib.ListN.{length-take}
-use borrow.Author.Rules.{rules}
 use Rattle.output.proofs.flush.Goals as goal
 
 pub slice_bounds-write_all-end : goal.slice_bounds-write_all-end
