@@ -1,21 +1,18 @@
 -- `cbor::advance` meets its contract: from head to head, where the walk is comes to what it began with comes to, and each
 -- way through the loop is one law of `Walking`. It ends, since each head takes it on and each level it leaves is one less.
-use Prim.Native.Nat.{ℕ, ◌+◌, ◌*◌, ◌-◌, ◌^◌, ◌≤◌, ◌<◌}
+use Prim.Native.Nat.{ℕ, ◌+◌, ◌-◌, ◌^◌, ◌≤◌, ◌<◌}
 use mathlib.Core.List.{List}
 use mathlib.Core.Path.{◌≡◌, sym, ◌∙◌}
-use mathlib.Core.Logic.{⊎_elim}
 use native.Mathlib.Omega.{arith}
 use lib.ListN.{length}
-use borrow.Author.Rules.{rules}
 use Rattle.ring.specs.Inside.{around}
 use Rattle.ring.proofs.Around.{around-length}
 use Rattle.moves.specs.Inside.Moves.{Stays, Downs, Skips}
-use Rattle.usual.specs.Inside.Pieces.{PieceAt}
 use Rattle.usual.proofs.Pieces.{pieces_none, pieces_later}
 use Rattle.usual.proofs.UsualMoves.{if_past, if-asks, if-opens, if-ends}
-use Rattle.cbor.specs.Inside.Walk.{walk_of}
-use Rattle.cbor.proofs.Walking.{Under, if-stay, if-down, if-skip, begins, stays, downs, pops, whole, faults, lacks, skips}
+use Rattle.cbor.proofs.Walking.{if-stay, if-down, if-skip, begins, stays, downs, pops, whole, faults, lacks, skips}
 use Rattle.cbor.proofs.advance.Goals as goal
+use Rattle.cbor.proofs.advance.Goals.{then-count-eq0+else-kind-eq-ITEMS, else-count-eq0+then-at-z+in-Ends+else-breaks, else-count-eq0+then-at-z+in-Unusual, else-count-eq0+else-at-z}
 use Rattle.cbor.proofs.advance.Goals.{At-loop-count, In-Asks, In-Down, In-Opens, In-Past, In-Skip, In-Stay, Then-breaks}
 
 -- at the loop's head: the bytes, the numbers of the walk, and a place of the piece
@@ -37,7 +34,7 @@ spot o h = o.loop-count.invariant.1.low o.loop-count.at (omega arith) h
 -- where a usual head was told, and where any head was: what is right to do
 past : (c : In-Past)
     → let o = c in
-    Stays (bytes o) o.loop-count.at o.loop-count.kind o.loop-count.count o.loop-count.depth c.in-Past.p
+    Stays (around o.args.s.now o.args.from o.args.n) o.loop-count.at o.loop-count.kind o.loop-count.count o.loop-count.depth c.in-Past.p
     (record { kind = o.loop-count.kind; count = o.loop-count.count - 1 })
 past c =
     let o = c.loop-count in
@@ -45,7 +42,7 @@ past c =
 
 asked : (c : In-Asks)
     → let o = c in
-    Downs (bytes o) o.loop-count.at o.loop-count.kind o.loop-count.count o.loop-count.depth c.in-Asks.p
+    Downs (around o.args.s.now o.args.from o.args.n) o.loop-count.at o.loop-count.kind o.loop-count.count o.loop-count.depth c.in-Asks.p
     (record { kind = o.loop-count.kind; count = o.loop-count.count - 1 }) (record { kind = 0; count = c.in-Asks.c })
 asked c =
     let o = c.loop-count in
@@ -53,7 +50,7 @@ asked c =
 
 opened : (c : In-Opens)
     → let o = c in
-    Downs (bytes o) o.loop-count.at o.loop-count.kind o.loop-count.count o.loop-count.depth c.in-Opens.p
+    Downs (around o.args.s.now o.args.from o.args.n) o.loop-count.at o.loop-count.kind o.loop-count.count o.loop-count.depth c.in-Opens.p
     (record { kind = o.loop-count.kind; count = o.loop-count.count - 1 }) (record { kind = c.in-Opens.k; count = 2 ^ 63 })
 opened c =
     let o = c.loop-count in
@@ -61,7 +58,7 @@ opened c =
 
 ended : (c : Then-breaks)
     → let o = c in
-    Stays (bytes o) o.loop-count.at o.loop-count.kind o.loop-count.count o.loop-count.depth c.in-Ends.p
+    Stays (around o.args.s.now o.args.from o.args.n) o.loop-count.at o.loop-count.kind o.loop-count.count o.loop-count.depth c.in-Ends.p
     (record { kind = 0; count = 0 })
 ended c =
     let o = c.loop-count in
@@ -70,17 +67,17 @@ ended c =
 
 stayed : (c : In-Stay)
     → let o = c in
-    Stays (bytes o) o.loop-count.at o.loop-count.kind o.loop-count.count o.loop-count.depth c.in-Stay.p c.in-Stay.l
+    Stays (around o.args.s.now o.args.from o.args.n) o.loop-count.at o.loop-count.kind o.loop-count.count o.loop-count.depth c.in-Stay.p c.in-Stay.l
 stayed c = if-stay c.any-m.ensures c.in-Stay.is
 
 down : (c : In-Down)
     → let o = c in
-    Downs (bytes o) o.loop-count.at o.loop-count.kind o.loop-count.count o.loop-count.depth c.in-Down.p c.in-Down.l c.in-Down.i
+    Downs (around o.args.s.now o.args.from o.args.n) o.loop-count.at o.loop-count.kind o.loop-count.count o.loop-count.depth c.in-Down.p c.in-Down.l c.in-Down.i
 down c = if-down c.any-m.ensures c.in-Down.is
 
 skipped : (c : In-Skip)
     → let o = c in
-    Skips (bytes o) o.loop-count.at o.loop-count.kind o.loop-count.count o.loop-count.depth c.in-Skip.v c.in-Skip.l
+    Skips (around o.args.s.now o.args.from o.args.n) o.loop-count.at o.loop-count.kind o.loop-count.count o.loop-count.depth c.in-Skip.v c.in-Skip.l
 skipped c = if-skip c.any-m.ensures c.in-Skip.is
 
 pub loop-count-init : goal.loop-count-init
@@ -139,9 +136,12 @@ any-m-requires c =
       p.1,
       omega (arith, o.invariant.2, o.invariant.0.place),
       o.invariant.0.good,
-      ⊎_elim (λ x. omega (arith, x.0.taken, x.1.left))
-          (⊎_elim (λ x. omega (arith, x.0.left)) (⊎_elim (λ x. omega (arith, x.0.left)) (λ x. omega (arith, x.0.left))))
-          c.if-count-eq0.branch,
+      elim c.if-count-eq0.branch [
+        | then-count-eq0+else-kind-eq-ITEMS w ↦ omega arith
+        | else-count-eq0+then-at-z+in-Ends+else-breaks w ↦ omega arith
+        | else-count-eq0+then-at-z+in-Unusual w ↦ omega arith
+        | else-count-eq0+else-at-z w ↦ omega arith
+      ],
     )
 
 pub loop-count-preserved-in-Stay : goal.loop-count-preserved-in-Stay

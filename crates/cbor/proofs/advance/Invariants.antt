@@ -1,18 +1,10 @@
-use Prim.Native.Nat.{ℕ, ◌+◌, ◌*◌, ◌-◌, ◌^◌, ◌≤◌, ◌<◌}
-use mathlib.Core.List.{List}
-use mathlib.Core.Path.{◌≡◌, sym, ◌∙◌}
-use mathlib.Core.Logic.{⊎_elim}
-use native.Mathlib.Omega.{arith}
+use Prim.Native.Nat.{◌+◌, ◌*◌, ◌-◌}
+use mathlib.Core.Path.{◌≡◌}
 use lib.ListN.{length}
-use borrow.Author.Rules.{rules}
 use Rattle.ring.specs.Inside.{around}
-use Rattle.ring.proofs.Around.{around-length}
-use Rattle.moves.specs.Inside.Moves.{Stays, Downs, Skips}
 use Rattle.usual.specs.Inside.Pieces.{PieceAt}
-use Rattle.usual.proofs.Pieces.{pieces_none, pieces_later}
-use Rattle.usual.proofs.UsualMoves.{if_past, if-asks, if-opens, if-ends}
 use Rattle.cbor.specs.Inside.Walk.{walk_of}
-use Rattle.cbor.proofs.Walking.{Under, if-stay, if-down, if-skip, begins, stays, downs, pops, whole, faults, lacks, skips}
+use Rattle.cbor.proofs.Walking.{Under}
 use Rattle.cbor.proofs.advance.Given as goal
 
 abbrev pub invariant-loop-count : goal.invariant-loop-count

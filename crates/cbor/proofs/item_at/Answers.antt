@@ -1,5 +1,4 @@
 -- `cbor::item_at` meets its contract: a walk that begins at the place comes to the verdict there.
-use borrow.Author.Rules.{rules}
 use Rattle.ring.specs.Inside.{around}
 use Rattle.cbor.specs.Inside.Walk.{first_at}
 use Rattle.cbor.proofs.Kept.{first_sound, first_told}

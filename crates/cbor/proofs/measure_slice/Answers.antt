@@ -1,6 +1,5 @@
 -- `cbor::measure_slice` meets its contract: a around-all slice is a ring that does not wrap.
 use mathlib.Core.Path.{ap, ◌∙◌}
-use borrow.Author.Rules.{rules}
 use Rattle.item.specs.Verdict.{verdict}
 use Rattle.ring.proofs.Around.{around_all}
 use Rattle.cbor.proofs.measure_slice.Goals as goal
