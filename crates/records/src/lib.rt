@@ -1,5 +1,5 @@
-// The point log over a slice of records: what crate `slices` does over parallel slices. The functions are few and thin, for each is
-// proved by a walk of its code; what numbers and points decide is left to `point_log::decide`.
+// The point log over a slice of records: what crate `slices` does over parallel slices. The functions are few and thin, for what
+// numbers and points decide is left to `point_log::decide`.
 #![tactic(auto)]
 
 ghost use Rattle.std.specs.Prelude.{◌≡◌, ◌≤◌, ◌<◌, length};
