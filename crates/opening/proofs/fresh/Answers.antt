@@ -1,5 +1,4 @@
 -- `opening::fresh` meets its contract: the header is the empty one.
-use borrow.Author.Rules.{rules}
 use Rattle.opening.proofs.fresh.Goals as goal
 
 pub returns : goal.returns

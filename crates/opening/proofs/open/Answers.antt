@@ -2,7 +2,6 @@
 use mathlib.Core.Path.{sym, ap, ◌∙◌}
 use mathlib.Core.Bool.{Bool, ◌&&◌}
 use lib.ListN.{length}
-use borrow.Author.Rules.{rules}
 use Rattle.range.specs.Ranges.{in_range}
 use Rattle.opening.specs.Openings.{open_of}
 use Rattle.opening.proofs.NumberLaws.{stores_fit}
@@ -15,7 +14,7 @@ returns-then-and c =
     let tested = both in
     let range = tested.in_range-range in
     let a = tested.args in
-    let fit = stores_fit a.t1 (length a.receive.now) (length a.send.now) range.ensures in
+    let fit = stores_fit a.settings (length a.receive.now) (length a.send.now) range.ensures in
     let t = both.and.ensures ∙ ap (λ (x : Bool). range.result.ok && x) both.and-stores.ensures in
     rw (sym fit ∙ sym t ∙ c.if-and.true, c.fresh.ensures)
 
@@ -26,6 +25,6 @@ returns c =
     let tested = both in
     let range = tested.in_range-range in
     let a = tested.args in
-    let fit = stores_fit a.t1 (length a.receive.now) (length a.send.now) range.ensures in
+    let fit = stores_fit a.settings (length a.receive.now) (length a.send.now) range.ensures in
     let t = both.and.ensures ∙ ap (λ (x : Bool). range.result.ok && x) both.and-stores.ensures in
     rw (sym fit ∙ sym t ∙ c.if-and.false) c.refused.ensures

@@ -1,5 +1,4 @@
 -- `opening::refused` meets its contract: it is `fresh` of all zeros, turn 0.
-use borrow.Author.Rules.{rules}
 use Rattle.opening.proofs.refused.Goals as goal
 
 pub returns : goal.returns
