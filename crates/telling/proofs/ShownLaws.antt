@@ -1,6 +1,6 @@
 -- Laws of an array's first entries, shown with 0 above.
 -- Assumes nothing.
-use mathlib.Core.Path.{◌≡◌, refl, sym, ap, ◌∙◌}
+use mathlib.Core.Path.{◌≡◌, refl, ap}
 use mathlib.Core.List.{List, [], ◌∷◌}
 use Prim.Native.Nat.{ℕ, zero, suc, ◌+◌, ◌<◌, ◌≤◌}
 use native.Mathlib.Omega.{arith}
@@ -27,12 +27,12 @@ pub shown_next : (a : List ℕ) (i : ℕ) → i < length a → set (up_to i a) i
 shown_next a i h = rw (add-one i) (next a i h)
 
 -- an entry below n is the array's
-pub shown_at_lem : (n : ℕ) (a : List ℕ) (i : ℕ) → i < n → get_or (up_to n a) i 0 ≡ get_or a i 0
+pub shown_at : (n : ℕ) (a : List ℕ) (i : ℕ) → i < n → get_or (up_to n a) i 0 ≡ get_or a i 0
 unfolding up_to
-shown_at_lem n [] i h = refl
-shown_at_lem zero (x ∷ a) i h = absurd (omega arith)
-shown_at_lem (suc n) (x ∷ a) zero h = refl
-shown_at_lem (suc n) (x ∷ a) (suc i) h = shown_at_lem n a i (omega arith)
+shown_at n [] i h = refl
+shown_at zero (x ∷ a) i h = absurd (omega arith)
+shown_at (suc n) (x ∷ a) zero h = refl
+shown_at (suc n) (x ∷ a) (suc i) h = shown_at n a i (omega arith)
 
 -- above n it is 0
 pub shown_above : (n : ℕ) (a : List ℕ) (i : ℕ) → n ≤ i → get_or (up_to n a) i 0 ≡ 0

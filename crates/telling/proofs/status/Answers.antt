@@ -1,6 +1,5 @@
 -- `telling::status` meets its contract: the range decides.
 use mathlib.Core.Path.{sym, ◌∙◌}
-use borrow.Author.Rules.{rules}
 use borrow.Author.Tests.{not-true, not-false}
 use Rattle.telling.specs.Statuses.{status_of}
 use Rattle.telling.proofs.status.Goals as goal

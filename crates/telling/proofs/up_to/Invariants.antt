@@ -1,12 +1,8 @@
-use mathlib.Core.Path.{◌≡◌, refl, sym, ap, ◌∙◌}
-use mathlib.Core.List.{◌++◌}
-use Prim.Native.Nat.{◌+◌, ◌-◌, ◌≤◌}
-use native.Mathlib.Omega.{arith}
-use lib.ListN.{length, get_or, take, replicate}
+use mathlib.Core.Path.{◌≡◌}
+use Prim.Native.Nat.{◌-◌, ◌≤◌}
+use lib.ListN.{length}
 use Rattle.wire.specs.Instances.{most}
 use Rattle.telling.specs.Statuses.{up_to}
-use Rattle.telling.proofs.ShownLaws.{shown_first, shown_next}
-use borrow.Author.Rules.{rules}
 use Rattle.telling.proofs.up_to.Given as goal
 
 abbrev pub invariant-loop-i : goal.invariant-loop-i
