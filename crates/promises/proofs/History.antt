@@ -11,7 +11,7 @@ use Rattle.ready.specs.Ready.{bit_of}
 use Rattle.ready.proofs.ReadyLaws.{bit_by_bit, no_more, ones_ready, word_none, lowest_at, lowest_none}
 use Rattle.connection.specs.declared.Settings.{Settings}
 use Rattle.telling.specs.Statuses.{up_to, status_of}
-use Rattle.telling.proofs.ShownLaws.{shown_at_lem, shown_above}
+use Rattle.telling.proofs.ShownLaws.{shown_at, shown_above}
 use Rattle.sending.proofs.NumberLaws.{counts, counts_long, counts_at}
 use Rattle.promises.specs.Calls.{Call, World, step, run, AllReal, Opened, first}
 use Rattle.promises.specs.Effects.{Effect, Past, did, bytes_in}
@@ -65,16 +65,16 @@ reports_of past w k t =
     let ws = counts c in
     let many : length ws ≡ n = counts_long c k.shaped in
     let shown : (i : ℕ) → i < n → get_or ws i 0 ≡ get_or (up_to n c.sending.waiting) i 0 =
-    λ i l. counts_at c i l ∙ sym (shown_at_lem n c.sending.waiting i l) in
+    λ i l. counts_at c i l ∙ sym (shown_at n c.sending.waiting i l) in
     rw k.ranged
     (record {
       number = refl;
       held = λ cs left d i l.
           let q = divided_once (bytes_in past) left t.receives.left cs t.receives.carried d t.receives.divided in
-          rw (q.0, q.1) (t.receives.held i l ∙ ap (λ (m : ℕ). dropped_for i past + m) (sym (shown_at_lem n c.receiving.held i l)));
+          rw (q.0, q.1) (t.receives.held i l ∙ ap (λ (m : ℕ). dropped_for i past + m) (sym (shown_at n c.receiving.held i l)));
       waiting = λ i l.
           t.sends.waiting i l
-          ∙ ap (λ (m : ℕ). length (sent_for c.settings.party i past) + m) (sym (shown_at_lem n c.sending.waiting i l));
+          ∙ ap (λ (m : ℕ). length (sent_for c.settings.party i past) + m) (sym (shown_at n c.sending.waiting i l));
       many = (shown_long n c.receiving.held ∙ k.shaped.held, shown_long n c.sending.waiting ∙ k.shaped.waiting);
       above = λ i l. (shown_above n c.receiving.held i l, shown_above n c.sending.waiting i l);
       bits = λ i l. bit_by_bit ws i (rw many l) ∙ ap bit_of (shown i l);

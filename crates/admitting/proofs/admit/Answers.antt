@@ -14,8 +14,7 @@ use Rattle.admitting.proofs.admit.Goals as goal
 pub room-requires : goal.room-requires
 room-requires c =
     let b = c.args.party.bundle in
-    let to = c.route-in-To-1.given in
-    let i : to.0.0 < instances b = subst (Within b) to.1 c.find-route.ensures.1 in
+    let i : c.in-To.i < instances b = subst (Within b) c.in-To.is c.find-route.ensures.1 in
     omega (arith, at_most b)
 
 pub returns-in-Unknown : goal.returns-in-Unknown
