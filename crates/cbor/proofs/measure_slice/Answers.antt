@@ -1,4 +1,4 @@
--- `cbor::measure_slice` meets its contract: a around-all slice is a ring that does not wrap.
+-- `cbor::measure_slice` meets its contract: a slice as a whole is a ring that does not wrap.
 use mathlib.Core.Path.{ap, ◌∙◌}
 use Rattle.item.specs.Verdict.{verdict}
 use Rattle.ring.proofs.Around.{around_all}

@@ -1,4 +1,5 @@
 -- `usual::following` meets its contract: the definition goes by the same numbers.
+use native.Mathlib.Omega.{arith}
 use Rattle.usual.proofs.UsualHeads.{width_24, width_25, width_26, width_27, width-other}
 use Rattle.usual.proofs.following.Goals as goal
 
@@ -20,4 +21,4 @@ returns-in-27 c =
 
 pub returns-in_default : goal.returns-in_default
 returns-in_default c =
-    width-other _ c.in_default.in_default-own.rest.0.0.0.1 c.in_default.in_default-own.rest.0.0.1 c.in_default.in_default-own.rest.0.1 c.in_default.in_default-own.rest.1
+    width-other c.args.i (λ q. omega arith) (λ q. omega arith) (λ q. omega arith) (λ q. omega arith)
