@@ -8,7 +8,6 @@ use Rattle.wire.proofs.InstanceLaws.{at_most}
 use Rattle.wire.specs.declared.instances.Route.{Route}
 use Rattle.admitting.specs.Admitting.{admitted}
 use Rattle.admitting.proofs.HeaderLaws.{admission_by}
-use borrow.Author.Rules.{rules}
 use Rattle.admitting.proofs.admit.Goals as goal
 
 pub room-requires : goal.room-requires

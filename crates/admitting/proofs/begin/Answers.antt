@@ -1,6 +1,5 @@
 -- `admitting::begin` meets its contract: the parts are those of the definition.
 use mathlib.Core.Path.{refl}
-use borrow.Author.Rules.{rules}
 use Rattle.admitting.proofs.begin.Goals as goal
 
 pub returns : goal.returns

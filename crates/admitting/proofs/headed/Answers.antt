@@ -1,7 +1,6 @@
 -- `admitting::headed` meets its contract: the test whether the header is whole decides.
 use mathlib.Core.Path.{sym, ◌∙◌}
 use Rattle.admitting.proofs.HeaderLaws.{heads-whole, heads-part}
-use borrow.Author.Rules.{rules}
 use Rattle.admitting.proofs.headed.Goals as goal
 
 pub returns-then-whole : goal.returns-then-whole

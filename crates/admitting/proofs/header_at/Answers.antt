@@ -1,6 +1,5 @@
 -- `admitting::header_at` meets its contract: after j steps the record is filled with the first j bytes.
 use mathlib.Core.Path.{◌≡◌, ap, ◌∙◌}
-use Prim.Native.Nat.{◌≤◌, ◌-◌}
 use native.Mathlib.Omega.{arith}
 use Rattle.ring.specs.Ring.{run}
 use Rattle.wire.specs.Segments.{header_length, empty}

@@ -1,11 +1,8 @@
-use mathlib.Core.Path.{◌≡◌, ap, ◌∙◌}
+use mathlib.Core.Path.{◌≡◌}
 use Prim.Native.Nat.{◌≤◌, ◌-◌}
-use native.Mathlib.Omega.{arith}
 use Rattle.ring.specs.Ring.{run}
 use Rattle.wire.specs.Segments.{header_length, empty}
 use Rattle.admitting.specs.Inside.{filled}
-use Rattle.admitting.proofs.HeaderLaws.{filled_next}
-use borrow.Author.Rules.{rules}
 use Rattle.admitting.proofs.header_at.Given as goal
 
 abbrev pub invariant-loop-j : goal.invariant-loop-j

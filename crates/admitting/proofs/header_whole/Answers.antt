@@ -4,7 +4,6 @@ use Rattle.wire.specs.Segments.{header_length}
 use Rattle.admitting.specs.declared.Admission.{Admission}
 use Rattle.admitting.specs.Admitting.{admission}
 use Rattle.admitting.specs.Inside.{Settles}
-use borrow.Author.Rules.{rules}
 use Rattle.admitting.proofs.header_whole.Goals as goal
 
 pub returns : goal.returns

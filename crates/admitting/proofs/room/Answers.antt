@@ -1,6 +1,5 @@
 -- `admitting::room` meets its contract: the test decides.
 use Rattle.admitting.proofs.HeaderLaws.{room_enough, room_short}
-use borrow.Author.Rules.{rules}
 use Rattle.admitting.proofs.room.Goals as goal
 
 pub returns-then-fits : goal.returns-then-fits

@@ -2,7 +2,6 @@
 use mathlib.Core.Path.{sym, subst}
 use Rattle.admitting.specs.declared.Admission.{Admission}
 use Rattle.admitting.specs.Inside.{Settles}
-use borrow.Author.Rules.{rules}
 use Rattle.admitting.proofs.settled.Goals as goal
 
 pub returns-in-Fault : goal.returns-in-Fault

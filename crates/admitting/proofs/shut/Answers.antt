@@ -1,6 +1,5 @@
 -- `admitting::shut` meets its contract: the parts are those of the definition.
 use mathlib.Core.Path.{refl}
-use borrow.Author.Rules.{rules}
 use Rattle.admitting.proofs.shut.Goals as goal
 
 pub returns : goal.returns
