@@ -39,6 +39,8 @@ argued : {d : ℕ} {m : Major} (k v : ℕ) (xs : List ℕ) {ds : List ℕ} → R
 unfolding spelled
 argued zero v (x ∷ xs) (last r) = r
 argued (suc k) v (x ∷ xs) (digit r) = argued k (v * 256 + x) xs r
+argued {d = d} {m = m} zero v [] {ds = ds} r = elim r [ ]
+argued {d = d} {m = m} (suc k) v [] {ds = ds} r = elim r [ ]
 
 -- ---- what a head asks for
 

@@ -3,7 +3,7 @@ use Prim.Native.Nat.{◌≤◌}
 use mathlib.Core.Path.{◌≡◌, sym, ap, ◌∙◌}
 use mathlib.Core.Bool.{true, false}
 use native.Mathlib.Omega.{arith}
-use borrow.Author.Tests.{le-ltb, not-true, not-false}
+use borrow.Author.Tests.{le-ltb}
 use Rattle.wire.specs.Instances.{known, instances}
 use Rattle.rows.specs.declared.Protocol.{Protocol}
 use Rattle.build.specs.Building.{bytes_of, handed, build_of}
@@ -15,14 +15,14 @@ pub returns-then-not-known : goal.returns-then-not-known
 unfolding build_of
 returns-then-not-known c =
     let a = c.args in
-    let k : known a.bundle ≡ false = sym c.known.ensures ∙ not-true _ c.if-not-known.true in
+    let k : known a.bundle ≡ false = sym c.known.ensures ∙ c.if-not-known.true in
     rw (c.refused.ensures, k)
 
 pub returns-then-count-instance : goal.returns-then-count-instance
 unfolding build_of
 returns-then-count-instance c =
     let a = c.args in
-    let k : known a.bundle ≡ true = sym c.known.ensures ∙ not-false _ c.if-not-known.false in
+    let k : known a.bundle ≡ true = sym c.known.ensures ∙ c.if-not-known.false in
     let h : instances a.bundle ≤ a.instance = omega (arith, c.count.ensures.0) in
     rw (c.refused-then-count-instance.ensures, k, le-ltb a.instance (instances a.bundle) h)
 
@@ -36,5 +36,5 @@ returns c =
     ∙ ap (λ (p : Protocol). handed a.buf.now (bytes_of p a.kind a.asked a.numbers.now a.runs a.first.now a.second.now))
     c.protocol-p.ensures
     ∙ build_spoken a.bundle a.instance a.kind a.asked a.numbers.now a.runs a.first.now a.second.now a.buf.now
-    (sym c.known.ensures ∙ not-false _ c.if-not-known.false)
+    (sym c.known.ensures ∙ c.if-not-known.false)
     (omega (arith, c.count.ensures.0))

@@ -1,6 +1,5 @@
 -- `build::build_kind` meets its contract: each way out is one of the laws of a kind.
 use mathlib.Core.Path.{sym, ap, subst, ◌∙◌}
-use borrow.Author.Tests.{not-true, not-false}
 use Rattle.messages.specs.Inside.{Finds}
 use Rattle.build.specs.Building.{handed}
 use Rattle.build.proofs.BuildLaws.{kind-not-given, kind-unknown, kind-known}
@@ -13,14 +12,14 @@ returns-then-not-are_given c =
     rw (
       c.refused.ensures,
       kind-not-given a.p a.kind a.asked a.numbers.now a.runs a.first.now a.second.now
-          (sym c.are_given.ensures ∙ not-true _ c.if-not-are_given.true),
+          (sym c.are_given.ensures ∙ c.if-not-are_given.true),
     )
 
 pub build_form-requires : goal.build_form-requires
 build_form-requires c =
     let a = c.args in (
       (subst (Finds a.p a.kind) c.in-Row.is c.find-form.ensures).0,
-      sym c.are_given.ensures ∙ not-false _ c.if-not-are_given.false,
+      sym c.are_given.ensures ∙ c.if-not-are_given.false,
     )
 
 pub returns-in-Row : goal.returns-in-Row
@@ -29,7 +28,7 @@ returns-in-Row c =
     c.build_form.ensures
     ∙ ap (handed a.buf.now)
     (kind-known a.p a.kind a.asked a.numbers.now a.runs a.first.now a.second.now
-    (sym c.are_given.ensures ∙ not-false _ c.if-not-are_given.false)
+    (sym c.are_given.ensures ∙ c.if-not-are_given.false)
     c.find-form.ensures _ c.in-Row.is)
 
 pub returns-in-Unknown : goal.returns-in-Unknown
@@ -38,6 +37,6 @@ returns-in-Unknown c =
     rw (
       c.refused-in-Unknown.ensures,
       kind-unknown a.p a.kind a.asked a.numbers.now a.runs a.first.now a.second.now
-          (sym c.are_given.ensures ∙ not-false _ c.if-not-are_given.false)
+          (sym c.are_given.ensures ∙ c.if-not-are_given.false)
           c.find-form.ensures c.in-Unknown.is,
     )

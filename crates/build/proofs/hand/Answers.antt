@@ -3,7 +3,7 @@ use mathlib.Core.Path.{sym, ◌∙◌}
 use Prim.Native.Nat.{◌+◌, ◌≤◌}
 use native.Mathlib.Omega.{arith}
 use lib.ListN.{length}
-use borrow.Author.Tests.{leb-true, not-true, not-false}
+use borrow.Author.Tests.{leb-true}
 use Rattle.messages.specs.Inside.{form_at}
 use Rattle.build.proofs.BuildLaws.{hand-fits, hand-short, hand-over}
 use borrow.Author.Rules.{rules}
@@ -16,7 +16,7 @@ returns-then-not-fits c =
     rw c.refused.ensures
     (hand-short a.asked a.first.now a.second.now (form_at a.row).fields a.kind a.arguments a.buf.now s.requires.1
     c.heads-heads.ensures.0
-    c.fits.ensures (not-true _ c.if-not-fits.true))
+    c.fits.ensures c.if-not-fits.true)
 
 pub lay-requires : goal.lay-requires
 lay-requires c =
@@ -25,7 +25,7 @@ lay-requires c =
       s.requires.0,
       hand-fits a.asked a.first.now a.second.now (form_at a.row).fields a.kind a.arguments a.buf.now s.requires.1
           c.heads-heads.ensures.0
-          c.fits.ensures (not-false _ c.if-not-fits.false),
+          c.fits.ensures c.if-not-fits.false,
     )
 
 pub overflow_add-result : goal.overflow_add-result
@@ -34,7 +34,7 @@ overflow_add-result c =
     let h = c.heads-heads.result in
     let room : h + (length a.first.now + length a.second.now) ≤ length a.buf.now =
     leb-true (h + (length a.first.now + length a.second.now)) (length a.buf.now)
-    (sym c.fits.ensures ∙ not-false _ c.if-not-fits.false) in
+    (sym c.fits.ensures ∙ c.if-not-fits.false) in
     record { fits = omega arith }
 
 pub overflow_add-result-2 : goal.overflow_add-result-2
@@ -43,7 +43,7 @@ overflow_add-result-2 c =
     let h = c.heads-heads.result in
     let room : h + (length a.first.now + length a.second.now) ≤ length a.buf.now =
     leb-true (h + (length a.first.now + length a.second.now)) (length a.buf.now)
-    (sym c.fits.ensures ∙ not-false _ c.if-not-fits.false) in
+    (sym c.fits.ensures ∙ c.if-not-fits.false) in
     record { fits = omega arith }
 
 pub returns : goal.returns
@@ -52,5 +52,5 @@ returns c =
     let a = s.args in
     hand-over a.asked a.first.now a.second.now (form_at a.row).fields a.kind a.arguments a.buf.now s.requires.1
     c.heads-heads.ensures.0
-    c.fits.ensures (not-false _ c.if-not-fits.false) (omega arith)
+    c.fits.ensures c.if-not-fits.false (omega arith)
     c.lay.ensures

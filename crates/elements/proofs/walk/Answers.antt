@@ -2,7 +2,6 @@
 use mathlib.Core.Path.{◌≡◌, ap, ◌∙◌}
 use Prim.Native.Nat.{ℕ, ◌-◌, ◌≤◌}
 use native.Mathlib.Omega.{arith}
-use borrow.Author.Tests.{not-true, not-false}
 use lib.ListN.{length}
 use Rattle.ring.specs.Inside.{around}
 use Rattle.ring.proofs.Around.{around-length}
@@ -23,7 +22,7 @@ returns-in_default c =
     let a = c.args in
     let l = c.loop-e in
     walk-stop (around a.s.now a.from a.n) a.d a.e a.x l.k l.low l.at
-    c.is_closed.ensures (not-true _ c.loop-e-test.true) c.element_at-next.ensures
+    c.is_closed.ensures c.loop-e-test.true c.element_at-next.ensures
     c.in_default.is
     ∙ l.invariant.1
 
@@ -33,7 +32,7 @@ overflow_add-k c =
     let l = c.loop-e in
     let long = around-length a.s.now a.from a.n (omega arith) in
     let on = walk-forward (around a.s.now a.from a.n) a.d a.e a.x l.k l.low l.at
-    c.is_closed.ensures (not-true _ c.loop-e-test.true)
+    c.is_closed.ensures c.loop-e-test.true
     c.element_at-next.ensures c.in-Is.is in
     record { fits = omega (arith, on) }
 
@@ -43,7 +42,7 @@ loop-e-smaller c =
     let l = c.loop-e in
     let long = around-length a.s.now a.from a.n (omega arith) in
     let on = walk-forward (around a.s.now a.from a.n) a.d a.e a.x l.k l.low l.at
-    c.is_closed.ensures (not-true _ c.loop-e-test.true)
+    c.is_closed.ensures c.loop-e-test.true
     c.element_at-next.ensures c.in-Is.is in
     omega (arith, on)
 
@@ -53,11 +52,11 @@ loop-e-preserved c =
     let l = c.loop-e in
     let long = around-length a.s.now a.from a.n (omega arith) in
     let on = walk-forward (around a.s.now a.from a.n) a.d a.e a.x l.k l.low l.at
-    c.is_closed.ensures (not-true _ c.loop-e-test.true)
+    c.is_closed.ensures c.loop-e-test.true
     c.element_at-next.ensures c.in-Is.is in (
       omega (arith, on, l.invariant.0),
       walk-on (around a.s.now a.from a.n) a.d a.e a.x l.k l.low l.at
-          c.is_closed.ensures (not-true _ c.loop-e-test.true)
+          c.is_closed.ensures c.loop-e-test.true
           c.element_at-next.ensures c.in-Is.is l.invariant.0
           ∙ l.invariant.1,
     )
@@ -66,5 +65,5 @@ pub returns : goal.returns
 returns c =
     let a = c.args in
     let l = c.loop-e in
-    walk_end (around a.s.now a.from a.n) a.d a.e a.x l.k l.low l.at c.is_closed.ensures (not-false _ c.loop-e-test.false)
+    walk_end (around a.s.now a.from a.n) a.d a.e a.x l.k l.low l.at c.is_closed.ensures c.loop-e-test.false
     ∙ l.invariant.1
