@@ -21,13 +21,6 @@ use Rattle.messages.proofs.FieldLaws.{with_count, one_more, one-wrong, none_left
 use borrow.Author.Rules.{rules}
 use Rattle.messages.proofs.fields.Goals as goal
 
--- the fields from i on give what all of them give, with so much said so far, and those before are behind
-pub record Under (s : List ℕ) (from n row kind first : ℕ) (message : Message) (at i : ℕ) : Type 0 where
-  pub numbers : message.count ≤ i
-  pub places : message.parts ≤ i
-  pub passed : ItemsAt (around s from n) in_message i first at
-  pub gives : fields_of (around s from n) (drop i (form_at row).fields) (i + 1) at message ≡ fields_of (around s from n) (form_at row).fields 1 first (begun kind)
-
 pub loop-i-init : goal.loop-i-init
 loop-i-init c =
     let e = c.begin-message.ensures in
@@ -38,13 +31,13 @@ loop-i-init c =
       record {
         numbers = omega (arith, ap (λ (m : Message). m.count) e);
         places = omega (arith, ap (λ (m : Message). m.parts) e);
-        passed = none_at bs (omega (arith, long, c.requires.0.3));
+        passed = none_at bs (omega (arith, long, c.requires.from_in_bounds.3));
         gives = ap (fields_of bs (form_at a.row).fields 1 a.first) e;
       },
     )
 
 pub field_at-requires : goal.field_at-requires
-field_at-requires c = (c.requires.0.2, omega (arith, c.fields-count.ensures.0))
+field_at-requires c = (c.requires.from_in_bounds.2, omega (arith, c.fields-count.ensures.0))
 
 pub part_at-part-requires : goal.part_at-part-requires
 part_at-part-requires c =
@@ -58,7 +51,7 @@ part_at-part-requires c =
       λ q e.
           let known = known-end bs (eqb (l.i + 1) count.result) c.end_if_last-known.ensures e in
           last-ends bs l.i (length (form_at a.row).fields) (omega (arith, eqb-true (l.i + 1) count.result known.0, count.ensures.0))
-          l.invariant.1.passed (before.requires.1 q known.1),
+          l.invariant.1.passed (before.requires.by_index q known.1),
     )
 
 pub returns-in_default : goal.returns-in_default

@@ -19,6 +19,13 @@ use Rattle.messages.proofs.FieldLaws.{with_count, one_more, one-wrong, none_left
 use borrow.Author.Rules.{rules}
 use Rattle.messages.proofs.fields.Given as goal
 
+-- the fields from i on give what all of them give, with so much said so far, and those before are behind
+pub record Under (s : List ℕ) (from n row kind first : ℕ) (message : Message) (at i : ℕ) : Type 0 where
+  pub numbers : message.count ≤ i
+  pub places : message.parts ≤ i
+  pub passed : ItemsAt (around s from n) in_message i first at
+  pub gives : fields_of (around s from n) (drop i (form_at row).fields) (i + 1) at message ≡ fields_of (around s from n) (form_at row).fields 1 first (begun kind)
+
 abbrev pub invariant-loop-i : goal.invariant-loop-i
 invariant-loop-i l = (l.i ≤ l.count) × Under l.s l.from l.n l.row l.kind l.first l.message l.at l.i
 

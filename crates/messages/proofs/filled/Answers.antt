@@ -15,10 +15,10 @@ fields-stop-requires c =
     let s = c in
     let a = s.args in
     let bs = around a.s.now a.from a.n in
-    let long : length bs ≡ a.n = around-length a.s.now a.from a.n (omega arith) in (
-      (search rules, search rules, s.requires.0.2, omega (arith, long, (kind-item bs s.requires.1).inside)),
-      λ q e. last-known bs a.x c.fields.ensures.0 s.requires.1 long c.last_end.ensures e,
-    )
+    let long : length bs ≡ a.n = around-length a.s.now a.from a.n (omega arith) in record {
+      from_in_bounds = (search rules, search rules, s.requires.from_in_bounds.2, omega (arith, long, (kind-item bs s.requires.begins).inside));
+      by_index = λ q e. last-known bs a.x c.fields.ensures.0 s.requires.begins long c.last_end.ensures e;
+    }
 
 pub returns-then-has_count : goal.returns-then-has_count
 returns-then-has_count c =
@@ -27,7 +27,7 @@ returns-then-has_count c =
     let bs = around a.s.now a.from a.n in
     let stop = c.fields-stop in
     count_right bs (form_at a.row).fields (count_from bs a.x a.first) a.kind a.next
-    (count-told bs a.x c.fields.ensures.0 s.requires.1 c.has_count.ensures stop.ensures.1)
+    (count-told bs a.x c.fields.ensures.0 s.requires.begins c.has_count.ensures stop.ensures.1)
     c.if-has_count.true stop.ensures.0
 
 pub returns : goal.returns
@@ -38,5 +38,5 @@ returns c =
     let stop = c.fields-stop in
     c.fail.ensures
     ∙ count-wrong bs (form_at a.row).fields (count_from bs a.x a.first) a.kind a.next
-    (count-told bs a.x c.fields.ensures.0 s.requires.1 c.has_count.ensures stop.ensures.1)
+    (count-told bs a.x c.fields.ensures.0 s.requires.begins c.has_count.ensures stop.ensures.1)
     c.if-has_count.false

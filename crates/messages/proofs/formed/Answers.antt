@@ -6,7 +6,10 @@ use borrow.Author.Rules.{rules}
 use Rattle.messages.proofs.formed.Goals as goal
 
 pub filled-requires : goal.filled-requires
-filled-requires c = let a = c.args in ((search rules, search rules, (subst (Finds a.p a.kind) c.in-Row.is c.find-form.ensures).0), c.requires.1)
+filled-requires c = let a = c.args in record {
+      from_in_bounds = (search rules, search rules, (subst (Finds a.p a.kind) c.in-Row.is c.find-form.ensures).0);
+      begins = c.requires.begins;
+    }
 
 pub returns-in-Row : goal.returns-in-Row
 returns-in-Row c = form-known _ _ _ _ _ c.find-form.ensures c.in-Row.is c.filled.ensures

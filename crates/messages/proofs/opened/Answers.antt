@@ -11,10 +11,10 @@ pub formed-requires : goal.formed-requires
 formed-requires c =
     let s = c in
     let a = s.args in
-    let long = around-length a.s.now a.from a.n (omega arith) in (
-      (search rules, search rules),
-      (s.requires.0.2 ∙ ap Whole (sym long), s.requires.1, sym c.unsigned_at-kind.ensures ∙ c.in-Is.is),
-    )
+    let long = around-length a.s.now a.from a.n (omega arith) in record {
+      from_in_bounds = (search rules, search rules);
+      begins = (s.requires.from_in_bounds.2 ∙ ap Whole (sym long), s.requires.array_value, sym c.unsigned_at-kind.ensures ∙ c.in-Is.is);
+    }
 
 pub returns-in-Is : goal.returns-in-Is
 returns-in-Is c = kind-named _ _ _ _ c.unsigned_at-kind.ensures c.in-Is.is c.formed.ensures

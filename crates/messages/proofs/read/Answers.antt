@@ -10,7 +10,10 @@ use Rattle.messages.proofs.read.Goals as goal
 
 pub opened-requires : goal.opened-requires
 opened-requires c =
-    ((search rules, search rules, c.requires.2), sym c.opens_at-array.ensures ∙ c.in-At.is)
+    record {
+      from_in_bounds = (search rules, search rules, c.requires.2);
+      array_value = sym c.opens_at-array.ensures ∙ c.in-At.is;
+    }
 
 pub returns-in-At : goal.returns-in-At
 returns-in-At c =
