@@ -22,7 +22,7 @@ pub loop-i-preserved : goal.loop-i-preserved
 loop-i-preserved c =
     let a = c.args in
     let l = c.loop-i in
-    let on = heads-on a.asked (form_at a.row).fields a.t3 l.i (omega (arith, c.fields-count.ensures.0))
+    let on = heads-on a.asked (form_at a.row).fields a.arguments l.i (omega (arith, c.fields-count.ensures.0))
     c.field_at.ensures in
     (omega arith, omega (arith, c.own_len-sum.ensures.1), omega (arith, c.own_len-sum.ensures.0))
 
@@ -30,5 +30,5 @@ pub returns : goal.returns
 returns c =
     let a = c.args in
     let l = c.loop-i in
-    let end = heads-end a.asked (form_at a.row).fields a.t3 l.i (omega (arith, c.fields-count.ensures.0)) in
+    let end = heads-end a.asked (form_at a.row).fields a.arguments l.i (omega (arith, c.fields-count.ensures.0)) in
     (omega arith, omega (arith, c.fields-count.ensures.1))

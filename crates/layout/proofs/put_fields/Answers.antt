@@ -22,14 +22,14 @@ put_field-at-requires c =
     let a = c.args in
     let l = c.loop-i in
     let f = c.field_at-f in
-    let on = body-on a.asked (form_at a.row).fields a.t5 l.i a.first.now a.second.now l.r
+    let on = body-on a.asked (form_at a.row).fields a.arguments l.i a.first.now a.second.now l.r
     (omega (arith, c.fields-count.ensures.0)) f.ensures in
     omega (
       arith,
       l.invariant.2,
       l.invariant.3,
-      put-long l.buf l.at (piece_of a.asked f.result (get_or a.t5 l.i 0) (run_at a.first.now a.second.now l.r))
-          (body_of a.asked a.first.now a.second.now (drop (l.i + 1) (form_at a.row).fields) a.t5 (l.i + 1) (run_after f.result l.r)) on,
+      put-long l.buf l.at (piece_of a.asked f.result (get_or a.arguments l.i 0) (run_at a.first.now a.second.now l.r))
+          (body_of a.asked a.first.now a.second.now (drop (l.i + 1) (form_at a.row).fields) a.arguments (l.i + 1) (run_after f.result l.r)) on,
     )
 
 pub after_run-r-requires : goal.after_run-r-requires
@@ -41,11 +41,11 @@ loop-i-preserved c =
     let l = c.loop-i in
     let f = c.field_at-f in
     let p = c.put_field-at in
-    let piece = piece_of a.asked f.result (get_or a.t5 l.i 0) (run_at a.first.now a.second.now l.r) in
+    let piece = piece_of a.asked f.result (get_or a.arguments l.i 0) (run_at a.first.now a.second.now l.r) in
     let after = run_after f.result l.r in
-    let on = body-on a.asked (form_at a.row).fields a.t5 l.i a.first.now a.second.now l.r
+    let on = body-on a.asked (form_at a.row).fields a.arguments l.i a.first.now a.second.now l.r
     (omega (arith, c.fields-count.ensures.0)) f.ensures in
-    let rest = body_of a.asked a.first.now a.second.now (drop (l.i + 1) (form_at a.row).fields) a.t5 (l.i + 1) after in
+    let rest = body_of a.asked a.first.now a.second.now (drop (l.i + 1) (form_at a.row).fields) a.arguments (l.i + 1) after in
     rw c.after_run-r.ensures.0 (
       omega arith,
       omega (arith, c.after_run-r.ensures),
@@ -61,6 +61,6 @@ pub returns : goal.returns
 returns c =
     let a = c.args in
     let l = c.loop-i in
-    let end = body_end a.asked (form_at a.row).fields a.t5 l.i a.first.now a.second.now l.r
+    let end = body_end a.asked (form_at a.row).fields a.arguments l.i a.first.now a.second.now l.r
     (omega (arith, c.fields-count.ensures.0)) in
     rw end at l.invariant.4
