@@ -19,7 +19,7 @@ use Rattle.head.specs.declared.Major.{Major}
 use Rattle.head.specs.declared.Initial.{Initial}
 use Rattle.head.specs.declared.Initial.TheVariants as says
 use Rattle.head.specs.declared.read.Head.{Head}
-use Rattle.head.specs.declared.read.Head.TheVariants.{Definite, Indefinite, Break, Short, Bad}
+use Rattle.head.specs.declared.read.Head.TheVariants.{Definite, Indefinite, Short, Bad}
 use Rattle.head.proofs.ReadLaws.{Sound, sound, head-by, long-here, long-short, cut_short, definite-within, indefinite-within}
 use Rattle.item.specs.Grammar.{Frame, One, Argument, content, nest, enter, Reads, one, last, digit}
 use Rattle.item.proofs.Heads.{nest_is}

@@ -2,7 +2,6 @@
 use mathlib.Core.Path.{sym, ap, ◌∙◌}
 use Rattle.elements.specs.declared.Extent.{Extent}
 use Rattle.elements.specs.Inside.{before}
-use borrow.Author.Rules.{rules}
 use Rattle.elements.proofs.before_of.Goals as goal
 
 pub returns-in-Open : goal.returns-in-Open

@@ -3,7 +3,6 @@ use Rattle.elements.specs.declared.Part.TheVariants.{Number, Wrong}
 use Rattle.elements.proofs.Steps.{number-then, number-not}
 use mathlib.Core.Bool.{cond}
 use lib.Dec.{ltb}
-use borrow.Author.Rules.{rules}
 use Rattle.elements.proofs.below_at.Goals as goal
 
 pub returns-in-Is : goal.returns-in-Is

@@ -4,7 +4,6 @@ use Rattle.base.proofs.Conds.{tests}
 use Rattle.ring.specs.Inside.{around}
 use Rattle.ring.proofs.Around.{around-length}
 use Rattle.elements.proofs.Steps.{bool-past, bool-here}
-use borrow.Author.Rules.{rules}
 use Rattle.elements.proofs.bool_at.Goals as goal
 
 pub returns-then-n-at : goal.returns-then-n-at

@@ -7,7 +7,6 @@ use Rattle.ring.specs.Inside.{around}
 use Rattle.ring.proofs.Around.{around-length}
 use Rattle.elements.specs.Matching.{Break}
 use Rattle.elements.proofs.Steps.{break_past}
-use borrow.Author.Rules.{rules}
 use Rattle.elements.proofs.breaks.Goals as goal
 
 pub returns-then-n-at : goal.returns-then-n-at

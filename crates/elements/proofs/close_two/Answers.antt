@@ -5,7 +5,6 @@ use Rattle.ring.specs.Inside.{around}
 use Rattle.ring.proofs.Around.{around-length}
 use Rattle.elements.specs.declared.End.TheVariants.{At}
 use Rattle.elements.proofs.ElementLaws.{closed-true, past-inside}
-use borrow.Author.Rules.{rules}
 use Rattle.elements.proofs.close_two.Goals as goal
 
 pub past_of-requires : goal.past_of-requires

@@ -2,7 +2,6 @@
 use mathlib.Core.Path.{ap, ◌∙◌}
 use Rattle.elements.specs.Reading.{leaving, element_at}
 use Rattle.elements.proofs.Steps.{element-by}
-use borrow.Author.Rules.{rules}
 use Rattle.elements.proofs.element_at.Goals as goal
 
 pub returns-in-Item : goal.returns-in-Item

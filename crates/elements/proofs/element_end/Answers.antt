@@ -1,6 +1,5 @@
 -- `elements::element_end` meets its contract: it is known, or found.
 use mathlib.Core.Path.{sym}
-use borrow.Author.Rules.{rules}
 use Rattle.elements.proofs.element_end.Goals as goal
 
 pub returns-in-At : goal.returns-in-At

@@ -9,7 +9,6 @@ use Rattle.elements.specs.Matching.{in_list, past, opener}
 use Rattle.elements.specs.Inside.{items_up_to}
 use Rattle.elements.specs.Reading.{opens_at, elements_of, listed}
 use Rattle.elements.proofs.ElementLaws.{items-end, list-end}
-use borrow.Author.Rules.{rules}
 use Rattle.elements.proofs.elements_at.Goals as goal
 
 pub list_of-requires : goal.list_of-requires

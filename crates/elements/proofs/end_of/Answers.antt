@@ -1,7 +1,6 @@
 -- `elements::end_of` meets its contract: each verdict is one of the definition's cases.
 use mathlib.Core.Path.{sym, ap}
 use Rattle.elements.specs.Reading.{ended}
-use borrow.Author.Rules.{rules}
 use Rattle.elements.proofs.end_of.Goals as goal
 
 pub returns-in-Whole : goal.returns-in-Whole

@@ -5,7 +5,6 @@ use lib.Dec.{eqb}
 use Rattle.ring.specs.Inside.{around}
 use Rattle.ring.proofs.Around.{around-length}
 use Rattle.elements.proofs.Steps.{closed_by}
-use borrow.Author.Rules.{rules}
 use Rattle.elements.proofs.is_closed.Goals as goal
 
 pub returns-in-Counted : goal.returns-in-Counted

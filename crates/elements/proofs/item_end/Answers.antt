@@ -5,7 +5,6 @@ use Rattle.ring.specs.Inside.{around}
 use Rattle.ring.proofs.Around.{around-length}
 use Rattle.elements.specs.Reading.{ended, item_end}
 use Rattle.elements.proofs.ElementLaws.{item-past}
-use borrow.Author.Rules.{rules}
 use Rattle.elements.proofs.item_end.Goals as goal
 
 pub returns-then-n-at : goal.returns-then-n-at

@@ -1,6 +1,5 @@
 -- `elements::items_of` meets its contract: an end, or none, as the definition goes by.
 use Rattle.elements.proofs.Steps.{items_is}
-use borrow.Author.Rules.{rules}
 use Rattle.elements.proofs.items_of.Goals as goal
 
 pub returns-in-At : goal.returns-in-At

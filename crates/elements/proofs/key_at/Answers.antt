@@ -1,6 +1,5 @@
 -- `elements::key_at` meets its contract: a number, or none, as the definition goes by.
 use Rattle.elements.proofs.Steps.{key-is, key-not}
-use borrow.Author.Rules.{rules}
 use Rattle.elements.proofs.key_at.Goals as goal
 
 pub returns-in-Is : goal.returns-in-Is

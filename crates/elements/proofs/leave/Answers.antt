@@ -1,7 +1,6 @@
 -- `elements::leave` meets its contract: an end, or none, as the definition goes by.
 use mathlib.Core.Path.{sym, ap}
 use Rattle.elements.specs.Reading.{leaving}
-use borrow.Author.Rules.{rules}
 use Rattle.elements.proofs.leave.Goals as goal
 
 pub returns-in-At : goal.returns-in-At

@@ -1,6 +1,5 @@
 -- `elements::list_of` meets its contract: there are elements, or not.
 use Rattle.elements.proofs.Steps.{listed_is}
-use borrow.Author.Rules.{rules}
 use Rattle.elements.proofs.list_of.Goals as goal
 
 pub past_of-requires : goal.past_of-requires

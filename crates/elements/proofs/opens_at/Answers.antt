@@ -1,7 +1,6 @@
 -- `elements::opens_at` meets its contract: each head is one of the definition's cases.
 use mathlib.Core.Path.{sym, ap, ◌∙◌}
 use Rattle.elements.specs.Reading.{opens, opens_at}
-use borrow.Author.Rules.{rules}
 use Rattle.elements.proofs.opens_at.Goals as goal
 
 pub returns-in-Definite : goal.returns-in-Definite

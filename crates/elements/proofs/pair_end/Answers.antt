@@ -1,6 +1,5 @@
 -- `elements::pair_end` meets its contract: an array, or none, as the definition goes by.
 use Rattle.elements.proofs.Steps.{pair_is, pair-not}
-use borrow.Author.Rules.{rules}
 use Rattle.elements.proofs.pair_end.Goals as goal
 
 pub returns-in-At : goal.returns-in-At

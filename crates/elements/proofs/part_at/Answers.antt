@@ -2,7 +2,6 @@
 use mathlib.Core.Path.{ap, ◌∙◌}
 use Rattle.elements.specs.Reading.{up_to, part_of}
 use Rattle.elements.proofs.Steps.{part_by}
-use borrow.Author.Rules.{rules}
 use Rattle.elements.proofs.part_at.Goals as goal
 
 pub returns-in-Item : goal.returns-in-Item

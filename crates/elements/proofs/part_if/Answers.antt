@@ -1,5 +1,4 @@
 -- `elements::part_if` meets its contract: the test decides.
-use borrow.Author.Rules.{rules}
 use Rattle.elements.proofs.part_if.Goals as goal
 
 pub returns-then-test : goal.returns-then-test

@@ -4,7 +4,6 @@ use mathlib.Core.Path.{sym, ap, subst}
 use native.Mathlib.Omega.{arith}
 use Rattle.elements.specs.declared.Extent.{Extent}
 use Rattle.elements.specs.Matching.{past}
-use borrow.Author.Rules.{rules}
 use Rattle.elements.proofs.past_of.Goals as goal
 
 pub overflow_add-result : goal.overflow_add-result

@@ -1,6 +1,5 @@
 -- `elements::size_end` meets its contract: a number, or none, as the definition goes by.
 use Rattle.elements.proofs.Steps.{size_is, size-not}
-use borrow.Author.Rules.{rules}
 use Rattle.elements.proofs.size_end.Goals as goal
 
 pub returns-in-Is : goal.returns-in-Is

@@ -1,6 +1,5 @@
 -- `elements::sized_end` meets its contract: behind the item, if there is one, stands its size.
 use Rattle.elements.proofs.Steps.{sized-is, sized-not}
-use borrow.Author.Rules.{rules}
 use Rattle.elements.proofs.sized_end.Goals as goal
 
 pub returns-in-At : goal.returns-in-At

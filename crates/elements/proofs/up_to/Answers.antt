@@ -1,6 +1,5 @@
 -- `elements::up_to` meets its contract: an end, or none, as the definition goes by.
 use Rattle.elements.proofs.Steps.{up_to_is}
-use borrow.Author.Rules.{rules}
 use Rattle.elements.proofs.up_to.Goals as goal
 
 pub returns-in-At : goal.returns-in-At

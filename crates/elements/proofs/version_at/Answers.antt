@@ -1,7 +1,6 @@
 -- `elements::version_at` meets its contract: behind the key, if there is one, stands its value.
 use Rattle.elements.proofs.Steps.{key-small, version-is, version-not}
 use native.Mathlib.Omega.{arith}
-use borrow.Author.Rules.{rules}
 use Rattle.elements.proofs.version_at.Goals as goal
 
 pub returns-in-Is : goal.returns-in-Is

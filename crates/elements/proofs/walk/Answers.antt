@@ -1,13 +1,12 @@
 -- `elements::walk` meets its contract: the loop's invariant is that the elements left, behind those that are passed, come to what all of them come to.
 use mathlib.Core.Path.{◌≡◌, ap, ◌∙◌}
-use Prim.Native.Nat.{ℕ, ◌-◌, ◌≤◌}
+use Prim.Native.Nat.{ℕ, ◌-◌}
 use native.Mathlib.Omega.{arith}
 use lib.ListN.{length}
 use Rattle.ring.specs.Inside.{around}
 use Rattle.ring.proofs.Around.{around-length}
-use Rattle.elements.specs.Reading.{walk, elements_of}
+use Rattle.elements.specs.Reading.{walk}
 use Rattle.elements.proofs.Steps.{walk_end, walk-stop, walk-forward, walk-on}
-use borrow.Author.Rules.{rules}
 use Rattle.elements.proofs.walk.Goals as goal
 
 pub loop-e-init : goal.loop-e-init

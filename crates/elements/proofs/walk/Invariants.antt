@@ -1,13 +1,8 @@
-use mathlib.Core.Path.{◌≡◌, ap, ◌∙◌}
-use Prim.Native.Nat.{ℕ, ◌-◌, ◌≤◌}
-use native.Mathlib.Omega.{arith}
-use borrow.Author.Tests.{not-true, not-false}
+use mathlib.Core.Path.{◌≡◌}
+use Prim.Native.Nat.{◌-◌, ◌≤◌}
 use lib.ListN.{length}
 use Rattle.ring.specs.Inside.{around}
-use Rattle.ring.proofs.Around.{around-length}
 use Rattle.elements.specs.Reading.{walk, elements_of}
-use Rattle.elements.proofs.Steps.{walk_end, walk-stop, walk-forward, walk-on}
-use borrow.Author.Rules.{rules}
 use Rattle.elements.proofs.walk.Given as goal
 
 abbrev pub invariant-loop-e : goal.invariant-loop-e

@@ -1,5 +1,5 @@
 -- Fields at the edges of what document 01 lets pass: the bytes, the field that stands at the first of them, and what reading it finds.
-use Rattle.std.specs.Prelude.{◌≡◌, List, [], ◌∷◌}
+use Rattle.std.specs.Prelude.{◌≡◌, [], ◌∷◌}
 use Rattle.elements.specs.declared.Element.TheVariants.{Item, Pair, Version}
 use Rattle.elements.specs.declared.Field.TheVariants as field
 use Rattle.elements.specs.declared.Part.TheVariants.{Number, Place, Wrong}
