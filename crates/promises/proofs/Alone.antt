@@ -97,11 +97,11 @@ judged_alike (not-read r e none) = alike (unjudged (outcome.NoMessage r)) (λ z.
 judged_alike (not-led m s x) = alike (unjudged outcome.NoRow) (λ z. omega arith)
 judged_alike {xs = xs} (message m to s x) = alike (led (length xs) m to) (λ z. omega arith)
 
-by_verdict : (v : View) (d : Verdict)
+turned_by_verdict : (v : View) (d : Verdict)
     → Turned (by_verdict (spoken v) v.state true v.bytes d) (by_verdict (spoken v) v.state false v.bytes d)
-by_verdict v Incomplete = turned
-by_verdict v (Bad at) = alike (unjudged (outcome.BytesBad at)) (λ z. omega arith)
-by_verdict v (Whole n) = judged_alike (judges (spoken v) v.state (lists.take n v.bytes))
+turned_by_verdict v Incomplete = turned
+turned_by_verdict v (Bad at) = alike (unjudged (outcome.BytesBad at)) (λ z. omega arith)
+turned_by_verdict v (Whole n) = judged_alike (judges (spoken v) v.state (lists.take n v.bytes))
 
 closed_turns : (v : View) → Turned (judge (but v true)) (judge (but v false))
 unfolding judge heard
@@ -114,7 +114,7 @@ closed_turns v =
     (λ d.
     by_test (eqb (length v.bytes) 0) (λ z. rw (t, b, d, z) (alike (unjudged outcome.Finished) (λ q. omega arith)))
     (λ z. rw (t, b, d, z) (alike (unjudged outcome.AfterDone) (λ q. omega arith))))
-    (λ d. by_test (ours_now v) (λ o. rw (t, b, d, o) (alike (unjudged outcome.OurTurn) (λ z. omega arith))) (λ o. rw (t, b, d, o) (by_verdict v (verdict v.bytes))))))
+    (λ d. by_test (ours_now v) (λ o. rw (t, b, d, o) (alike (unjudged outcome.OurTurn) (λ z. omega arith))) (λ o. rw (t, b, d, o) (turned_by_verdict v (verdict v.bytes))))))
     (λ t. rw t (alike (unjudged outcome.NoInstance) (λ z. omega arith)))
 
 -- an answer that is not 1 stays
