@@ -1,7 +1,7 @@
 -- Feeding keeps the range, byte by byte.
 -- Assumes nothing.
 use mathlib.Core.Path.{◌≡◌, refl, sym, ◌∙◌, subst}
-use mathlib.Core.Bool.{Bool, true, false, cond}
+use mathlib.Core.Bool.{true}
 use mathlib.Core.List.{List, [], ◌∷◌}
 use Prim.Native.Nat.{ℕ, zero, suc, ◌+◌, ◌-◌, ◌≤◌, ◌<◌}
 use native.Mathlib.Omega.{arith}
@@ -29,7 +29,7 @@ use Rattle.connection.specs.Parts.{with_receiving}
 use Rattle.range.specs.Ranges.{in_range}
 use Rattle.range.proofs.RangeLaws.{Ranged, ranged, is_in_range}
 use Rattle.admitting.specs.declared.Admission.{Admission}
-use Rattle.feeding.specs.Feeding.{Reception, admitted, admission, instance_for, settled, headed, kept, step, fed, given}
+use Rattle.feeding.specs.Feeding.{Reception, admitted, admission, settled, headed, kept, step, fed, given}
 use Rattle.feeding.specs.Feeding.{Spelt}
 
 -- what feeding can change of the range

@@ -1,7 +1,6 @@
 -- `feeding::kept` meets its contract: there is room for the payload under way.
 use native.Mathlib.Omega.{arith}
 use Rattle.feeding.proofs.Bytes.{lays}
-use borrow.Author.Rules.{rules}
 use Rattle.feeding.proofs.kept.Goals as goal
 
 pub returns : goal.returns

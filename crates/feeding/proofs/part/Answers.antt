@@ -2,7 +2,7 @@
 use mathlib.Core.Path.{◌≡◌, sym, ◌∙◌}
 use Prim.Native.Nat.{◌-◌, ◌≤◌}
 use lib.Dec.{eqb, leb}
-use lib.ListN.{length, length-map}
+use lib.ListN.{length}
 use native.Mathlib.Omega.{arith}
 use borrow.Author.Tests.{eqb-true, leb-true}
 use Rattle.base.proofs.Conds.{both_true}
@@ -27,12 +27,12 @@ all_there t =
 pub kept-requires : goal.kept-requires
 kept-requires c =
     let s = c in
-    (sound_under {w = s.args.w} s.requires.0 (search rules), s.requires.1)
+    (sound_under {w = s.args.w} s.requires.sound (search rules), s.requires.at_in_bounds)
 
 pub returns-then-w-gt0 : goal.returns-then-w-gt0
 returns-then-w-gt0 c =
     let s = c in
-    steps-kept s.requires.0 (omega arith) c.kept.ensures
+    steps-kept s.requires.sound (omega arith) c.kept.ensures
 
 pub header_whole-requires : goal.header_whole-requires
 header_whole-requires c = omega (arith, (all_there (goal.at.header_whole-requires c).Then-and).1)
@@ -41,10 +41,10 @@ pub returns-then-and : goal.returns-then-and
 returns-then-and c =
     let s = c in
     let q = all_there (goal.at.returns-then-and c).Then-and in
-    let wide : length s.args.w.header.bytes ≡ header_length = simp length-map at s.well_formed_lem.1.1.1.1.0.1.1.0.1.1.0.1.0.1 in
-    steps_whole s.requires.0 (omega (arith, q.1)) (omega arith) q.0 wide c.header_whole.ensures
+    let wide : length s.args.w.header.bytes ≡ header_length = search rules in
+    steps_whole s.requires.sound (omega (arith, q.1)) (omega arith) q.0 wide c.header_whole.ensures
 
 pub returns : goal.returns
 returns c =
     let s = c in
-    steps-header s.requires.0 s.requires.1 (omega arith) c.headed.ensures
+    steps-header s.requires.sound s.requires.at_in_bounds (omega arith) c.headed.ensures

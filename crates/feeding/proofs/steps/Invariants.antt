@@ -1,13 +1,8 @@
-use mathlib.Core.Path.{refl, sym, ◌∙◌}
-use Prim.Native.Nat.{◌-◌, zero-le}
-use native.Mathlib.Omega.{arith}
-use native.Mathlib.Nat.{zero-add}
+use Prim.Native.Nat.{◌-◌}
 use lib.ListN.{length}
-use borrow.Author.Tests.{not-true, not-false}
 use Rattle.connection.specs.declared.Gate.TheVariants.{Open}
 use Rattle.admitting.specs.Inside.{reception}
-use Rattle.feeding.proofs.Bytes.{Running, run_more, run-shut, run_end}
-use borrow.Author.Rules.{rules}
+use Rattle.feeding.proofs.Bytes.{Running}
 use Rattle.feeding.proofs.steps.Given as goal
 
 abbrev pub invariant-loop-at : goal.invariant-loop-at
