@@ -1,7 +1,6 @@
 -- `messages::behind_of` meets its contract: each part is one of the definition's cases.
 use mathlib.Core.Path.{sym, ap}
 use Rattle.messages.specs.Reading.{behind}
-use borrow.Author.Rules.{rules}
 use Rattle.messages.proofs.behind_of.Goals as goal
 
 pub returns-in-Number : goal.returns-in-Number

@@ -1,6 +1,5 @@
 -- `messages::blocking` meets its contract: the test decides.
 use Rattle.base.proofs.Conds.{tests}
-use borrow.Author.Rules.{rules}
 use Rattle.messages.proofs.blocking.Goals as goal
 
 pub returns-then-m-eq0 : goal.returns-then-m-eq0

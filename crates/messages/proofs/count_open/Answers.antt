@@ -2,7 +2,6 @@
 use mathlib.Core.Path.{sym, ap, ◌∙◌}
 use Rattle.elements.specs.declared.Number.{Number}
 use Rattle.elements.specs.Reading.{on_number}
-use borrow.Author.Rules.{rules}
 use Rattle.messages.proofs.count_open.Goals as goal
 
 pub returns-in-Is : goal.returns-in-Is

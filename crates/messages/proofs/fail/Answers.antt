@@ -1,7 +1,6 @@
 -- `messages::fail` meets its contract: the message is that of which nothing is known.
 use mathlib.Core.Path.{ap}
 use Rattle.messages.specs.declared.Message.{Message}
-use borrow.Author.Rules.{rules}
 use Rattle.messages.proofs.fail.Goals as goal
 
 pub returns : goal.returns

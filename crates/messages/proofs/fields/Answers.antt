@@ -1,9 +1,8 @@
 -- `messages::fields` meets its contract: the loop's invariant is that the fields left, at the place reached, give what all of them give, and that those
 -- behind are as many items.
 use mathlib.Core.Path.{◌≡◌, ap, subst, ◌∙◌}
-use Prim.Native.Nat.{ℕ, suc, ◌+◌, ◌-◌, ◌≤◌, ◌<◌}
+use Prim.Native.Nat.{ℕ, suc, ◌+◌, ◌-◌, ◌<◌}
 use native.Mathlib.Omega.{arith}
-use mathlib.Core.List.{List}
 use lib.Dec.{eqb}
 use lib.ListN.{length, drop}
 use borrow.Author.Tests.{eqb-true}
@@ -13,9 +12,7 @@ use Rattle.messages.specs.declared.Message.{Message}
 use Rattle.elements.specs.Besides.Matching.{ItemsAt}
 use Rattle.elements.specs.Matching.{in_message}
 use Rattle.elements.proofs.ElementLaws.{none_at}
-use Rattle.messages.specs.Matching.{begun}
 use Rattle.messages.specs.Reading.{fields_of}
-use Rattle.rows.specs.Inside.{entries}
 use Rattle.messages.specs.Inside.{form_at}
 use Rattle.messages.proofs.FieldLaws.{with_count, one_more, one-wrong, none_left, then-item, part-item, last-ends, known-end}
 use borrow.Author.Rules.{rules}

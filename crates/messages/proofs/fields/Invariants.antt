@@ -1,22 +1,14 @@
-use mathlib.Core.Path.{◌≡◌, ap, subst, ◌∙◌}
-use Prim.Native.Nat.{ℕ, suc, ◌+◌, ◌-◌, ◌≤◌, ◌<◌}
-use native.Mathlib.Omega.{arith}
+use mathlib.Core.Path.{◌≡◌}
+use Prim.Native.Nat.{ℕ, ◌+◌, ◌-◌, ◌≤◌}
 use mathlib.Core.List.{List}
-use lib.Dec.{eqb}
-use lib.ListN.{length, drop}
-use borrow.Author.Tests.{eqb-true}
+use lib.ListN.{drop}
 use Rattle.ring.specs.Inside.{around}
-use Rattle.ring.proofs.Around.{around-length}
 use Rattle.messages.specs.declared.Message.{Message}
 use Rattle.elements.specs.Besides.Matching.{ItemsAt}
 use Rattle.elements.specs.Matching.{in_message}
-use Rattle.elements.proofs.ElementLaws.{none_at}
 use Rattle.messages.specs.Matching.{begun}
 use Rattle.messages.specs.Reading.{fields_of}
-use Rattle.rows.specs.Inside.{entries}
 use Rattle.messages.specs.Inside.{form_at}
-use Rattle.messages.proofs.FieldLaws.{with_count, one_more, one-wrong, none_left, then-item, part-item, last-ends, known-end}
-use borrow.Author.Rules.{rules}
 use Rattle.messages.proofs.fields.Given as goal
 
 -- the fields from i on give what all of them give, with so much said so far, and those before are behind

@@ -1,7 +1,6 @@
 -- `messages::flag` meets its contract: each protocol is one of the definition's cases.
 use mathlib.Core.Path.{sym, ap, ◌∙◌}
 use Rattle.messages.specs.Reading.{flag_of}
-use borrow.Author.Rules.{rules}
 use Rattle.messages.proofs.flag.Goals as goal
 
 pub returns-in-Handshake : goal.returns-in-Handshake

@@ -7,9 +7,9 @@ use Rattle.messages.proofs.formed.Goals as goal
 
 pub filled-requires : goal.filled-requires
 filled-requires c = let a = c.args in record {
-      from_in_bounds = (search rules, search rules, (subst (Finds a.p a.kind) c.in-Row.is c.find-form.ensures).0);
-      begins = c.requires.begins;
-    }
+  from_in_bounds = (search rules, search rules, (subst (Finds a.p a.kind) c.in-Row.is c.find-form.ensures).0);
+  begins = c.requires.begins;
+}
 
 pub returns-in-Row : goal.returns-in-Row
 returns-in-Row c = form-known _ _ _ _ _ c.find-form.ensures c.in-Row.is c.filled.ensures

@@ -5,7 +5,6 @@ use lib.Dec.{eqb}
 use Rattle.ring.specs.Inside.{around}
 use Rattle.elements.specs.declared.Extent.{Extent}
 use Rattle.messages.specs.Inside.{has_count}
-use borrow.Author.Rules.{rules}
 use Rattle.messages.proofs.has_count.Goals as goal
 
 pub returns-in-Counted : goal.returns-in-Counted

@@ -2,7 +2,6 @@
 use mathlib.Core.Path.{sym, ap, ◌∙◌}
 use Rattle.elements.specs.declared.Extent.{Extent}
 use Rattle.messages.specs.Inside.{last_end}
-use borrow.Author.Rules.{rules}
 use Rattle.messages.proofs.last_end.Goals as goal
 
 pub returns-in-Counted : goal.returns-in-Counted

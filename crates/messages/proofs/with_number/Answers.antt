@@ -1,6 +1,5 @@
 -- `messages::with_number` meets its contract: the number is set behind those before it.
 use Rattle.messages.proofs.FieldLaws.{number-said}
-use borrow.Author.Rules.{rules}
 use Rattle.messages.proofs.with_number.Goals as goal
 
 pub returns : goal.returns

@@ -1,7 +1,6 @@
 -- `messages::with_part` meets its contract: each part is one of the definition's cases.
 use mathlib.Core.Path.{sym, ap, ◌∙◌}
 use Rattle.messages.specs.Reading.{with_part}
-use borrow.Author.Rules.{rules}
 use Rattle.messages.proofs.with_part.Goals as goal
 
 pub returns-in-Number : goal.returns-in-Number

@@ -1,6 +1,5 @@
 -- `messages::with_place` meets its contract: start and length are set behind those before them.
 use Rattle.messages.proofs.FieldLaws.{place-said}
-use borrow.Author.Rules.{rules}
 use Rattle.messages.proofs.with_place.Goals as goal
 
 pub returns : goal.returns

@@ -3,7 +3,6 @@ use mathlib.Core.Path.{◌∙◌}
 use Rattle.rows.specs.Inside.{countIn}
 use Rattle.rows.proofs.ByProtocol.{number_of}
 use Rattle.messages.specs.Forms.{forms}
-use borrow.Author.Rules.{rules}
 use Rattle.messages.proofs.forms.count.Goals as goal
 
 pub returns : goal.returns

@@ -8,6 +8,14 @@ use Rattle.messages.proofs.FormLaws.{count_at, at_most}
 use borrow.Author.Rules.{rules}
 use Rattle.messages.proofs.forms.fields.Goals as goal
 
+pub offset_bounds-i : goal.offset_bounds-i
+unfolding entries
+offset_bounds-i c = search rules
+
+pub bounds-i : goal.bounds-i
+unfolding entries
+bounds-i c = search rules
+
 pub returns : goal.returns
 unfolding entries marks
 returns c =

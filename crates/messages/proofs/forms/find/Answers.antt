@@ -1,12 +1,11 @@
 -- `messages::forms::find` meets its contract: the loop's invariant is that the forms from i on are found as all of the protocol's are.
 use mathlib.Core.Path.{sym, ◌∙◌}
-use Prim.Native.Nat.{◌-◌}
 use native.Mathlib.Omega.{arith}
 use borrow.Author.Tests.{eq-eqb, ne_eqb}
 use Rattle.messages.specs.Forms.{forms, form_in}
 use Rattle.messages.specs.Inside.{marks}
 use Rattle.rows.specs.Inside.{entries}
-use Rattle.rows.proofs.ByProtocol.{Come, ends, begun, onward, found, none_found}
+use Rattle.rows.proofs.ByProtocol.{ends, begun, onward, found, none_found}
 use Rattle.messages.proofs.FormLaws.{kind_at, finding}
 use borrow.Author.Rules.{rules}
 use Rattle.messages.proofs.forms.find.Goals as goal
@@ -19,6 +18,18 @@ pub loop-i-init : goal.loop-i-init
 loop-i-init c =
     let a = c.args in
     begun forms (finding a.kind) a.p c.first-i.ensures c.count.ensures
+
+pub offset_bounds-table-i : goal.offset_bounds-table-i
+unfolding entries
+offset_bounds-table-i c = search rules
+
+pub bounds-table-i : goal.bounds-table-i
+unfolding entries
+bounds-table-i c = search rules
+
+pub overflow_add-i : goal.overflow_add-i
+unfolding entries
+overflow_add-i c = search rules
 
 pub returns-then-kind_in-kind : goal.returns-then-kind_in-kind
 unfolding entries marks
