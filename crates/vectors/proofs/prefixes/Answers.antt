@@ -1,8 +1,6 @@
 -- `vectors::prefixes` ends and is safe: each prefix counts one at most.
-use Prim.Native.Nat.{◌≤◌, ◌-◌}
 use native.Mathlib.Omega.{arith}
-use lib.ListN.{length, length-take}
-use borrow.Author.Rules.{rules}
+use lib.ListN.{length-take}
 use Rattle.vectors.proofs.prefixes.Goals as goal
 
 pub slice_bounds-measure_slice-end : goal.slice_bounds-measure_slice-end

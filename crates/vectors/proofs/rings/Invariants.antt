@@ -1,5 +1,4 @@
 use Prim.Native.Nat.{◌≤◌, ◌-◌}
-use borrow.Author.Rules.{rules}
 use Rattle.vectors.proofs.rings.Given as goal
 
 abbrev pub invariant-loop-from : goal.invariant-loop-from
