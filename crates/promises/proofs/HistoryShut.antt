@@ -115,8 +115,8 @@ unfolding bytes_in put_for acts segments flat_map
 nothing_yet = record { comes = refl; put = λ i. refl; sent = refl }
 
 -- T15
-pub after-fault : AfterFault
-after-fault s receive send opened cs ds r q x e =
+pub after_fault : AfterFault
+after_fault s receive send opened cs ds r q x e =
     let w : World = run (first s receive send) cs in
     let k : Sound s w = sound_run s (first s receive send) cs r (sound_first s receive send opened) in
     let t : Since x (did w ds) (run w ds) = on (λ s. Since x) (since_next x) s ds [] w q k (record { same = e; nothing = nothing_yet }) in

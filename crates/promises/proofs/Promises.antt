@@ -15,7 +15,7 @@ use Rattle.promises.proofs.Tied.{tied}
 use Rattle.promises.proofs.Reached.{in_range_for_ever, never_23}
 use Rattle.promises.proofs.Fair.{fair}
 use Rattle.promises.proofs.History.{history, status_tells}
-use Rattle.promises.proofs.HistoryShut.{after-fault}
+use Rattle.promises.proofs.HistoryShut.{after_fault}
 use Rattle.promises.proofs.Alone.{alone, two_alike, which_byte}
 use Rattle.promises.proofs.ArrivalBuilt.{built_arrives}
 use Rattle.promises.proofs.AllMet.{all_met}
@@ -43,7 +43,7 @@ promises =
       fair = fair;
       status_tells = status_tells;
       alone = alone;
-      after-fault = after-fault;
+      after_fault = after_fault;
     }
 
 pub further : Further

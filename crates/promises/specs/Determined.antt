@@ -14,7 +14,7 @@ use Rattle.feeding.proofs.feed.Reads as feed_says
 use Rattle.looking.specs.contracts.look as look
 use Rattle.looking.proofs.look.Reads as look_says
 use Rattle.looking.specs.contracts.part as part
-use Rattle.looking.proofs.part.Reads as part_Says
+use Rattle.looking.proofs.part.Reads as part_says
 use Rattle.dropping.specs.contracts.drop as drop
 use Rattle.dropping.proofs.drop.Reads as drop_says
 use Rattle.build.specs.contracts.build as build
@@ -33,8 +33,8 @@ use Rattle.promises.specs.History.{part_at}
 abbrev pub OncePart : Type 0
 OncePart =
     (lives : Lfts (part.ended).signature.lifetimes) (a : Args (part.ended).signature lives) (r q : Res (part.ended).signature lives)
-    (after after' : Lasts part.ended lives a) → part_Says.Post lives a r (at_exit part.ended lives a after) → part_Says.Post lives a q (at_exit part.ended lives a after')
-    → part_Says.Pre lives a × (r.ref_ptr ≡ q.ref_ptr) × (r.now ≡ q.now)
+    (after after' : Lasts part.ended lives a) → part_says.Post lives a r (at_exit part.ended lives a after) → part_says.Post lives a q (at_exit part.ended lives a after')
+    → part_says.Pre lives a × (r.ref_ptr ≡ q.ref_ptr) × (r.now ≡ q.now)
 
 pub record Contracts : Type 0 where
   pub opening : Once opening.ended opening_says.Pre opening_says.Post
@@ -65,7 +65,7 @@ pub record Tied : Type 0 where
   pub look : Ends look.ended look_says.Post (λ _ (c, (store, (instance, (scratch, _)))) r (_, (_, (_, (after, _)))). (send : List ℕ)
       → step (world c store.now send) (calls.look instance scratch.now)
       ≡ record { world = world r.connection store.now send; answer = (r.shown.number, calls.looked (calls.said_by r.shown) r.place after) })
-  pub part : Ends part.ended part_Says.Post (λ _ (store, (scratch, (place, (len, _)))) r _. r.now ≡ part_at place len store.now scratch.now)
+  pub part : Ends part.ended part_says.Post (λ _ (store, (scratch, (place, (len, _)))) r _. r.now ≡ part_at place len store.now scratch.now)
   pub drop : Ends drop.ended drop_says.Post (λ _ (c, (store, (instance, _))) r _. (send : List ℕ)
       → step (world c store.now send) (calls.drop instance)
       ≡ record { world = world r.connection store.now send; answer = (r.shown.number, calls.said_by r.shown) })

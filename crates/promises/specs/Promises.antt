@@ -27,4 +27,4 @@ pub record Promises : Type 0 where
   -- scratch; only 1 or 20 rests on the closing
   pub alone : Alone
   -- T15: after a fault feed, put and next segment answer 20 (put 10 where there is no instance), and nothing comes in, is put or is sent
-  pub after-fault : AfterFault
+  pub after_fault : AfterFault
