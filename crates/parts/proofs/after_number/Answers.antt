@@ -1,7 +1,6 @@
 -- `parts::after_number` meets its contract: the field decides.
 use mathlib.Core.Path.{sym, ◌∙◌}
 use native.Mathlib.Omega.{arith}
-use borrow.Author.Rules.{rules}
 use Rattle.parts.proofs.after_number.Goals as goal
 
 pub returns-then-is_number : goal.returns-then-is_number

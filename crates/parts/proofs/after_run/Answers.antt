@@ -1,7 +1,6 @@
 -- `parts::after_run` meets its contract: the field decides.
 use mathlib.Core.Path.{sym, ◌∙◌}
 use native.Mathlib.Omega.{arith}
-use borrow.Author.Rules.{rules}
 use Rattle.parts.proofs.after_run.Goals as goal
 
 pub returns : goal.returns

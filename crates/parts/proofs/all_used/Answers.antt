@@ -1,5 +1,4 @@
 -- `parts::all_used` meets its contract: the test decides.
-use borrow.Author.Rules.{rules}
 use Rattle.parts.proofs.all_used.Goals as goal
 
 pub returns-then-used : goal.returns-then-used

@@ -1,5 +1,4 @@
 -- `parts::are_given` meets its contract: the tests are those of the definition.
-use borrow.Author.Rules.{rules}
 use Rattle.parts.proofs.are_given.Goals as goal
 
 pub returns : goal.returns

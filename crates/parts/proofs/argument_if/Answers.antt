@@ -1,5 +1,4 @@
 -- `parts::argument_if` meets its contract: the test decides.
-use borrow.Author.Rules.{rules}
 use Rattle.parts.proofs.argument_if.Goals as goal
 
 pub returns-then-test : goal.returns-then-test

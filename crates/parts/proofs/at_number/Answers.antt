@@ -1,6 +1,5 @@
 -- `parts::at_number` meets its contract: there is such a number, or not.
 use borrow.Author.Tests.{lt-ltb, le-ltb}
-use borrow.Author.Rules.{rules}
 use Rattle.parts.proofs.at_number.Goals as goal
 
 pub returns-then-n-numbers : goal.returns-then-n-numbers

@@ -1,6 +1,5 @@
 -- `parts::at_run` meets its contract: there is such a run, the first or the second, or not.
 use borrow.Author.Tests.{le-ltb, lt-ltb, eq-eqb, ne_eqb}
-use borrow.Author.Rules.{rules}
 use Rattle.parts.proofs.at_run.Goals as goal
 
 pub returns-then-runs-r : goal.returns-then-runs-r

@@ -1,6 +1,5 @@
 -- `parts::bool_argument` meets its contract: the test decides.
 use Rattle.base.proofs.Conds.{tests}
-use borrow.Author.Rules.{rules}
 use Rattle.parts.proofs.bool_argument.Goals as goal
 
 pub returns-then-v-lt2 : goal.returns-then-v-lt2

@@ -1,10 +1,7 @@
 -- `parts::judge` meets its contract: the fields left, from these numbers and runs on, always come to what all of them come to.
-use mathlib.Core.Path.{◌≡◌, refl, ◌∙◌}
-use Prim.Native.Nat.{◌-◌, ◌≤◌}
+use mathlib.Core.Path.{refl, ◌∙◌}
 use native.Mathlib.Omega.{arith}
-use lib.ListN.{length, drop}
 use Rattle.messages.specs.Inside.{form_at}
-use Rattle.parts.specs.Inside.{planned, nothing}
 use Rattle.parts.proofs.PartLaws.{plan-on, plan-stop, plan-end}
 use borrow.Author.Rules.{rules}
 use Rattle.parts.proofs.judge.Goals as goal

@@ -1,11 +1,8 @@
-use mathlib.Core.Path.{◌≡◌, refl, ◌∙◌}
+use mathlib.Core.Path.{◌≡◌}
 use Prim.Native.Nat.{◌-◌, ◌≤◌}
-use native.Mathlib.Omega.{arith}
 use lib.ListN.{length, drop}
 use Rattle.messages.specs.Inside.{form_at}
 use Rattle.parts.specs.Inside.{planned, nothing}
-use Rattle.parts.proofs.PartLaws.{plan-on, plan-stop, plan-end}
-use borrow.Author.Rules.{rules}
 use Rattle.parts.proofs.judge.Given as goal
 
 abbrev pub invariant-loop-i : goal.invariant-loop-i

@@ -1,7 +1,6 @@
 -- `parts::of_field` meets its contract: the field is given by a number, or by a run.
 use mathlib.Core.Path.{sym, ◌∙◌}
 use Rattle.parts.proofs.PartLaws.{by_number, by_run}
-use borrow.Author.Rules.{rules}
 use Rattle.parts.proofs.of_field.Goals as goal
 
 pub returns-then-is_number : goal.returns-then-is_number

@@ -1,6 +1,5 @@
 -- `parts::of_number` meets its contract: a number has its limit, and a bool is 0 or 1.
 use Rattle.parts.proofs.PartLaws.{number_by}
-use borrow.Author.Rules.{rules}
 use Rattle.parts.proofs.of_number.Goals as goal
 
 pub returns-in-Below : goal.returns-in-Below

@@ -1,6 +1,5 @@
 -- `parts::runs::count` meets its contract: the run is a ring that does not wrap.
 use Rattle.parts.proofs.RunLaws.{count-here}
-use borrow.Author.Rules.{rules}
 use Rattle.parts.proofs.runs.count.Goals as goal
 
 pub returns-in-Is : goal.returns-in-Is

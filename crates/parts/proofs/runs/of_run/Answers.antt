@@ -1,6 +1,5 @@
 -- `parts::runs::of_run` meets its contract: an item, or elements.
 use Rattle.parts.proofs.RunLaws.{run_by}
-use borrow.Author.Rules.{rules}
 use Rattle.parts.proofs.runs.of_run.Goals as goal
 
 pub returns-in-Item : goal.returns-in-Item

@@ -1,7 +1,6 @@
 -- `parts::runs::one_item` meets its contract: the item ends where the run ends, or not.
 use Rattle.elements.proofs.Steps.{end-then, end-not}
 use Rattle.parts.proofs.RunLaws.{item-here}
-use borrow.Author.Rules.{rules}
 use Rattle.parts.proofs.runs.one_item.Goals as goal
 
 pub returns-in-At : goal.returns-in-At
