@@ -25,12 +25,12 @@ use Rattle.judging.proofs.JudgingLaws as judging
 use Rattle.judging.proofs.JudgingLaws.{Judges, judges, judged-so, whole-within}
 
 module _ (v : View) where
-  abbrev byBytes : Verdict → Judged
-  byBytes d = by_verdict (spoken v) v.state v.closed v.bytes d
+  abbrev by_bytes : Verdict → Judged
+  by_bytes d = by_verdict (spoken v) v.state v.closed v.bytes d
 
   -- ---- where a "when" holds, that is told
 
-  pub awaited-so : Awaited v → (d : Verdict) → verdict v.bytes ≡ d → heard v ≡ byBytes d
+  pub awaited-so : Awaited v → (d : Verdict) → verdict v.bytes ≡ d → heard v ≡ by_bytes d
   unfolding heard
   awaited-so w d e = rw (w.allowed, ne_eqb v.state (done_of (spoken v)) w.going, w.theirs, e)
 
@@ -70,10 +70,10 @@ module _ (v : View) where
   by-judged w n e (judging.message m next s x) =
       rw (first-long n e) (message (record { awaited = w; whole = e; says = s; row = x }))
 
-  by_verdict : Awaited v → (d : Verdict) → verdict v.bytes ≡ d → Hears v (byBytes d)
-  by_verdict w (Whole n) e = by-judged w n e (judges (spoken v) v.state (take n v.bytes))
-  by_verdict w (Bad at) e = refusal (are_bad w e)
-  by_verdict w Incomplete e =
+  hears-by_verdict : Awaited v → (d : Verdict) → verdict v.bytes ≡ d → Hears v (by_bytes d)
+  hears-by_verdict w (Whole n) e = by-judged w n e (judges (spoken v) v.state (take n v.bytes))
+  hears-by_verdict w (Bad at) e = refusal (are_bad w e)
+  hears-by_verdict w Incomplete e =
       cond_cases (λ (o : Outcome). Hears v (unjudged o)) v.closed (λ o. refusal (closed w e o)) (λ o. refusal (waiting w e o))
 
   pub hears : Hears v (heard v)
@@ -91,7 +91,7 @@ module _ (v : View) where
       (λ t.
       let d = eqb-false v.state done t in
       cond_cases (Hears v) (ours_now v) (λ o. refusal (our_turn b d o))
-      (λ o. by_verdict (record { allowed = b; going = d; theirs = o }) (verdict v.bytes) refl)))
+      (λ o. hears-by_verdict (record { allowed = b; going = d; theirs = o }) (verdict v.bytes) refl)))
 
 pub heard_exactly : HeardExactly
 heard_exactly v j = (λ e. subst (Hears v) e (hears v), heard-so v)

@@ -1,5 +1,4 @@
 -- `judging::barred` meets its contract: the tests are those of the definition.
-use borrow.Author.Rules.{rules}
 use Rattle.judging.proofs.barred.Goals as goal
 
 pub returns : goal.returns

@@ -1,6 +1,5 @@
 -- `judging::by_row` meets its contract: each case of the answer is a case of the definition.
 use mathlib.Core.Path.{sym, ap, ◌∙◌}
-use borrow.Author.Rules.{rules}
 use Rattle.judging.specs.Judging.{by_row}
 use Rattle.judging.proofs.by_row.Goals as goal
 

@@ -12,7 +12,6 @@ use Rattle.ring.specs.Inside.{around}
 use Rattle.ring.proofs.Around.{around_all}
 use Rattle.judging.specs.Judging.{judged_of}
 use Rattle.judging.proofs.JudgingLaws.{judged-not-one}
-use borrow.Author.Rules.{rules}
 use Rattle.judging.proofs.judge_item.Goals as goal
 
 -- the first n bytes of n are all of them

@@ -6,7 +6,6 @@ use lib.ListN.{length}
 use Rattle.item.specs.declared.Verdict.{Verdict}
 use Rattle.messages.specs.Reading.{wholly}
 use Rattle.judging.proofs.JudgingLaws.{judged-not-one}
-use borrow.Author.Rules.{rules}
 use Rattle.judging.proofs.judge_slice.Goals as goal
 
 pub judge_item-requires : goal.judge_item-requires

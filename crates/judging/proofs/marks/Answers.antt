@@ -1,5 +1,4 @@
 -- `judging::marks` meets its contract: the tests are those of the definition.
-use borrow.Author.Rules.{rules}
 use Rattle.judging.proofs.marks.Goals as goal
 
 pub returns : goal.returns

@@ -4,7 +4,6 @@ use native.Mathlib.Omega.{arith}
 use Rattle.ring.proofs.Around.{around-take}
 use Rattle.judging.specs.Judging.{unjudged, judged_of}
 use Rattle.judging.proofs.JudgingLaws.{whole-alone}
-use borrow.Author.Rules.{rules}
 use Rattle.judging.proofs.measured.Goals as goal
 
 pub judge-requires : goal.judge-requires

@@ -5,7 +5,6 @@ use lib.Dec.{eqb}
 use Rattle.wire.specs.Instances.{role_of, initiates}
 use Rattle.judging.specs.Judging.{holds}
 use Rattle.judging.proofs.JudgingLaws.{initiator_mode}
-use borrow.Author.Rules.{rules}
 use Rattle.judging.proofs.ours.Goals as goal
 
 pub returns : goal.returns
