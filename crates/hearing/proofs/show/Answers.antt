@@ -1,5 +1,4 @@
 -- `hearing::show` meets its contract: number and offset are the outcome's.
-use borrow.Author.Rules.{rules}
 use Rattle.hearing.proofs.show.Goals as goal
 
 pub returns : goal.returns

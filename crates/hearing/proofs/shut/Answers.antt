@@ -1,6 +1,5 @@
 -- `hearing::shut` meets its contract: a fault closes, and another number does not.
 use mathlib.Core.Path.{sym, ◌∙◌}
-use borrow.Author.Rules.{rules}
 use Rattle.hearing.proofs.shut.Goals as goal
 
 pub returns-then-heard_fault : goal.returns-then-heard_fault
