@@ -4,7 +4,6 @@ use Prim.Native.Nat.{ℕ, ◌+◌, ◌-◌}
 use native.Mathlib.Omega.{arith}
 use lib.ListN.{take, drop}
 use Rattle.looking.proofs.PartLaws.{cut_in, cut_out}
-use borrow.Author.Rules.{rules}
 use Rattle.looking.proofs.cut.Goals as goal
 
 pub returns-then-s-at : goal.returns-then-s-at

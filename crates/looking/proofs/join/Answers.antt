@@ -1,5 +1,6 @@
 -- `looking::join` meets its contract: each way out is one of the places.
 use mathlib.Core.Path.{refl, sym, ap, ◌∙◌}
+use mathlib.Core.List.{List}
 use Prim.Native.Nat.{ℕ, ◌+◌}
 use native.Mathlib.Omega.{arith}
 use lib.ListN.{length, get_or}
@@ -7,61 +8,51 @@ use lib.Seq.{sets}
 use Rattle.ring.specs.Ring.{base_of, stream}
 use Rattle.looking.specs.declared.Place.TheVariants.{Store}
 use Rattle.looking.proofs.LookingLaws.{in_one_run, wraps-in, wraps-out}
-use borrow.Author.Rules.{rules}
 use Rattle.looking.proofs.join.Goals as goal
-use Rattle.looking.proofs.join.Goals.{After-base_of-base, Start}
-
--- once the area's place is known: where the call began
-abbrev start : After-base_of-base → Start
-start c = c.before.before.before.before
 
 pub base_of-base-requires : goal.base_of-base-requires
 base_of-base-requires c = let k = c.requires in (omega (arith, k.listed), omega (arith, k.stored))
 
 pub returns-then-n-cap : goal.returns-then-n-cap
 returns-then-n-cap c =
-    let b = c in
-    let a = (start b).args in
-    let caps = a.caps.now in (
-      ap (λ (n : ℕ). Store (n + a.start)) b.base_of-base.ensures
-          ∙ sym (in_one_run (base_of caps a.i) (get_or caps a.i 0) a.start a.n (length a.scratch.now) (omega (arith, c.if-n-cap.true, (start b).requires.placed))),
+    let a = c.args in
+    let caps : List ℕ = a.caps.now in (
+      ap (λ (n : ℕ). Store (n + a.start)) c.base_of-base.ensures
+          ∙ sym (in_one_run (base_of caps a.i) (get_or caps a.i 0) a.start a.n (length a.scratch.now) (omega (arith, c.if-n-cap.true, c.requires.placed))),
       refl,
     )
 
 pub returns-then-scratch-n : goal.returns-then-scratch-n
 returns-then-scratch-n c =
-    let b = c in
-    let a = (start b).args in
-    let caps = a.caps.now in (
-      sym (wraps-out (base_of caps a.i) (get_or caps a.i 0) a.start a.n (length a.scratch.now) (omega (arith, c.if-n-cap.false, (start b).requires.placed)) c.if-scratch-n.true),
+    let a = c.args in
+    let caps : List ℕ = a.caps.now in (
+      sym (wraps-out (base_of caps a.i) (get_or caps a.i 0) a.start a.n (length a.scratch.now) (omega (arith, c.if-n-cap.false, c.requires.placed)) c.if-scratch-n.true),
       refl,
     )
 
 pub read-requires : goal.read-requires
 read-requires c =
-    let b = c in
-    let k = (start b).requires in
-    (k.within, k.some, omega (arith, b.base_of-base.ensures, k.stored), omega (arith, c.if-scratch-n.false))
+    let k = c.requires in
+    (k.within, k.some, omega (arith, c.base_of-base.ensures, k.stored), omega (arith, c.if-scratch-n.false))
 
 pub returns : goal.returns
 returns c =
-    let b = c in
-    let a = (start b).args in
-    let caps = a.caps.now in (
-      sym (wraps-in (base_of caps a.i) (get_or caps a.i 0) a.start a.n (length a.scratch.now) (omega (arith, c.if-n-cap.false, (start b).requires.placed))
+    let a = c.args in
+    let caps : List ℕ = a.caps.now in (
+      sym (wraps-in (base_of caps a.i) (get_or caps a.i 0) a.start a.n (length a.scratch.now) (omega (arith, c.if-n-cap.false, c.requires.placed))
           (omega (arith, c.if-scratch-n.false))),
       c.read.ensures
-          ∙ ap (λ (n : ℕ). sets a.scratch.now 0 (stream a.store.now n (get_or caps a.i 0) a.start a.n)) b.base_of-base.ensures,
+          ∙ ap (λ (n : ℕ). sets a.scratch.now 0 (stream a.store.now n (get_or caps a.i 0) a.start a.n)) c.base_of-base.ensures,
     )
 
 pub offset_bounds-caps-i : goal.offset_bounds-caps-i
-offset_bounds-caps-i c = record { fits = omega (arith, (start c).requires.below) }
+offset_bounds-caps-i c = record { fits = omega (arith, c.requires.below) }
 
 pub bounds-caps-i : goal.bounds-caps-i
-bounds-caps-i c = omega (arith, (start c).requires.below)
+bounds-caps-i c = omega (arith, c.requires.below)
 
 pub overflow_sub-cap : goal.overflow_sub-cap
-overflow_sub-cap c = omega (arith, (start c).requires.placed)
+overflow_sub-cap c = omega (arith, c.requires.placed)
 
 pub overflow_add-result : goal.overflow_add-result
-overflow_add-result c = record { fits = omega (arith, c.base_of-base.ensures, (start c).requires.stored, (start c).requires.placed) }
+overflow_add-result c = record { fits = omega (arith, c.base_of-base.ensures, c.requires.stored, c.requires.placed) }

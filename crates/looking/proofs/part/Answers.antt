@@ -1,5 +1,4 @@
 -- `looking::part` meets its contract: each place's part.
-use borrow.Author.Rules.{rules}
 use Rattle.looking.proofs.part.Goals as goal
 
 pub returns-in-Store : goal.returns-in-Store

@@ -3,7 +3,6 @@ use mathlib.Core.Path.{sym, ap, ◌∙◌}
 use Rattle.hearing.specs.Hearing.{shown_by}
 use Rattle.looking.specs.declared.Place.{Place}
 use Rattle.looking.specs.Looking.{shown_at}
-use borrow.Author.Rules.{rules}
 use Rattle.looking.proofs.shown_at.Goals as goal
 
 pub returns-in-Nowhere : goal.returns-in-Nowhere
