@@ -7,7 +7,7 @@ use mathlib.Core.Option.{some}
 use Prim.Native.Nat.{ℕ, zero, suc, ◌+◌, ◌*◌, ◌≤◌}
 use native.Mathlib.Omega.{arith}
 use native.Mathlib.Numerals.{add-one}
-use lib.ListN.{length, get_or, set, take, drop, length-set, length-take}
+use lib.ListN.{length, get_or, set, take, length-set, length-take}
 use lib.Seq.{sets, take-suc-set, get_or-set_same, get_or-set_other}
 use Rattle.ring.specs.Ring as ring
 use Rattle.item.specs.declared.Verdict.TheVariants.{Whole}
