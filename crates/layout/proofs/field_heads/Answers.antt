@@ -1,12 +1,7 @@
 -- `layout::field_heads` meets its contract: the loop's invariant is that the sum so far, with the heads left, is as long as all of them.
-use mathlib.Core.Path.{◌≡◌}
-use Prim.Native.Nat.{◌+◌, ◌-◌, ◌*◌, ◌≤◌}
 use native.Mathlib.Omega.{arith}
-use lib.ListN.{drop}
 use Rattle.messages.specs.Inside.{form_at}
-use Rattle.layout.specs.Inside.{heads_of}
 use Rattle.layout.proofs.LayoutLaws.{heads-on, heads-end}
-use borrow.Author.Rules.{rules}
 use Rattle.layout.proofs.field_heads.Goals as goal
 
 pub loop-i-init : goal.loop-i-init

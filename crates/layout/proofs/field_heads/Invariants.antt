@@ -1,11 +1,8 @@
 use mathlib.Core.Path.{◌≡◌}
 use Prim.Native.Nat.{◌+◌, ◌-◌, ◌*◌, ◌≤◌}
-use native.Mathlib.Omega.{arith}
 use lib.ListN.{drop}
 use Rattle.messages.specs.Inside.{form_at}
 use Rattle.layout.specs.Inside.{heads_of}
-use Rattle.layout.proofs.LayoutLaws.{heads-on, heads-end}
-use borrow.Author.Rules.{rules}
 use Rattle.layout.proofs.field_heads.Given as goal
 
 abbrev pub invariant-loop-i : goal.invariant-loop-i

@@ -2,7 +2,6 @@
 use mathlib.Core.Path.{sym, ap, ◌∙◌}
 use Rattle.elements.specs.declared.Field.{Field}
 use Rattle.layout.specs.Inside.{open_in}
-use borrow.Author.Rules.{rules}
 use Rattle.layout.proofs.is_open.Goals as goal
 
 pub returns-in-List : goal.returns-in-List

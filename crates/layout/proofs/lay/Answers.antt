@@ -10,7 +10,6 @@ use Rattle.messages.specs.Inside.{form_at}
 use Rattle.elements.specs.Matching.{array}
 use Rattle.layout.specs.Inside.{body_of}
 use Rattle.layout.proofs.LayoutLaws.{whole_long, whole_there}
-use borrow.Author.Rules.{rules}
 use Rattle.layout.proofs.lay.Goals as goal
 
 pub write_head-number-requires : goal.write_head-number-requires

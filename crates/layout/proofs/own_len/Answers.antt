@@ -1,7 +1,6 @@
 -- `layout::own_len` meets its contract: an item has no head, a list of indefinite length one and a break, and another field the shortest.
 use mathlib.Core.Path.{sym, ◌∙◌}
 use native.Mathlib.Omega.{arith}
-use borrow.Author.Rules.{rules}
 use Rattle.layout.proofs.own_len.Goals as goal
 
 pub returns-then-is_open : goal.returns-then-is_open

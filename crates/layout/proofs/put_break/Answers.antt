@@ -3,7 +3,6 @@ use mathlib.Core.Path.{sym, ap, ◌∙◌}
 use native.Mathlib.Omega.{arith}
 use lib.ListN.{length}
 use Rattle.layout.proofs.LayoutLaws.{no_break, a-break, tail_there}
-use borrow.Author.Rules.{rules}
 use Rattle.layout.proofs.put_break.Goals as goal
 
 pub put_byte-requires : goal.put_byte-requires

@@ -2,7 +2,6 @@
 use native.Mathlib.Omega.{arith}
 use Rattle.parts.specs.Inside.{run_at}
 use Rattle.layout.proofs.LayoutLaws.{piece-parts, piece-there}
-use borrow.Author.Rules.{rules}
 use Rattle.layout.proofs.put_field.Goals as goal
 
 pub put_head-behind-requires : goal.put_head-behind-requires

@@ -1,9 +1,8 @@
 -- `layout::put_fields` meets its contract: what is left to be put, from here on, always makes the buffer that all of it makes.
-use mathlib.Core.Path.{◌≡◌, refl, ◌∙◌}
-use Prim.Native.Nat.{◌+◌, ◌-◌, ◌≤◌}
+use mathlib.Core.Path.{refl, ◌∙◌}
+use Prim.Native.Nat.{◌+◌}
 use native.Mathlib.Omega.{arith}
-use lib.ListN.{length, drop, get_or}
-use lib.Seq.{sets}
+use lib.ListN.{drop, get_or}
 use Rattle.messages.specs.Inside.{form_at}
 use Rattle.parts.specs.Inside.{run_at, run_after}
 use Rattle.layout.specs.Inside.{piece_of, body_of}

@@ -1,13 +1,9 @@
-use mathlib.Core.Path.{◌≡◌, refl, ◌∙◌}
+use mathlib.Core.Path.{◌≡◌}
 use Prim.Native.Nat.{◌+◌, ◌-◌, ◌≤◌}
-use native.Mathlib.Omega.{arith}
-use lib.ListN.{length, drop, get_or}
+use lib.ListN.{length, drop}
 use lib.Seq.{sets}
 use Rattle.messages.specs.Inside.{form_at}
-use Rattle.parts.specs.Inside.{run_at, run_after}
-use Rattle.layout.specs.Inside.{piece_of, body_of}
-use Rattle.layout.proofs.LayoutLaws.{body-on, body_end, put-long, put_on}
-use borrow.Author.Rules.{rules}
+use Rattle.layout.specs.Inside.{body_of}
 use Rattle.layout.proofs.put_fields.Given as goal
 
 abbrev pub invariant-loop-i : goal.invariant-loop-i

@@ -5,7 +5,6 @@ use lib.ListN.{length}
 use Rattle.head.proofs.WriteLaws.{shortest-length}
 use Rattle.layout.specs.Inside.{major_of}
 use Rattle.layout.proofs.LayoutLaws.{no-head, open-head, short-head, head_there, tail_there}
-use borrow.Author.Rules.{rules}
 use Rattle.layout.proofs.put_head.Goals as goal
 
 pub returns-then-is_headless : goal.returns-then-is_headless

@@ -2,7 +2,6 @@
 use mathlib.Core.Path.{refl, ap, ◌∙◌}
 use lib.Seq.{sets}
 use Rattle.layout.proofs.LayoutLaws.{run_all}
-use borrow.Author.Rules.{rules}
 use Rattle.layout.proofs.put_run.Goals as goal
 
 pub returns : goal.returns

@@ -4,7 +4,6 @@ use native.Mathlib.Omega.{arith}
 use lib.ListN.{length}
 use Rattle.parts.specs.Inside.{run_at}
 use Rattle.layout.proofs.LayoutLaws.{no_tail, tail-first, tail-second, tail_there}
-use borrow.Author.Rules.{rules}
 use Rattle.layout.proofs.put_tail.Goals as goal
 
 pub returns-then-is_number : goal.returns-then-is_number
