@@ -3,16 +3,16 @@
 -- Assumes nothing.
 use mathlib.Core.Path.{◌≡◌, refl, sym, ap, ◌∙◌}
 use mathlib.Core.Bool.{true, false}
-use mathlib.Core.List.{List, ◌++◌}
+use mathlib.Core.List.{List}
 use mathlib.Core.Logic.{◌↔◌, ◌≢◌}
 use Prim.Native.Nat.{ℕ, ◌+◌, ◌<◌, ◌≤◌}
 use native.Mathlib.Omega.{arith}
 use lib.Dec.{eqb, ltb}
 use lib.ListN.{length, get_or, take, length-set}
-use lib.Seq.{sets, get_or-take, length-take-le}
+use lib.Seq.{get_or-take, length-take-le}
 use borrow.Author.Tests.{ltb-true, ltb-false}
 use Rattle.base.proofs.Conds.{by_test, cond_cases, exactly_when}
-use Rattle.wire.specs.Segments.{header_length, encoded}
+use Rattle.wire.specs.Segments.{header_length}
 use Rattle.wire.specs.Instances.{instances}
 use Rattle.wire.proofs.InstanceLaws.{at_most}
 use Rattle.ready.specs.declared.Choice.{Choice}
@@ -27,7 +27,7 @@ use Rattle.connection.specs.Parts.{with_sending}
 use Rattle.range.proofs.StoreLaws.{leaves_front}
 use Rattle.range.proofs.RangeLaws.{ranged, is_in_range, sends_both}
 use Rattle.sending.specs.declared.Made.{Made}
-use Rattle.sending.specs.NextSegment.{Told, told, refused, much, headed, payload_of, sent_of, chosen_of, next_of}
+use Rattle.sending.specs.NextSegment.{Told, told, refused, much, sent_of, chosen_of, next_of}
 use Rattle.sending.specs.Besides.Numbers.{Unclosed, When, out_of_range, closed, all_empty, no_room, done, Exactly, Untouched, Keeps}
 use Rattle.sending.proofs.SendingLaws.{served, serve-short, serve_all, next-unranged, next-closed, next-served}
 

@@ -1,12 +1,14 @@
 -- `sending::next_segment` meets its contract: each way out is one of the laws of next segment.
 use mathlib.Core.Path.{◌≡◌, refl, sym, ap, subst, ◌∙◌}
 use mathlib.Core.Bool.{true}
+use mathlib.Core.List.{List}
 use Prim.Native.Nat.{ℕ, ◌≤◌, ◌<◌}
 use native.Mathlib.Omega.{arith}
 use lib.ListN.{length, get_or}
-use borrow.Author.Tests.{lt-ltb, not-true, not-false}
+use borrow.Author.Tests.{lt-ltb}
 use Rattle.wire.specs.Instances.{instances, bundles}
 use Rattle.wire.proofs.InstanceLaws.{at_most, at_least, known_some}
+use Rattle.connection.specs.declared.Connection.{Connection}
 use Rattle.connection.specs.declared.Sending.{Sending}
 use Rattle.connection.specs.Closings.{is_open}
 use Rattle.connection.specs.Parts.{with_sending}
@@ -15,193 +17,174 @@ use Rattle.range.specs.Besides.Ranges.{InSend}
 use Rattle.range.proofs.RangeLaws.{ranged, sends_both, sends_is}
 use Rattle.range.proofs.StoreLaws.{send_area}
 use Rattle.ready.specs.declared.Choice.{Choice}
-use Rattle.sending.specs.NextSegment.{much, serve, by_choice, chosen_of, next_of}
+use Rattle.ready.specs.declared.Choice.TheVariants.{Instance}
+use Rattle.ready.specs.Inside.{chosen_in}
+use Rattle.sending.specs.NextSegment.{much, by_choice, chosen_of, next_of}
 use Rattle.sending.specs.Inside.{Chosen}
 use Rattle.sending.proofs.SendingLaws.{sent_is, much_small, serve-short, serve-made, next-unranged, next-closed, next-served, by_word, is_chosen}
 use borrow.Author.Rules.{rules}
 use Rattle.sending.proofs.next_segment.Goals as goal
-use Rattle.sending.proofs.next_segment.Goals.{After-and, After-choose-choice, After-in_range-range, After-smaller-n, Else-not-and, Else-not-is_open, In-Instance, Start}
+use Rattle.sending.proofs.next_segment.Goals.{After-and, After-choose-choice, Else-not-and, Else-not-is_open, In-Instance, In-Instance-unread}
 
 -- ---- the tests
--- once the range is tested: where the call began, and what the test says
-abbrev start : After-in_range-range → Start
-start c = c.before.before.before.before.before.before.before.before.before.before.before.before.before.before.before.before.before.before.before.before
-
-asks : (c : After-and) → let a = (start c).args in c.and.result ≡ sends a.c (length a.store.now)
+-- once the range is tested: what the test says
+asks : (c : After-and) → c.and.result ≡ sends c.args.c (length c.args.store.now)
 unfolding in_range
-asks c =
-    let a = (start c).args in
-    c.and.ensures ∙ sends_is a.c (length a.store.now) c.in_range-range.ensures
+asks c = c.and.ensures ∙ sends_is c.args.c (length c.args.store.now) c.in_range-range.ensures
 
 pub returns-then-not-and : goal.returns-then-not-and
 returns-then-not-and c =
-    let tested = c in
-    let a = (start tested).args in
-    rw c.refused.ensures (next-unranged a.c a.store.now a.time a.buf.now (sym (asks (goal.at.returns-then-not-and tested).After-and) ∙ not-true _ c.if-not-and.taken))
+    let a = c.args in
+    rw c.refused.ensures (next-unranged a.c a.store.now a.time a.buf.now (sym (asks (goal.at.returns-then-not-and c).After-and) ∙ c.if-not-and.true))
 
 -- behind the first test, and behind the second
-abbrev began : Else-not-and → Start
-began c = start c.before.before.before
+fit : (c : Else-not-and) → sends c.args.c (length c.args.store.now) ≡ true
+unfolding in_range
+fit c = sym (c.and.ensures ∙ sends_is c.args.c (length c.args.store.now) c.in_range-range.ensures) ∙ c.if-not-and.false
 
-fit : (c : Else-not-and) → sends (began c).args.c (length (began c).args.store.now) ≡ true
-fit c = sym (asks (?up c)) ∙ not-false _ c.if-not-and.left
-
-is_in_range : (c : Else-not-and) → in_range (began c).args.c ≡ true
-is_in_range c = (sends_both (began c).args.c (length (began c).args.store.now) (fit c)).0
-
-stands_open : (c : Else-not-is_open) → is_open (began c).args.c.gate ≡ true
-stands_open c = sym c.is_open.ensures ∙ not-false _ c.if-not-is_open.left
+stands_open : (c : Else-not-is_open) → is_open c.args.c.gate ≡ true
+stands_open c = sym c.is_open.ensures ∙ c.if-not-is_open.false
 
 pub returns-then-not-is_open : goal.returns-then-not-is_open
 returns-then-not-is_open c =
-    let b = c in
-    let a = (began b).args in
-    let o = sym c.is_open.ensures ∙ not-true _ c.if-not-is_open.taken in
-    rw c.refused-then-not-is_open.ensures (next-closed a.c a.store.now a.time a.buf.now (fit (goal.at.returns-then-not-is_open b).Else-not-and) o)
+    let a = c.args in
+    let o = sym c.is_open.ensures ∙ c.if-not-is_open.true in
+    rw c.refused-then-not-is_open.ensures (next-closed a.c a.store.now a.time a.buf.now (fit (goal.at.returns-then-not-is_open c).Else-not-and) o)
 
 -- ---- the choice
-pub choose-choice-requires : goal.choose-choice-requires
-choose-choice-requires c =
-    let n = c.count-many.ensures in
-    let b = c in
-    let turn = (ranged (began b).args.c (is_in_range (goal.at.choose-choice-requires b).Else-not-and)).turn in
-    (omega (arith, n, turn), omega (arith, n), omega (arith, n, turn))
+-- once it is made, of a record in range: whom the definition chooses
+is_choice : (c : After-choose-choice) → in_range c.args.c ≡ true → c.choose-choice.result ≡ chosen_of c.args.c
+is_choice c ok =
+    by_word c.args.c c.count-many.result c.word.result c.choose-choice.result ok c.count-many.ensures.0 c.word.ensures.2
+    c.word.ensures.0 c.choose-choice.ensures
 
--- once it is made: whom the definition chooses
-abbrev ranges : After-choose-choice → Else-not-and
-ranges c = c.before.before.before.before.before.before
-
-is_choice : (c : After-choose-choice) → c.choose-choice.result ≡ chosen_of (began (ranges c)).args.c
-is_choice c =
-    let count = c.count-many in
-    let word = c.word in
-    by_word (began (ranges c)).args.c count.result word.result c.choose-choice.result (is_in_range (ranges c)) count.ensures.0 word.ensures.2
-    word.ensures.0 c.choose-choice.ensures
-
-goes : (c : After-choose-choice) → let a = (began (ranges c)).args in
-    by_choice a.c a.store.now a.time a.buf.now c.choose-choice.result ≡ next_of a.c a.store.now a.time a.buf.now
-goes c =
-    let a = (began (ranges c)).args in
-    next-served a.c a.store.now a.time a.buf.now (fit (ranges c)) (stands_open (?up c)) c.choose-choice.result (is_choice c)
+goes : (c : After-choose-choice) → let a = c.args in sends a.c (length a.store.now) ≡ true → is_open a.c.gate ≡ true
+    → by_choice a.c a.store.now a.time a.buf.now c.choose-choice.result ≡ next_of a.c a.store.now a.time a.buf.now
+goes c f o =
+    let a = c.args in
+    next-served a.c a.store.now a.time a.buf.now f o c.choose-choice.result (is_choice c (sends_both a.c (length a.store.now) f).0)
 
 pub returns-in_default : goal.returns-in_default
 returns-in_default c =
-    let made = c in
-    let a = (began (ranges made)).args in
-    rw c.refused-in_default.ensures (sym (ap (by_choice a.c a.store.now a.time a.buf.now) c.in_default.is) ∙ goes (goal.at.returns-in_default made).After-choose-choice)
+    let a = c.args in
+    let at = goal.at.returns-in_default c in
+    rw c.refused-in_default.ensures
+    (sym (ap (by_choice a.c a.store.now a.time a.buf.now) c.in_default.is)
+    ∙ goes at.After-choose-choice (fit at.Else-not-and) (stands_open at.Else-not-is_open))
 
 -- ---- whoever is chosen
-abbrev made : In-Instance → After-choose-choice
-made c = c.before.before.before
-
-abbrev call : In-Instance → Start
-call c = began (ranges (made c))
-
-abbrev who : In-Instance → ℕ
-who c = c.before.choice.given.0.0
-
 -- it is an instance of a record in range with its send store
-inside : (c : In-Instance) → InSend (call c).args.c (call c).args.store.now (who c)
-inside c =
-    let m = made c in
-    let a = (call c).args in
-    let count = m.before.before.before.count in
-    subst (Chosen a.c a.store.now) c.in-Instance.is
-    (is_chosen a.c a.store.now count.result m.before.word.result m.choose.result (fit (ranges m)) count.ensures.0 m.choose.ensures)
+among : (k : Connection) (store : List ℕ) (n word i : ℕ) (x : Choice) → sends k (length store) ≡ true → n ≡ instances k.settings.party.bundle
+    → x ≡ chosen_in n word k.sending.turn → x ≡ Instance i → InSend k store i
+among k store n word i x f many e is = subst (Chosen k store) is (is_chosen k store n word x f many e)
 
-low : (c : In-Instance) → who c < 9
-low c = omega (arith, (inside c).1, at_most (call c).args.c.settings.party.bundle)
+inside : (c : In-Instance) → sends c.args.c (length c.args.store.now) ≡ true → InSend c.args.c c.args.store.now c.in-Instance.i
+inside c f =
+    among c.args.c c.args.store.now c.count-many.result c.word.result c.in-Instance.i c.choose-choice.result f
+    c.count-many.ensures.0 c.choose-choice.ensures c.in-Instance.is
 
-serves : (c : In-Instance) → let a = (call c).args in
-    serve a.c a.store.now a.time a.buf.now (who c) ≡ next_of a.c a.store.now a.time a.buf.now
-serves c =
-    let a = (call c).args in
-    sym (ap (by_choice a.c a.store.now a.time a.buf.now) c.in-Instance.is) ∙ goes (made c)
+below : (k : Connection) (store : List ℕ) (i : ℕ) → InSend k store i → i < 9
+below k store i h = omega (arith, h.1, at_most k.settings.party.bundle)
+
+-- also before its waiting bytes are read
+low_unread : (c : In-Instance-unread) → sends c.args.c (length c.args.store.now) ≡ true → c.in-Instance.i < 9
+low_unread c f =
+    below c.args.c c.args.store.now c.in-Instance.i
+    (among c.args.c c.args.store.now c.count-many.result c.word.result c.in-Instance.i c.choose-choice.result f
+    c.count-many.ensures.0 c.choose-choice.ensures c.in-Instance.is)
+
+low : (c : In-Instance) → sends c.args.c (length c.args.store.now) ≡ true → c.in-Instance.i < 9
+low c f = below c.args.c c.args.store.now c.in-Instance.i (inside c f)
 
 pub offset_bounds-waiting-i : goal.offset_bounds-waiting-i
-offset_bounds-waiting-i c = search (rules, low (goal.at.offset_bounds-waiting-i c).In-Instance)
+offset_bounds-waiting-i c =
+    let at = goal.at.offset_bounds-waiting-i c in
+    search (rules, low_unread c (fit at.Else-not-and))
 
 pub bounds-waiting-i : goal.bounds-waiting-i
-bounds-waiting-i c = search (rules, low (goal.at.bounds-waiting-i c).In-Instance)
+bounds-waiting-i c =
+    let at = goal.at.bounds-waiting-i c in
+    low_unread c (fit at.Else-not-and)
 
-sends-much : (c : After-smaller-n) → c.smaller-n.result ≡ much (call c).args.c (who c)
-sends-much c = c.smaller-n.ensures
+pub offset_bounds-starts-i : goal.offset_bounds-starts-i
+offset_bounds-starts-i c =
+    let at = goal.at.offset_bounds-starts-i c in
+    search (rules, low at.In-Instance (fit at.Else-not-and))
 
-small : (c : After-smaller-n) → let a = (call c).args in
-    (c.smaller-n.result ≤ 65535) × (c.smaller-n.result ≤ get_or a.c.sending.waiting (who c) 0)
-small c =
-    let a = (call c).args in
-    rw (sends-much c) (much_small a.c a.store.now (who c) (inside (?up c)))
+pub bounds-starts-i : goal.bounds-starts-i
+bounds-starts-i c =
+    let at = goal.at.bounds-starts-i c in
+    low at.In-Instance (fit at.Else-not-and)
 
-pub overflow_add-len : goal.overflow_add-len
-overflow_add-len c = record { fits = omega (arith, small (goal.at.overflow_add-len c).After-smaller-n) }
+-- what is sent of it is small
+small : (k : Connection) (store : List ℕ) (i n : ℕ) → n ≡ much k i → InSend k store i → (n ≤ 65535) × (n ≤ get_or k.sending.waiting i 0)
+small k store i n e inside = rw e (much_small k store i inside)
+
+-- its area, and what that holds
+area : (k : Connection) (store : List ℕ) (i n : ℕ) → n ≡ much k i → InSend k store i
+    → (0 < get_or k.settings.send i 0) × (get_or k.settings.send i 0 ≤ 131072) × (get_or k.sending.starts i 0 < get_or k.settings.send i 0)
+    × (n ≤ get_or k.settings.send i 0)
+area k store i n e inside =
+    let r = ranged k (sends_both k (length store) inside.0).0 in
+    let cap = r.set.send i inside.1 in
+    let q = r.sending i inside.1 in
+    (omega arith, cap.1, q.0, omega (arith, small k store i n e inside))
 
 pub returns-then-buf-len : goal.returns-then-buf-len
 returns-then-buf-len c =
-    let b = c in
-    let a = (call b).args in
+    let at = goal.at.returns-then-buf-len c in
+    let a = c.args in
     rw c.refused-then-buf-len.ensures
-    (serve-short a.c a.store.now a.time a.buf.now (who b) b.smaller-n.result (sends-much (goal.at.returns-then-buf-len b).After-smaller-n) c.if-buf-len.taken
-    ∙ serves (goal.at.returns-then-buf-len b).In-Instance)
+    (serve-short a.c a.store.now a.time a.buf.now c.in-Instance.i c.smaller-n.result c.smaller-n.ensures c.if-buf-len.true
+    ∙ sym (ap (by_choice a.c a.store.now a.time a.buf.now) c.in-Instance.is)
+    ∙ goes at.After-choose-choice (fit at.Else-not-and) (stands_open at.Else-not-is_open))
 
 pub put_header-requires : goal.put_header-requires
 put_header-requires c =
-    let b = c in
-    ((inside (goal.at.put_header-requires b).In-Instance).1, (small (goal.at.put_header-requires b).After-smaller-n).0, omega arith)
-
-pub offset_bounds-starts-i : goal.offset_bounds-starts-i
-offset_bounds-starts-i c = search (rules, low (goal.at.offset_bounds-starts-i c).In-Instance)
-
-pub bounds-starts-i : goal.bounds-starts-i
-bounds-starts-i c = search (rules, low (goal.at.bounds-starts-i c).In-Instance)
-
--- the area of whoever is chosen, and what it holds
-area : (c : After-smaller-n) → let k = (call c).args.c in let i = who c in
-    (0 < get_or k.settings.send i 0) × (get_or k.settings.send i 0 ≤ 131072) × (get_or k.sending.starts i 0 < get_or k.settings.send i 0)
-    × (c.smaller-n.result ≤ get_or k.settings.send i 0)
-area c =
-    let k = (call c).args.c in
-    let i = who c in
-    let r = ranged k (is_in_range (ranges (made c))) in
-    let h = (inside (?up c)).1 in
-    let cap = r.set.send i h in
-    let q = r.sending i h in
-    (omega arith, cap.1, q.0, omega (arith, small c))
+    let at = goal.at.put_header-requires c in
+    let h = inside at.In-Instance (fit at.Else-not-and) in
+    let s = small c.args.c c.args.store.now c.in-Instance.i c.smaller-n.result c.smaller-n.ensures h in
+    (h.1, s.0, omega arith)
 
 pub read-requires : goal.read-requires
 read-requires c =
-    let b = c in
-    let a = (call b).args in
-    let i = who b in
-    (send_area a.c (length a.store.now) i (inside (goal.at.read-requires b).In-Instance).0 (inside (goal.at.read-requires b).In-Instance).1, (area (goal.at.read-requires b).After-smaller-n).3, search rules)
+    let at = goal.at.read-requires c in
+    let a = c.args in
+    let i = c.in-Instance.i in
+    let h = inside at.In-Instance (fit at.Else-not-and) in
+    (send_area a.c (length a.store.now) i h.0 h.1, (area a.c a.store.now i c.smaller-n.result c.smaller-n.ensures h).3, search rules)
 
 pub leave-requires : goal.leave-requires
 leave-requires c =
-    let b = c in
-    let q = area (goal.at.leave-requires b).After-smaller-n in
-    (low (goal.at.leave-requires b).In-Instance, q.0, omega (arith, q), (small (goal.at.leave-requires b).After-smaller-n).1)
+    let at = goal.at.leave-requires c in
+    let a = c.args in
+    let i = c.in-Instance.i in
+    let h = inside at.In-Instance (fit at.Else-not-and) in
+    let q = area a.c a.store.now i c.smaller-n.result c.smaller-n.ensures h in
+    let s = small a.c a.store.now i c.smaller-n.result c.smaller-n.ensures h in
+    (low at.In-Instance (fit at.Else-not-and), q.0, omega (arith, q, s), s.1)
 
 pub turn_after-requires : goal.turn_after-requires
 turn_after-requires c =
-    let told = c in
-    let b = (call told).args.c.settings.party.bundle in
-    let n = (made told).before.before.before.count.ensures in
-    let h = (inside (goal.at.turn_after-requires told).In-Instance).1 in
-    (omega (arith, n.0, at_least b (lt-ltb b (length bundles) (known_some b (who told) h))), omega (arith, n))
+    let at = goal.at.turn_after-requires c in
+    let b = c.args.c.settings.party.bundle in
+    let n = c.count-many.ensures in
+    let h = (inside at.In-Instance (fit at.Else-not-and)).1 in
+    (omega (arith, n.0, at_least b (lt-ltb b (length bundles) (known_some b c.in-Instance.i h))), omega (arith, n))
 
 pub returns : goal.returns
 returns c =
-    let past = c in
-    let b = past in
-    let a = (call b).args in
-    let i = who b in
+    let at = goal.at.returns c in
+    let a = c.args in
+    let i = c.in-Instance.i in
+    let n = c.smaller-n.result in
     let leave = c.leave in
-    let count = (made b).before.before.before.count in
-    let laid = c in
-    let w : Sending = record { starts = leave.last.1.0; waiting = leave.last.1.1.0; turn = c.turn_after.result } in
-    serve-made a.c a.store.now a.time a.buf.now i b.smaller-n.result (sends-much (goal.at.returns b).After-smaller-n) (with_sending a.c w) w _ past.if-buf-len.left
-    (sent_is a.c.settings.party.bundle i b.smaller-n.result count.result a.c.sending a.c.settings.send _ _ _ leave.ensures.0
+    let count = c.count-many in
+    let w : Sending = record { starts = leave.new.starts; waiting = leave.new.counts; turn = c.turn_after.result } in
+    serve-made a.c a.store.now a.time a.buf.now i n c.smaller-n.ensures (with_sending a.c w) w _ c.if-buf-len.false
+    (sent_is a.c.settings.party.bundle i n count.result a.c.sending a.c.settings.send _ _ _ leave.ensures.0
     leave.ensures.1 c.turn_after.ensures count.ensures.0)
     refl
-    (laid.read.ensures ∙ rw laid.put_header.ensures)
-    ∙ serves (goal.at.returns b).In-Instance
+    (c.read.ensures ∙ rw c.put_header.ensures)
+    ∙ sym (ap (by_choice a.c a.store.now a.time a.buf.now) c.in-Instance.is)
+    ∙ goes at.After-choose-choice (fit at.Else-not-and) (stands_open at.Else-not-is_open)
