@@ -1,6 +1,5 @@
 use mathlib.Core.Path.{◌≡◌}
 use lib.ListN.{length}
-use borrow.Author.Rules.{rules}
 use Rattle.lister.proofs.read_all.Given as goal
 
 abbrev pub invariant-loop-reads : goal.invariant-loop-reads

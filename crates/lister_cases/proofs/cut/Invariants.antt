@@ -1,6 +1,5 @@
 use Prim.Native.Nat.{◌-◌, ◌≤◌}
 use lib.ListN.{length}
-use borrow.Author.Rules.{rules}
 use Rattle.lister_cases.proofs.cut.Given as goal
 
 abbrev pub invariant-loop-from : goal.invariant-loop-from

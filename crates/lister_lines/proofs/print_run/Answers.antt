@@ -1,9 +1,7 @@
 -- `lister_lines::print_run` meets its contract. The loop's invariant: what is left of the run comes to what all of it did.
-use mathlib.Core.Path.{◌≡◌, refl, ap, sym, ◌∙◌}
-use mathlib.Core.List.{[]}
-use Prim.Native.Nat.{◌-◌, ◌≤◌}
+use mathlib.Core.Path.{refl, ◌∙◌}
 use native.Mathlib.Omega.{arith}
-use lib.ListN.{length, drop, drop_of_length-le}
+use lib.ListN.{drop_of_length-le}
 use borrow.Author.Rules.{rules}
 use Rattle.lister_core.specs.Lister.{fed}
 use Rattle.lister_core.proofs.ListerLaws.{onward}

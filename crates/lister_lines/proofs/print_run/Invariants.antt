@@ -1,11 +1,7 @@
-use mathlib.Core.Path.{◌≡◌, refl, ap, sym, ◌∙◌}
-use mathlib.Core.List.{[]}
+use mathlib.Core.Path.{◌≡◌}
 use Prim.Native.Nat.{◌-◌, ◌≤◌}
-use native.Mathlib.Omega.{arith}
-use lib.ListN.{length, drop, drop_of_length-le}
-use borrow.Author.Rules.{rules}
+use lib.ListN.{length, drop}
 use Rattle.lister_core.specs.Lister.{fed}
-use Rattle.lister_core.proofs.ListerLaws.{onward}
 use Rattle.lister_lines.proofs.print_run.Given as goal
 
 abbrev pub invariant-loop-from : goal.invariant-loop-from
