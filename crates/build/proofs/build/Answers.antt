@@ -8,7 +8,6 @@ use Rattle.wire.specs.Instances.{known, instances}
 use Rattle.rows.specs.declared.Protocol.{Protocol}
 use Rattle.build.specs.Building.{bytes_of, handed, build_of}
 use Rattle.build.proofs.BuildLaws.{build_spoken}
-use borrow.Author.Rules.{rules}
 use Rattle.build.proofs.build.Goals as goal
 
 pub returns-then-not-known : goal.returns-then-not-known

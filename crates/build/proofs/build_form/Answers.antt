@@ -1,9 +1,9 @@
 -- `build::build_form` meets its contract: the parts make a message of the form, or not.
 use mathlib.Core.Path.{ap, ◌∙◌}
+use borrow.Author.Tests.{not-true, not-false}
 use Rattle.messages.specs.Inside.{form_at}
 use Rattle.build.specs.Building.{handed}
 use Rattle.build.proofs.BuildLaws.{heads-and-runs, unplanned, plan-is, planned-so}
-use borrow.Author.Rules.{rules}
 use Rattle.build.proofs.build_form.Goals as goal
 
 pub returns-then-not-plan : goal.returns-then-not-plan
@@ -13,7 +13,7 @@ returns-then-not-plan c =
     rw (
       c.refused.ensures,
       unplanned a.asked a.numbers.now a.runs a.first.now a.second.now a.kind (form_at a.row).fields j.result j.ensures
-          c.if-not-plan.true,
+          (not-true _ c.if-not-plan.true),
     )
 
 pub hand-requires : goal.hand-requires
@@ -25,7 +25,7 @@ hand-requires c =
       heads-and-runs a.asked a.numbers.now a.runs a.first.now a.second.now a.kind (form_at a.row).fields j.result.arguments
           s.requires.1
           (plan-is a.asked a.numbers.now a.runs a.first.now a.second.now a.kind (form_at a.row).fields j.result j.ensures
-          c.if-not-plan.false),
+          (not-false _ c.if-not-plan.false)),
     )
 
 pub returns : goal.returns
@@ -35,4 +35,4 @@ returns c =
     c.hand.ensures
     ∙ ap (handed a.buf.now)
     (planned-so a.asked a.numbers.now a.runs a.first.now a.second.now a.kind (form_at a.row).fields j.result j.ensures
-    c.if-not-plan.false)
+    (not-false _ c.if-not-plan.false))

@@ -3,7 +3,6 @@ use mathlib.Core.Path.{sym, ap, subst, ◌∙◌}
 use Rattle.messages.specs.Inside.{Finds}
 use Rattle.build.specs.Building.{handed}
 use Rattle.build.proofs.BuildLaws.{kind-not-given, kind-unknown, kind-known}
-use borrow.Author.Rules.{rules}
 use Rattle.build.proofs.build_kind.Goals as goal
 
 pub returns-then-not-are_given : goal.returns-then-not-are_given

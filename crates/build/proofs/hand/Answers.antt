@@ -6,7 +6,6 @@ use lib.ListN.{length}
 use borrow.Author.Tests.{leb-true}
 use Rattle.messages.specs.Inside.{form_at}
 use Rattle.build.proofs.BuildLaws.{hand-fits, hand-short, hand-over}
-use borrow.Author.Rules.{rules}
 use Rattle.build.proofs.hand.Goals as goal
 
 pub returns-then-not-fits : goal.returns-then-not-fits
