@@ -2,7 +2,7 @@
 -- holds.
 -- Assumes nothing.
 use mathlib.Core.Path.{◌≡◌, refl, ap, subst, ◌∙◌}
-use mathlib.Core.Bool.{true, false, cond}
+use mathlib.Core.Bool.{false, cond}
 use Prim.Native.Nat.{ℕ, ◌≤◌, ◌<◌}
 use native.Mathlib.Omega.{arith}
 use lib.Dec.{eqb}
@@ -18,8 +18,8 @@ use Rattle.connection.specs.Closings.{bytes_bad}
 use Rattle.judging.specs.declared.Outcome.{Outcome}
 use Rattle.judging.specs.declared.Outcome.TheVariants.{Done, Waiting, OurTurn, Finished, BytesBad, NoMessage, NoRow, AfterDone, NoAccept, Closed, NotOurTurn, OutOfRange, NoInstance, NoRoom}
 use Rattle.judging.specs.declared.Judged.{Judged}
-use Rattle.judging.specs.Judging.{View, spoken, ours_now, barred, at_done, outcome_number, outcome_offset, unjudged, led, judged_of, by_verdict, heard}
-use Rattle.judging.specs.Besides.Hearing.{Awaited, Spells, Unheard, Hears, refusal, message, HeardExactly}
+use Rattle.judging.specs.Judging.{View, spoken, ours_now, barred, at_done, outcome_number, outcome_offset, unjudged, led, by_verdict, heard}
+use Rattle.judging.specs.Besides.Hearing.{Awaited, Unheard, Hears, refusal, message, HeardExactly}
 use Rattle.judging.specs.Besides.Hearing.{no_accept, finished, past_done, our_turn, waiting, closed, are_bad, not_a_message, no_row}
 use Rattle.judging.proofs.JudgingLaws as judging
 use Rattle.judging.proofs.JudgingLaws.{Judges, judges, judged-so, whole-within}

@@ -1,7 +1,7 @@
 -- T2 for what put asks of a view: `said_exactly`. Each "when" decides the tests up to its own, and one walk through the tests finds a "when" that
 -- holds.
 -- Assumes nothing.
-use mathlib.Core.Path.{◌≡◌, refl, subst, ◌∙◌}
+use mathlib.Core.Path.{◌≡◌, subst, ◌∙◌}
 use Prim.Native.Nat.{◌≤◌, ◌<◌}
 use native.Mathlib.Omega.{arith}
 use Rattle.base.proofs.Conds.{cond_cases}
