@@ -1,13 +1,12 @@
 -- `hearing::hear` meets its contract: each way out is one of the laws of hearing, of the record that has the parts.
-use mathlib.Core.Path.{◌≡◌, sym, ap, ◌∙◌}
-use mathlib.Core.Bool.{Bool, true, not}
-use mathlib.Core.List.{List}
-use Prim.Native.Nat.{ℕ, ◌≤◌}
+use mathlib.Core.Path.{sym, ap, ◌∙◌}
+use mathlib.Core.Bool.{not}
+use Prim.Native.Nat.{◌≤◌}
 use native.Mathlib.Omega.{arith}
 use lib.ListN.{length}
 use Rattle.wire.specs.Instances.{instances}
 use Rattle.connection.specs.declared.Connection.{Connection}
-use Rattle.range.specs.Ranges.{in_range, receives}
+use Rattle.range.specs.Ranges.{in_range}
 use Rattle.range.specs.Besides.Ranges.{InReceive}
 use Rattle.range.proofs.RangeLaws.{receives_is}
 use Rattle.hearing.specs.Inside.{of_parts}
