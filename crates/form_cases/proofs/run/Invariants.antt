@@ -1,4 +1,3 @@
-use borrow.Author.Rules.{rules}
 use Rattle.form_cases.proofs.run.Given as goal
 
 abbrev pub invariant-loop-turns : goal.invariant-loop-turns
