@@ -54,9 +54,9 @@ filled_room h (x ∷ xs) l =
     ∙ ap (λ (k : ℕ). record { bytes = sets n.bytes (suc h.count) xs; count = k }) more
 
 -- so eight bytes leave nothing of what lay in a record without one
-pub filled-whole : (h : Header) (xs : List ℕ) → h.count ≡ 0 → length h.bytes ≡ header_length → length xs ≡ header_length
+pub filled_whole : (h : Header) (xs : List ℕ) → h.count ≡ 0 → length h.bytes ≡ header_length → length xs ≡ header_length
     → filled h xs ≡ filled empty xs
-filled-whole h xs none wide long = alone h none wide ∙ sym (alone empty refl refl)
+filled_whole h xs none wide long = alone h none wide ∙ sym (alone empty refl refl)
   where
     alone : (h : Header) → h.count ≡ 0 → length h.bytes ≡ header_length → filled h xs ≡ record { bytes = xs; count = header_length }
     alone h none wide =
@@ -91,13 +91,13 @@ pub admission_by : (us : Party) (caps held : List ℕ) (h : Header) (d : Segment
 unfolding admission
 admission_by us caps held h d r e f = rw (f, e)
 
-pub heads-whole : (us : Party) (caps held : List ℕ) (w : Way) (x : ℕ) (h : Header) (a : Admission) (t : Step) → h ≡ added w.header x
+pub heads_whole : (us : Party) (caps held : List ℕ) (w : Way) (x : ℕ) (h : Header) (a : Admission) (t : Step) → h ≡ added w.header x
     → leb header_length h.count ≡ true → a ≡ admission us caps held h → Settles w a 1 t → Heads us caps held w x t
 unfolding headed
-heads-whole us caps held w x h a t e q f k =
+heads_whole us caps held w x h a t e q f k =
     record { one = k.uses; leaves = λ starts store. k.leaves starts held store ∙ rw (← e, q, f) }
 
-pub heads-part : (us : Party) (caps held : List ℕ) (w : Way) (x : ℕ) (h : Header) → h ≡ added w.header x
+pub heads_part : (us : Party) (caps held : List ℕ) (w : Way) (x : ℕ) (h : Header) → h ≡ added w.header x
     → leb header_length h.count ≡ false → Heads us caps held w x (record { way = record { header = h; instance = w.instance; rest = w.rest }; gate = Open; used = 1 })
 unfolding headed
-heads-part us caps held w x h e q = record { one = refl; leaves = λ starts store. rw (← e, q) }
+heads_part us caps held w x h e q = record { one = refl; leaves = λ starts store. rw (← e, q) }

@@ -18,10 +18,10 @@ sets_snoc l i [] a = rw add-zero
 sets_snoc l i (v ∷ vs) a = rw (add-suc, ← suc-add) (sets_snoc (set l i v) (suc i) vs a)
 
 -- a value stored behind them may be stored first
-pub sets-set : (l : List ℕ) (i p : ℕ) (a : ℕ) (vs : List ℕ) → i + length vs ≤ p → sets (set l p a) i vs ≡ set (sets l i vs) p a
-sets-set l i p a [] h = refl
-sets-set l i p a (v ∷ vs) h =
-    ap (λ (m : List ℕ). sets m (suc i) vs) (set_comm l p i a v (λ e. omega arith)) ∙ sets-set (set l i v) (suc i) p a vs (omega arith)
+pub sets_set : (l : List ℕ) (i p : ℕ) (a : ℕ) (vs : List ℕ) → i + length vs ≤ p → sets (set l p a) i vs ≡ set (sets l i vs) p a
+sets_set l i p a [] h = refl
+sets_set l i p a (v ∷ vs) h =
+    ap (λ (m : List ℕ). sets m (suc i) vs) (set_comm l p i a v (λ e. omega arith)) ∙ sets_set (set l i v) (suc i) p a vs (omega arith)
 
 -- two runs stored one after the other are stored as one
 pub sets_append : (l : List ℕ) (i : ℕ) (xs ys : List ℕ) → sets l i (xs ++ ys) ≡ sets (sets l i xs) (i + length xs) ys

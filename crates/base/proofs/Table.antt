@@ -45,8 +45,8 @@ rows f w t ok k m hk hm =
 abbrev pub byte : ℕ → Bool
 byte n = ltb n 256
 
-pub entry-fits : (l : List ℕ) → T (every 0 (λ k. byte) 0 l) → (k : ℕ) → k < length l → get_or l k 0 < 2 ^ 64
-entry-fits l ok k h = let low = ltb→lt (get_or l k 0) 256 (at 0 (λ k. byte) l ok k h) in omega arith
+pub entry_fits : (l : List ℕ) → T (every 0 (λ k. byte) 0 l) → (k : ℕ) → k < length l → get_or l k 0 < 2 ^ 64
+entry_fits l ok k h = let low = ltb→lt (get_or l k 0) 256 (at 0 (λ k. byte) l ok k h) in omega arith
 
 pub cell_fits : (w : ℕ) (t : List (List ℕ)) → T (every [] (passes (λ k m. byte) w) 0 t)
     → (k m : ℕ) → k < length t → m < w → get_or (get_or t k []) m 0 < 2 ^ 64

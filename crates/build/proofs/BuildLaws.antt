@@ -31,7 +31,7 @@ use Rattle.layout.proofs.LayoutLaws.{whole_long}
 use Rattle.build.specs.Made.{made, encoded}
 use Rattle.build.specs.Building.{told, given, bytes_of, handed, build_of}
 use Rattle.build.specs.Inside.{refusal, made_by, HeadsAndRuns}
-use Rattle.build.proofs.PlanLaws.{lent, plan-makes, plan-long, all_lent}
+use Rattle.build.proofs.PlanLaws.{lent, plan_makes, plan_long, all_lent}
 
 -- ---- the message of a form
 
@@ -40,13 +40,13 @@ at_most_two runs first second g = leb-true runs 2 (is (leb runs 2) (and_left (le
 
 module _ (asked : Bool) (ns : List ℕ) (runs : ℕ) (first second : List ℕ) (kind : ℕ) (fs : List Field) where
   -- arguments first, and bytes then
-  plan-whole : runs ≤ 2 → length fs ≤ 3
+  plan_whole : runs ≤ 2 → length fs ≤ 3
       → on_some (made asked fs ns (lent first second runs)) (λ ys. some (shortest array (length fs + 1) ++ (shortest 0 kind ++ ys)))
       ≡ made_by asked ns runs first second fs kind
   unfolding made_by
-  plan-whole two few =
+  plan_whole two few =
       ap (λ (o : Option (List ℕ)). on_some o (λ ys. some (shortest array (length fs + 1) ++ (shortest 0 kind ++ ys))))
-      (plan-makes asked ns runs first second two fs 0 0 0 nothing (omega arith) (omega arith) (omega arith))
+      (plan_makes asked ns runs first second two fs 0 0 0 nothing (omega arith) (omega arith) (omega arith))
       ∙ of (planned ns runs first second fs 0 0 0 nothing)
     where
       of : (o : Option (List ℕ))
@@ -57,11 +57,11 @@ module _ (asked : Bool) (ns : List ℕ) (runs : ℕ) (first second : List ℕ) (
       of (some args) = refl
 
   -- it is as long as its heads and all runs
-  pub heads-and-runs : (args : List ℕ) → all_given runs first second ≡ true → planned ns runs first second fs 0 0 0 nothing ≡ some args
+  pub heads_and_runs : (args : List ℕ) → all_given runs first second ≡ true → planned ns runs first second fs 0 0 0 nothing ≡ some args
       → HeadsAndRuns asked first second fs kind args
-  heads-and-runs args g e =
+  heads_and_runs args g e =
       let body = subst (Found (λ _. length (body_of asked first second fs args 0 0) ≡ _)) e
-      (plan-long asked ns runs first second (at_most_two runs first second g) fs args) in
+      (plan_long asked ns runs first second (at_most_two runs first second g) fs args) in
       omega (arith, whole_long asked first second fs kind args, all_lent runs first second g)
 
 -- ---- handing it over
@@ -77,18 +77,18 @@ module _ (asked : Bool) (first second : List ℕ) (fs : List Field) (kind : ℕ)
   exact : length whole ≡ need
   exact = omega arith
 
-  pub hand-fits : {t : Bool} → t ≡ leb need (length buf) → t ≡ true → length whole ≤ length buf
-  hand-fits f t = omega (arith, exact, leb-true need (length buf) (sym f ∙ t))
+  pub hand_fits : {t : Bool} → t ≡ leb need (length buf) → t ≡ true → length whole ≤ length buf
+  hand_fits f t = omega (arith, exact, leb-true need (length buf) (sym f ∙ t))
 
-  pub hand-short : {t : Bool} → t ≡ leb need (length buf) → t ≡ false → told (refusal 18) buf ≡ handed buf (some whole)
-  hand-short f t = rw (lt-ltb (length buf) (length whole) (omega (arith, exact, leb-false need (length buf) (sym f ∙ t))))
+  pub hand_short : {t : Bool} → t ≡ leb need (length buf) → t ≡ false → told (refusal 18) buf ≡ handed buf (some whole)
+  hand_short f t = rw (lt-ltb (length buf) (length whole) (omega (arith, exact, leb-false need (length buf) (sym f ∙ t))))
 
-  pub hand-over : {t : Bool} {n : ℕ} {after : List ℕ} → t ≡ leb need (length buf) → t ≡ true → n ≡ need → after ≡ sets buf 0 whole
+  pub hand_over : {t : Bool} {n : ℕ} {after : List ℕ} → t ≡ leb need (length buf) → t ≡ true → n ≡ need → after ≡ sets buf 0 whole
       → told (record { number = 0; len = n }) after ≡ handed buf (some whole)
-  hand-over {n = n} {after = after} f t en ea =
+  hand_over {n = n} {after = after} f t en ea =
       ap (λ (k : ℕ). told (record { number = 0; len = k }) after) (en ∙ sym exact)
       ∙ ap (told (record { number = 0; len = length whole })) ea
-      ∙ rw (le-ltb (length buf) (length whole) (hand-fits f t))
+      ∙ rw (le-ltb (length buf) (length whole) (hand_fits f t))
 
 -- ---- the parts of a form
 
@@ -98,12 +98,12 @@ module _ (asked : Bool) (ns : List ℕ) (runs : ℕ) (first second : List ℕ) (
   unfolding made_by
   unplanned t = rw (← e, t)
 
-  pub plan-is : p.made ≡ true → planned ns runs first second fs 0 0 0 nothing ≡ some p.arguments
-  plan-is t = sym e ∙ rw t
+  pub plan_is : p.made ≡ true → planned ns runs first second fs 0 0 0 nothing ≡ some p.arguments
+  plan_is t = sym e ∙ rw t
 
-  pub planned-so : p.made ≡ true → some (whole_of asked first second fs kind p.arguments) ≡ made_by asked ns runs first second fs kind
+  pub planned_so : p.made ≡ true → some (whole_of asked first second fs kind p.arguments) ≡ made_by asked ns runs first second fs kind
   unfolding made_by
-  planned-so t = rw (plan-is t)
+  planned_so t = rw (plan_is t)
 
 -- ---- a kind, and its row
 
@@ -111,22 +111,22 @@ module _ (p : Protocol) (kind : ℕ) (asked : Bool) (ns : List ℕ) (runs : ℕ)
   abbrev message : Option (List ℕ)
   message = bytes_of p kind asked ns runs first second
 
-  pub kind-not-given : all_given runs first second ≡ false → message ≡ none
+  pub kind_not_given : all_given runs first second ≡ false → message ≡ none
   unfolding bytes_of given
-  kind-not-given g = rw g
+  kind_not_given g = rw g
 
   module _ (g : all_given runs first second ≡ true) {w : Listed} (found : Finds p kind w) where
-    pub kind-unknown : w ≡ Unknown → message ≡ none
+    pub kind_unknown : w ≡ Unknown → message ≡ none
     unfolding bytes_of given encoded
-    kind-unknown e = rw (g, subst (Finds p kind) e found)
+    kind_unknown e = rw (g, subst (Finds p kind) e found)
 
-    pub kind-known : (row : ℕ) → w ≡ Row row → made_by asked ns runs first second (form_at row).fields kind ≡ message
+    pub kind_known : (row : ℕ) → w ≡ Row row → made_by asked ns runs first second (form_at row).fields kind ≡ message
     unfolding bytes_of given encoded
-    kind-known row e =
+    kind_known row e =
         let row-found : Finds p kind (Row row) = subst (Finds p kind) e found in
         sym
         (rw (g, row-found.1)
-        (plan-whole asked ns runs first second kind (form_at row).fields (at_most_two runs first second g) (at_most row row-found.0)))
+        (plan_whole asked ns runs first second kind (form_at row).fields (at_most_two runs first second g) (at_most row row-found.0)))
 
 -- ---- the bundle, and its instance
 

@@ -129,7 +129,7 @@ one_more bs fs xs (matching.below u l) e = e
 one_more bs fs xs (matching.false b) e = e
 one_more bs fs xs (matching.true b) e = e
 
-pub runs-counted : (bs : List ℕ) {fs : List Field} {p q : ℕ} {xs : List Value} → FieldsAt bs fs p xs q → length (runs_of bs xs) ≡ runs_in fs
+pub runs_counted : (bs : List ℕ) {fs : List Field} {p q : ℕ} {xs : List Value} → FieldsAt bs fs p xs q → length (runs_of bs xs) ≡ runs_in fs
 unfolding runs_in
-runs-counted bs no_field = refl
-runs-counted bs (a_field {fs = fs} {xs = xs} x r) = one_more bs fs xs x (runs-counted bs r)
+runs_counted bs no_field = refl
+runs_counted bs (a_field {fs = fs} {xs = xs} x r) = one_more bs fs xs x (runs_counted bs r)

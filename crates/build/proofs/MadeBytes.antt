@@ -11,7 +11,7 @@ use Rattle.base.specs.Numbers.{Bytes}
 use Rattle.base.proofs.Conds.{cond_cases}
 use Rattle.base.proofs.NumberLaws.{bytes_append}
 use Rattle.head.specs.Write.{shortest}
-use Rattle.head.proofs.WriteLaws.{shortest-bytes}
+use Rattle.head.proofs.WriteLaws.{shortest_bytes}
 use Rattle.rows.specs.declared.Protocol.{Protocol}
 use Rattle.elements.specs.declared.Element.{Element}
 use Rattle.elements.specs.declared.Field.{Field}
@@ -30,33 +30,33 @@ use Rattle.build.specs.Made.{headed, limited, of_number, of_run, first_of, all_u
 
 -- ---- fields
 
-limited-bytes : (limit v : ℕ) → Found Bytes (limited limit v)
-limited-bytes limit v = cond_cases (Found Bytes) (ltb v limit) (λ _. shortest-bytes 0 v (omega arith)) (λ _. tt)
+limited_bytes : (limit v : ℕ) → Found Bytes (limited limit v)
+limited_bytes limit v = cond_cases (Found Bytes) (ltb v limit) (λ _. shortest_bytes 0 v (omega arith)) (λ _. tt)
 
-number-bytes : (f : Field) (v : ℕ) → Found Bytes (of_number f v)
+number_bytes : (f : Field) (v : ℕ) → Found Bytes (of_number f v)
 unfolding Bytes
-number-bytes field.Item v = tt
-number-bytes (field.List e) v = tt
-number-bytes (field.Below limit) v = limited-bytes limit v
-number-bytes field.Bool v =
+number_bytes field.Item v = tt
+number_bytes (field.List e) v = tt
+number_bytes (field.Below limit) v = limited_bytes limit v
+number_bytes field.Bool v =
     cond_cases (Found Bytes) (eqb v 0) (λ _. (omega arith, tt)) (λ _. cond_cases (Found Bytes) (eqb v 1) (λ _. (omega arith, tt)) (λ _. tt))
 
-item-bytes : (r : List ℕ) (e : End) → Bytes r → Found Bytes (on_end none e (λ q. cond (eqb q (length r)) (some r) none))
-item-bytes r (At q) b = cond_cases (Found Bytes) (eqb q (length r)) (λ _. b) (λ _. tt)
-item-bytes r Nowhere b = tt
+item_bytes : (r : List ℕ) (e : End) → Bytes r → Found Bytes (on_end none e (λ q. cond (eqb q (length r)) (some r) none))
+item_bytes r (At q) b = cond_cases (Found Bytes) (eqb q (length r)) (λ _. b) (λ _. tt)
+item_bytes r Nowhere b = tt
 
-headed-bytes : (asked : Bool) (e : Element) (r : List ℕ) (o : Option ℕ) → Bytes r → Found Bytes (on_some o (λ k. some (headed asked e r k)))
+headed_bytes : (asked : Bool) (e : Element) (r : List ℕ) (o : Option ℕ) → Bytes r → Found Bytes (on_some o (λ k. some (headed asked e r k)))
 unfolding Bytes
-headed-bytes asked e r none b = tt
-headed-bytes asked e r (some k) b =
+headed_bytes asked e r none b = tt
+headed_bytes asked e r (some k) b =
     cond_cases Bytes (openly asked e) (λ _. (omega (arith, opener_low e), bytes_append r (Break ∷ []) b (omega arith, tt)))
-    (λ _. bytes_append (shortest (opener e) k) r (shortest-bytes (opener e) k (omega (arith, opener_low e))) b)
+    (λ _. bytes_append (shortest (opener e) k) r (shortest_bytes (opener e) k (omega (arith, opener_low e))) b)
 
-run-bytes : (asked : Bool) (f : Field) (r : List ℕ) → Bytes r → Found Bytes (of_run asked f r)
-run-bytes asked field.Item r b = item-bytes r (item_end r in_message 0) b
-run-bytes asked (field.List e) r b = headed-bytes asked e r (count_of e r) b
-run-bytes asked (field.Below limit) r b = tt
-run-bytes asked field.Bool r b = tt
+run_bytes : (asked : Bool) (f : Field) (r : List ℕ) → Bytes r → Found Bytes (of_run asked f r)
+run_bytes asked field.Item r b = item_bytes r (item_end r in_message 0) b
+run_bytes asked (field.List e) r b = headed_bytes asked e r (count_of e r) b
+run_bytes asked (field.Below limit) r b = tt
+run_bytes asked field.Bool r b = tt
 
 -- ---- messages
 
@@ -79,13 +79,13 @@ none_left (n ∷ ns) rs = tt
 by_number : (asked : Bool) (f : Field) (fs : List Field) (ns : List ℕ) (rs : List (List ℕ)) → ((ns : List ℕ) → Found Bytes (made asked fs ns rs))
     → Found Bytes (first_of ns (λ v ns. on_some (of_number f v) (λ xs. on_some (made asked fs ns rs) (λ ys. some (xs ++ ys)))))
 by_number asked f fs [] rs rest = tt
-by_number asked f fs (v ∷ ns) rs rest = in_front (of_number f v) (made asked fs ns rs) (number-bytes f v) (rest ns)
+by_number asked f fs (v ∷ ns) rs rest = in_front (of_number f v) (made asked fs ns rs) (number_bytes f v) (rest ns)
 
 by_run : (asked : Bool) (f : Field) (fs : List Field) (ns : List ℕ) (rs : List (List ℕ)) → AllBytes rs
     → ((rs : List (List ℕ)) → AllBytes rs → Found Bytes (made asked fs ns rs))
     → Found Bytes (first_of rs (λ r rs. on_some (of_run asked f r) (λ xs. on_some (made asked fs ns rs) (λ ys. some (xs ++ ys)))))
 by_run asked f fs ns [] b rest = tt
-by_run asked f fs ns (r ∷ rs) (h, b) rest = in_front (of_run asked f r) (made asked fs ns rs) (run-bytes asked f r h) (rest rs b)
+by_run asked f fs ns (r ∷ rs) (h, b) rest = in_front (of_run asked f r) (made asked fs ns rs) (run_bytes asked f r h) (rest rs b)
 
 made_bytes : (asked : Bool) (fs : List Field) (ns : List ℕ) (rs : List (List ℕ)) → AllBytes rs → Found Bytes (made asked fs ns rs)
 unfolding made
@@ -94,16 +94,16 @@ made_bytes asked (f ∷ fs) ns rs b =
     cond_cases (Found Bytes) (numeric f) (λ _. by_number asked f fs ns rs (λ ns. made_bytes asked fs ns rs b))
     (λ _. by_run asked f fs ns rs b (λ rs b. made_bytes asked fs ns rs b))
 
-pub encoded-bytes : (p : Protocol) (kind : ℕ) (asked : Bool) (ns : List ℕ) (rs : List (List ℕ)) → AllBytes rs → Found Bytes (encoded p kind asked ns rs)
+pub encoded_bytes : (p : Protocol) (kind : ℕ) (asked : Bool) (ns : List ℕ) (rs : List (List ℕ)) → AllBytes rs → Found Bytes (encoded p kind asked ns rs)
 unfolding encoded
-encoded-bytes p kind asked ns rs b = of (form_of p kind)
+encoded_bytes p kind asked ns rs b = of (form_of p kind)
   where
     whole : (fs : List Field) (o : Option (List ℕ)) → Found Bytes o
         → Found Bytes (on_some o (λ ys. some (shortest array (length fs + 1) ++ (shortest 0 kind ++ ys))))
     whole fs none c = tt
     whole fs (some ys) c =
-        bytes_append (shortest array (length fs + 1)) (shortest 0 kind ++ ys) (shortest-bytes array (length fs + 1) (omega arith))
-        (bytes_append (shortest 0 kind) ys (shortest-bytes 0 kind (omega arith)) c)
+        bytes_append (shortest array (length fs + 1)) (shortest 0 kind ++ ys) (shortest_bytes array (length fs + 1) (omega arith))
+        (bytes_append (shortest 0 kind) ys (shortest_bytes 0 kind (omega arith)) c)
 
     of : (o : Option (List Field))
         → Found Bytes (on_some o (λ fs. on_some (made asked fs ns rs) (λ ys. some (shortest array (length fs + 1) ++ (shortest 0 kind ++ ys)))))

@@ -27,17 +27,17 @@ use Rattle.build.specs.Made.{encoded}
 use Rattle.build.specs.Building.{Told, told, refused, given, bytes_of, handed, build_of}
 use Rattle.build.specs.Besides.Theorem.{numbers_of, runs_of, Slices, OwnLeast}
 use Rattle.build.specs.Besides.Numbers.{When, unknown_bundle, no_instance, makes_none, no_room, done, Exactly, NoMessage, Untouched, Stands, ReadsBack, Givable, Rebuilds}
-use Rattle.build.proofs.Few.{form_few, runs-counted}
-use Rattle.build.proofs.MadeBytes.{AllBytes, encoded-bytes}
-use Rattle.build.proofs.Pieces.{message-made}
+use Rattle.build.proofs.Few.{form_few, runs_counted}
+use Rattle.build.proofs.MadeBytes.{AllBytes, encoded_bytes}
+use Rattle.build.proofs.Pieces.{message_made}
 use Rattle.build.proofs.Theorem.{read_back}
 use Rattle.build.proofs.Rebuilt.{rebuilds as made-again-of}
 
 -- what holds of no runs, of the first and of both holds of those given
-given-each : (P : List (List ℕ) → Type 0) (runs : ℕ) (first second : List ℕ) → P [] → P (first ∷ []) → P (first ∷ second ∷ [])
+given_each : (P : List (List ℕ) → Type 0) (runs : ℕ) (first second : List ℕ) → P [] → P (first ∷ []) → P (first ∷ second ∷ [])
     → Found P (given runs first second)
 unfolding given
-given-each P runs first second x y z = cond_cases (Found P) (all_given runs first second) (λ _. of runs) (λ _. tt)
+given_each P runs first second x y z = cond_cases (Found P) (all_given runs first second) (λ _. of runs) (λ _. tt)
   where
     of : (n : ℕ) → P (take n (first ∷ second ∷ []))
     of zero = x
@@ -47,10 +47,10 @@ given-each P runs first second x y z = cond_cases (Found P) (all_given runs firs
 
 -- a lent slice is as long as a number of 64 bits says
 given_slices : (runs : ℕ) (first second : List ℕ) → length first < 2 ^ 64 → length second < 2 ^ 64 → Found Slices (given runs first second)
-given_slices runs first second h l = given-each Slices runs first second tt (h, tt) (h, (l, tt))
+given_slices runs first second h l = given_each Slices runs first second tt (h, tt) (h, (l, tt))
 
-given-bytes : (runs : ℕ) (first second : List ℕ) → Bytes first → Bytes second → Found AllBytes (given runs first second)
-given-bytes runs first second h l = given-each AllBytes runs first second tt (h, tt) (h, (l, tt))
+given_bytes : (runs : ℕ) (first second : List ℕ) → Bytes first → Bytes second → Found AllBytes (given runs first second)
+given_bytes runs first second h l = given_each AllBytes runs first second tt (h, tt) (h, (l, tt))
 
 -- two runs can be given
 two_given : (rs : List (List ℕ)) → length rs ≤ 2 → (runs : ℕ) × (first : List ℕ) × (second : List ℕ) × (given runs first second ≡ some rs)
@@ -79,9 +79,9 @@ module _ (bundle i kind : ℕ) (asked : Bool) (ns : List ℕ) (runs : ℕ) (firs
     made : i < instances bundle → (bs : List ℕ) → message ≡ some bs → length bs ≤ length buf
         → out ≡ told (record { number = 0; len = length bs }) (sets buf 0 bs) → Way
 
-  by-message : i < instances bundle → (o : Option (List ℕ)) → message ≡ o → out ≡ handed buf o → Way
-  by-message low none e q = unmade low e q
-  by-message low (some bs) e q =
+  by_message : i < instances bundle → (o : Option (List ℕ)) → message ≡ o → out ≡ handed buf o → Way
+  by_message low none e q = unmade low e q
+  by_message low (some bs) e q =
       by_test (ltb (length buf) (length bs)) (λ t. short low bs e (ltb-true (length buf) (length bs) t) (q ∙ rw t))
       (λ t. made low bs e (ltb-false (length buf) (length bs) t) (q ∙ rw t))
 
@@ -90,7 +90,7 @@ module _ (bundle i kind : ℕ) (asked : Bool) (ns : List ℕ) (runs : ℕ) (firs
   way =
       by_test (known bundle)
       (λ k.
-      by_test (ltb i (instances bundle)) (λ t. by-message (ltb-true i (instances bundle) t) message refl (rw (k, t)))
+      by_test (ltb i (instances bundle)) (λ t. by_message (ltb-true i (instances bundle) t) message refl (rw (k, t)))
       (λ t. above k (ltb-false i (instances bundle) t) (rw (k, t))))
       (λ k. foreign k (rw k))
 
@@ -135,9 +135,9 @@ module _ (bundle i kind : ℕ) (asked : Bool) (ns : List ℕ) (runs : ℕ) (firs
   back_by none bs fit e = absurd (let z : ◌≡◌ {A = ℕ} 0 1 = cc in omega arith)
   back_by (some rs) bs fit e = let r = read_back (speaks bundle i) kind asked ns rs bs fit e in (r.0, r.1, r.2, ap some (sym r.3), r.4)
 
-  bytes-by : (o : Option (List (List ℕ))) (bs : List ℕ) → Found AllBytes o → on_some o (λ rs. encoded (speaks bundle i) kind asked ns rs) ≡ some bs → Bytes bs
-  bytes-by none bs fit e = absurd (let z : ◌≡◌ {A = ℕ} 0 1 = cc in omega arith)
-  bytes-by (some rs) bs fit e = subst (Found Bytes) e (encoded-bytes (speaks bundle i) kind asked ns rs fit)
+  bytes_by : (o : Option (List (List ℕ))) (bs : List ℕ) → Found AllBytes o → on_some o (λ rs. encoded (speaks bundle i) kind asked ns rs) ≡ some bs → Bytes bs
+  bytes_by none bs fit e = absurd (let z : ◌≡◌ {A = ℕ} 0 1 = cc in omega arith)
+  bytes_by (some rs) bs fit e = subst (Found Bytes) e (encoded_bytes (speaks bundle i) kind asked ns rs fit)
 
   -- no bytes are a message that says these parts
   abbrev Nothing : Type 0
@@ -148,7 +148,7 @@ module _ (bundle i kind : ℕ) (asked : Bool) (ns : List ℕ) (runs : ℕ) (firs
   none_made : message ≡ none → Nothing
   unfolding bytes_of
   none_made e bs xs bytes m n g =
-      let again = message-made bs asked (speaks bundle i) bytes m in
+      let again = message_made bs asked (speaks bundle i) bytes m in
       let same : message ≡ some again.0 = rw (g, ← n) again.1 in
       apart again.0 same e
 
@@ -157,7 +157,7 @@ module _ (bundle i kind : ℕ) (asked : Bool) (ns : List ℕ) (runs : ℕ) (firs
     unfolding bytes_of
     something cs e nowhere =
         let r = back_by (given runs first second) cs (given_slices runs first second h l) e in
-        nowhere cs r.0 (bytes-by (given runs first second) cs (given-bytes runs first second bf bs) e) r.1 r.2 r.3
+        nowhere cs r.0 (bytes_by (given runs first second) cs (given_bytes runs first second bf bs) e) r.1 r.2 r.3
 
     fifteen : Way → (number ≡ 15) ↔ ((i < instances bundle) × Nothing)
     fifteen (foreign k e) = (λ q. absurd (omega (arith, numbered 23 e)), λ q. absurd (never q.0 k))
@@ -167,18 +167,18 @@ module _ (bundle i kind : ℕ) (asked : Bool) (ns : List ℕ) (runs : ℕ) (firs
     fifteen (made h cs m l e) = (λ q. absurd (omega (arith, zeroed cs e)), λ q. absurd (something cs m q.1))
 
   module _ (b : Built) (after : List ℕ) (is : told b after ≡ out) where
-    as-was : (n : ℕ) → out ≡ refused buf n → (b.len ≡ 0) × (after ≡ buf)
-    as-was n e = (ap (λ (x : Told). x.answer.len) (is ∙ e), ap (λ (x : Told). x.buffer) (is ∙ e))
+    as_was : (n : ℕ) → out ≡ refused buf n → (b.len ≡ 0) × (after ≡ buf)
+    as_was n e = (ap (λ (x : Told). x.answer.len) (is ∙ e), ap (λ (x : Told). x.buffer) (is ∙ e))
 
     number_is : (n : ℕ) → out ≡ refused buf n → b.number ≡ n
     number_is n e = ap (λ (x : Told). x.answer.number) (is ∙ e)
 
-    untouched-by : Way → (b.number ≡ 0 → ⊥) → (b.len ≡ 0) × (after ≡ buf)
-    untouched-by (foreign k e) z = as-was 23 e
-    untouched-by (above k h e) z = as-was 10 e
-    untouched-by (unmade h m e) z = as-was 15 e
-    untouched-by (short h bs m l e) z = as-was 18 e
-    untouched-by (made h bs m l e) z = absurd (z (ap (λ (x : Told). x.answer.number) (is ∙ e)))
+    untouched_by : Way → (b.number ≡ 0 → ⊥) → (b.len ≡ 0) × (after ≡ buf)
+    untouched_by (foreign k e) z = as_was 23 e
+    untouched_by (above k h e) z = as_was 10 e
+    untouched_by (unmade h m e) z = as_was 15 e
+    untouched_by (short h bs m l e) z = as_was 18 e
+    untouched_by (made h bs m l e) z = absurd (z (ap (λ (x : Told). x.answer.number) (is ∙ e)))
 
     stands_by : Way → b.number ≡ 0 → (bs : List ℕ) × (message ≡ some bs) × (b.len ≡ length bs) × (after ≡ bs ++ drop (length bs) buf)
     stands_by (foreign k e) z = absurd (omega (arith, number_is 23 e))
@@ -193,9 +193,9 @@ module _ (bundle i kind : ℕ) (asked : Bool) (ns : List ℕ) (runs : ℕ) (firs
           ap (λ (x : Told). x.buffer) (is ∙ e) ∙ sets-eq bs buf 0 (omega arith) ∙ ap (λ (n : ℕ). bs ++ drop n buf) at,
         )
 
-    reads-by : length first < 2 ^ 64 → length second < 2 ^ 64 → b.number ≡ 0 → Back (take b.len after) (given runs first second)
+    reads_by : length first < 2 ^ 64 → length second < 2 ^ 64 → b.number ≡ 0 → Back (take b.len after) (given runs first second)
     unfolding bytes_of
-    reads-by h l z =
+    reads_by h l z =
         let s = stands_by way z in
         let bs : List ℕ = s.0 in
         let front : take b.len after ≡ bs = ap (take b.len) s.3 ∙ take_at bs (drop (length bs) buf) b.len (sym s.2) in
@@ -224,20 +224,20 @@ exactly bundle i kind asked ns runs first second buf n =
     exactly_when (When bundle i kind asked ns runs first second buf) (is k w) w (is n)
 
 pub untouched : Untouched
-untouched bundle i kind asked ns runs first second buf b after q z = untouched-by bundle i kind asked ns runs first second buf b after q (way bundle i kind asked ns runs first second buf) z
+untouched bundle i kind asked ns runs first second buf b after q z = untouched_by bundle i kind asked ns runs first second buf b after q (way bundle i kind asked ns runs first second buf) z
 
 pub stands : Stands
 stands bundle i kind asked ns runs first second buf b after q z = stands_by bundle i kind asked ns runs first second buf b after q (way bundle i kind asked ns runs first second buf) z
 
 pub reads_back : ReadsBack
-reads_back bundle i kind asked ns runs first second buf b after h l q z = reads-by bundle i kind asked ns runs first second buf b after q h l z
+reads_back bundle i kind asked ns runs first second buf b after h l q z = reads_by bundle i kind asked ns runs first second buf b after q h l z
 
 pub not_a_message : NoMessage
 not_a_message bundle i kind asked ns runs first second buf bf bs h l =
     fifteen bundle i kind asked ns runs first second buf bf bs h l (way bundle i kind asked ns runs first second buf)
 
 pub givable : Givable
-givable p bs kind xs m = two_given (runs_of bs xs) (omega (arith, runs-counted bs m.matched, (form_few p kind m.form).runs))
+givable p bs kind xs m = two_given (runs_of bs xs) (omega (arith, runs_counted bs m.matched, (form_few p kind m.form).runs))
 
 pub rebuilds : Rebuilds
 unfolding bytes_of

@@ -27,7 +27,7 @@ use Rattle.parts.specs.Counting.{on_some, count_of}
 use Rattle.parts.specs.Inside.{number_argument, run_argument, run_at, number_after, run_after, number_at, argument_of, planned, nothing}
 use Rattle.parts.proofs.Counting.{Found, some_cases}
 use Rattle.layout.specs.Inside.{own_length, tail_of, piece_of, body_of, heads_of}
-use Rattle.layout.proofs.LayoutLaws.{piece-long}
+use Rattle.layout.proofs.LayoutLaws.{piece_long}
 use Rattle.build.specs.Made.{headed, of_number, of_run, all_used, made}
 
 -- ---- one field
@@ -113,36 +113,36 @@ module _ (first second : List ℕ) where
   abbrev pub lent : ℕ → List (List ℕ)
   lent runs = take runs (first ∷ second ∷ [])
 
-  lent-long : (runs : ℕ) → runs ≤ 2 → length (lent runs) ≡ runs
-  lent-long zero h = refl
-  lent-long (suc zero) h = refl
-  lent-long (suc (suc zero)) h = refl
-  lent-long (suc (suc (suc n))) h = absurd (omega arith)
+  lent_long : (runs : ℕ) → runs ≤ 2 → length (lent runs) ≡ runs
+  lent_long zero h = refl
+  lent_long (suc zero) h = refl
+  lent_long (suc (suc zero)) h = refl
+  lent_long (suc (suc (suc n))) h = absurd (omega arith)
 
-  lent-next : (runs r : ℕ) → runs ≤ 2 → r < runs → drop r (lent runs) ≡ run_at first second r ∷ drop (suc r) (lent runs)
-  lent-next zero r h l = absurd (omega arith)
-  lent-next (suc zero) zero h l = refl
-  lent-next (suc zero) (suc r) h l = absurd (omega arith)
-  lent-next (suc (suc zero)) zero h l = refl
-  lent-next (suc (suc zero)) (suc zero) h l = refl
-  lent-next (suc (suc zero)) (suc (suc r)) h l = absurd (omega arith)
-  lent-next (suc (suc (suc n))) r h l = absurd (omega arith)
+  lent_next : (runs r : ℕ) → runs ≤ 2 → r < runs → drop r (lent runs) ≡ run_at first second r ∷ drop (suc r) (lent runs)
+  lent_next zero r h l = absurd (omega arith)
+  lent_next (suc zero) zero h l = refl
+  lent_next (suc zero) (suc r) h l = absurd (omega arith)
+  lent_next (suc (suc zero)) zero h l = refl
+  lent_next (suc (suc zero)) (suc zero) h l = refl
+  lent_next (suc (suc zero)) (suc (suc r)) h l = absurd (omega arith)
+  lent_next (suc (suc (suc n))) r h l = absurd (omega arith)
 
   lent_none : (runs r : ℕ) → runs ≤ 2 → runs ≤ r → drop r (lent runs) ≡ []
-  lent_none runs r h l = drop_of_length-le (lent runs) {i = r} (omega (arith, lent-long runs h))
+  lent_none runs r h l = drop_of_length-le (lent runs) {i = r} (omega (arith, lent_long runs h))
 
 -- a field's length in front of others
 number_long : (asked : Bool) (f : Field) (a : ℕ) (run rest : List ℕ) (h t : ℕ) → numeric f ≡ true → length rest ≡ h + t
     → length (piece_of asked f a run ++ rest) ≡ own_length asked f a + h + t
 number_long asked f a run rest h t is e =
     let z : length (tail_of f run) ≡ 0 = rw is in
-    omega (arith, length-append (piece_of asked f a run) rest, piece-long asked f a run)
+    omega (arith, length-append (piece_of asked f a run) rest, piece_long asked f a run)
 
 run_long : (asked : Bool) (f : Field) (a : ℕ) (run rest : List ℕ) (h t : ℕ) → numeric f ≡ false → length rest ≡ h + t
     → length (piece_of asked f a run ++ rest) ≡ own_length asked f a + h + (length run + t)
 run_long asked f a run rest h t is e =
     let z : length (tail_of f run) ≡ length run = rw is in
-    omega (arith, length-append (piece_of asked f a run) rest, piece-long asked f a run)
+    omega (arith, length-append (piece_of asked f a run) rest, piece_long asked f a run)
 
 found_map : {A : Type 0} {R S : A → Type 0} (o : Option A) → ((a : A) → R a → S a) → Found R o → Found S o
 found_map none f r = tt
@@ -184,14 +184,14 @@ module _ (asked : Bool) (ns : List ℕ) (runs : ℕ) (first second : List ℕ) w
     abbrev body : List Field → ℕ → ℕ → List ℕ → List ℕ
     body fs i r args = body_of asked first second fs args i r
 
-    pub plan-makes : (fs : List Field) (i n r : ℕ) (args : List ℕ) → i + length fs ≤ length args → n ≤ length ns → r ≤ runs
+    pub plan_makes : (fs : List Field) (i n r : ℕ) (args : List ℕ) → i + length fs ≤ length args → n ≤ length ns → r ≤ runs
         → made asked fs (drop n ns) (drop r rs) ≡ on_some (plan fs i n r args) (λ out. some (body fs i r out))
     unfolding made planned body_of argument_of
-    plan-makes [] i n r args h hn hr =
+    plan_makes [] i n r args h hn hr =
         used (drop n ns) (drop r rs)
-        ∙ rw (at-end ns n hn, at-end rs r (omega (arith, lent-long first second runs two)), lent-long first second runs two)
+        ∙ rw (at-end ns n hn, at-end rs r (omega (arith, lent_long first second runs two)), lent_long first second runs two)
         (by_test (eqb n (length ns) && eqb r runs) (λ t. rw t) (λ t. rw t))
-    plan-makes (f ∷ fs) i n r args h hn hr =
+    plan_makes (f ∷ fs) i n r args h hn hr =
         by_test (numeric f)
         (λ t.
         rw t
@@ -203,7 +203,7 @@ module _ (asked : Bool) (ns : List ℕ) (runs : ℕ) (first second : List ℕ) w
         (in_front asked f (run_at first second r) i (number_argument f (get_or ns n 0)) (made asked fs (drop (n + 1) ns) (drop r rs))
         (λ a. plan fs (i + 1) (n + 1) r (set args i a))
         (body fs (i + 1) r)
-        (λ a. plan-makes fs (i + 1) (n + 1) r (set args i a) (omega (arith, length-set args i a)) (omega arith) hr)
+        (λ a. plan_makes fs (i + 1) (n + 1) r (set args i a) (omega (arith, length-set args i a)) (omega arith) hr)
         (λ a. stays fs i (n + 1) r args a (omega arith))))
         (λ u.
         let z : drop n ns ≡ [] = drop_of_length-le ns {i = n} (ltb-false n (length ns) u) in
@@ -213,12 +213,12 @@ module _ (asked : Bool) (ns : List ℕ) (runs : ℕ) (first second : List ℕ) w
         (by_test (ltb r runs)
         (λ u.
         let lt : r < runs = ltb-true r runs u in
-        let next : drop r rs ≡ run_at first second r ∷ drop (r + 1) rs = rw add-one (lent-next first second runs r two lt) in
+        let next : drop r rs ≡ run_at first second r ∷ drop (r + 1) rs = rw add-one (lent_next first second runs r two lt) in
         rw (next, u, run_piece asked f (run_at first second r) t)
         (in_front asked f (run_at first second r) i (run_argument f (run_at first second r)) (made asked fs (drop n ns) (drop (r + 1) rs))
         (λ a. plan fs (i + 1) n (r + 1) (set args i a))
         (body fs (i + 1) (r + 1))
-        (λ a. plan-makes fs (i + 1) n (r + 1) (set args i a) (omega (arith, length-set args i a)) hn (omega arith))
+        (λ a. plan_makes fs (i + 1) n (r + 1) (set args i a) (omega (arith, length-set args i a)) hn (omega arith))
         (λ a. stays fs i n (r + 1) args a (omega arith))))
         (λ u.
         let z : drop r rs ≡ [] = lent_none first second runs r two (ltb-false r runs u) in
@@ -251,7 +251,7 @@ module _ (asked : Bool) (ns : List ℕ) (runs : ℕ) (first second : List ℕ) w
         (by_test (ltb r runs)
         (λ u.
         let lt : r < runs = ltb-true r runs u in
-        let next : drop r rs ≡ run_at first second r ∷ drop (r + 1) rs = rw add-one (lent-next first second runs r two lt) in
+        let next : drop r rs ≡ run_at first second r ∷ drop (r + 1) rs = rw add-one (lent_next first second runs r two lt) in
         rw (next, u)
         (some_cases
         (Found (λ _. length (piece_of asked f (get_or out i 0) (run_at first second r) ++ body fs (i + 1) (r + 1) out)
@@ -263,9 +263,9 @@ module _ (asked : Bool) (ns : List ℕ) (runs : ℕ) (first second : List ℕ) w
         (long fs (i + 1) n (r + 1) (set args i a) out (omega arith)))))
         (λ u. rw u tt)))
 
-    pub plan-long : (fs : List Field) (out : List ℕ)
+    pub plan_long : (fs : List Field) (out : List ℕ)
         → Found (λ _. length (body_of asked first second fs out 0 0) ≡ heads_of asked fs out 0 + total rs) (planned ns runs first second fs 0 0 0 nothing)
-    plan-long fs out = long fs 0 0 0 nothing out (omega arith)
+    plan_long fs out = long fs 0 0 0 nothing out (omega arith)
 
 -- what is lent as runs and not given is empty
 pub all_lent : (runs : ℕ) (first second : List ℕ) → all_given runs first second ≡ true → total (lent first second runs) ≡ length first + length second

@@ -12,7 +12,7 @@ use Rattle.ring.specs.Ring.{run}
 use Rattle.elements.specs.Besides.Matching.{Value, number, place}
 use Rattle.build.specs.Besides.Theorem.{runs_of, numbers_of, Slices, Rebuilds}
 use Rattle.build.proofs.OneForm.{Leastly, own-one}
-use Rattle.build.proofs.Pieces.{message-made}
+use Rattle.build.proofs.Pieces.{message_made}
 use Rattle.build.proofs.Theorem.{read_back}
 
 -- the runs of a slice are slices
@@ -26,7 +26,7 @@ slices bs (place a l ∷ xs) h =
 
 pub rebuilds : Rebuilds
 rebuilds p bs kind xs asked bytes slice given =
-    let m = message-made bs asked p bytes given in
+    let m = message_made bs asked p bytes given in
     let message : List ℕ = m.0 in
     let back = read_back p kind asked (numbers_of xs) (runs_of bs xs) message (slices bs xs slice) m.1 in
     let all : run bs 0 (length bs - 0) ≡ bs = take_all (length bs - 0) bs (omega arith) in

@@ -25,7 +25,7 @@ use Rattle.parts.proofs.Counting.{Found, some_cases}
 use Rattle.build.specs.Made.{of_number, of_run, first_of, all_used, made, encoded}
 use Rattle.build.specs.Besides.Theorem.{numbers_of, runs_of, Slices, FieldsLeast, OwnLeast, ReadsBack}
 use Rattle.build.proofs.Few.{Low, AllLow, Few, form_few}
-use Rattle.build.proofs.Written.{LeastAt, run_there, number-says, run_holds}
+use Rattle.build.proofs.Written.{LeastAt, run_there, number_says, run_holds}
 
 -- the fields stand there, and their own heads are as short as can be
 abbrev FieldsLeastAt : Bool → List ℕ → List Field → ℕ → List Value → ℕ → Type 0
@@ -52,19 +52,19 @@ Say asked fs ns rs cs =
     → (values : List Value) × FieldsLeastAt asked (xs ++ cs) fs (length xs) values (length xs + length cs) × (numbers_of values ≡ ns)
     × (runs_of (xs ++ cs) values ≡ rs)
 
-none-say : (asked : Bool) (ns : List ℕ) (rs : List (List ℕ)) → Found (Say asked [] ns rs) (all_used ns rs)
-none-say asked [] [] =
+none_say : (asked : Bool) (ns : List ℕ) (rs : List (List ℕ)) → Found (Say asked [] ns rs) (all_used ns rs)
+none_say asked [] [] =
     λ xs.
     let z : length xs ≡ length xs + 0 = omega arith in
     ([], subst (λ (q : ℕ). FieldsLeastAt asked (xs ++ []) [] (length xs) [] q) z (no_field, tt), refl, refl)
-none-say asked [] (r ∷ rs) = tt
-none-say asked (n ∷ ns) rs = tt
+none_say asked [] (r ∷ rs) = tt
+none_say asked (n ∷ ns) rs = tt
 
 number_step : (asked : Bool) (f : Field) (fs : List Field) (v : ℕ) (ns : List ℕ) (rs : List (List ℕ)) → Low f → Found (Say asked fs ns rs) (made asked fs ns rs)
     → Found (Say asked (f ∷ fs) (v ∷ ns) rs) (on_some (of_number f v) (λ xs. on_some (made asked fs ns rs) (λ ys. some (xs ++ ys))))
 number_step asked f fs v ns rs low rest =
     let P : Option (List ℕ) → Type 0 = Found (Say asked (f ∷ fs) (v ∷ ns) rs) in
-    some_cases P (λ xs. on_some (made asked fs ns rs) (λ ys. some (xs ++ ys))) (of_number f v) (number-says asked f v low) tt
+    some_cases P (λ xs. on_some (made asked fs ns rs) (λ ys. some (xs ++ ys))) (of_number f v) (number_says asked f v low) tt
     (λ cs here.
     some_cases P (λ ys. some (cs ++ ys)) (made asked fs ns rs) rest tt
     (λ ys say xs.
@@ -105,7 +105,7 @@ of_runs asked f fs ns (r ∷ rs) (small, fit) rest = run_step asked f fs r ns rs
 
 fields_say : (asked : Bool) (fs : List Field) (ns : List ℕ) (rs : List (List ℕ)) → AllLow fs → Slices rs → Found (Say asked fs ns rs) (made asked fs ns rs)
 unfolding made
-fields_say asked [] ns rs low fit = none-say asked ns rs
+fields_say asked [] ns rs low fit = none_say asked ns rs
 fields_say asked (f ∷ fs) ns rs low fit =
     cond_cases (Found (Say asked (f ∷ fs) ns rs)) (numeric f)
     (λ _. of_numbers asked f fs ns rs low.0 (λ ns. fields_say asked fs ns rs low.1 fit))

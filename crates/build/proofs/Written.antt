@@ -25,7 +25,7 @@ use Rattle.elements.specs.Besides.Matching.{Value, number, place, ItemAt, Opens,
 use Rattle.elements.specs.Matching.{indefinite, Break, False, True, in_message, in_list, opener}
 use Rattle.elements.specs.Besides.Matching as matching
 use Rattle.elements.specs.Reading.{item_end}
-use Rattle.elements.proofs.ElementLaws.{opener_low, end_cases, item-sound}
+use Rattle.elements.proofs.ElementLaws.{opener_low, end_cases, item_sound}
 use Rattle.layout.specs.Asked.{openly}
 use Rattle.parts.specs.Counting.{on_some, count_of}
 use Rattle.parts.proofs.Counting.{Found, some_cases}
@@ -33,7 +33,7 @@ use Rattle.parts.proofs.Counted.{counted}
 use Rattle.build.specs.Made.{one_item, headed, limited, truth, of_number, of_run}
 use Rattle.build.specs.Besides.Theorem.{Least, ListLeast, FieldLeast}
 use Rattle.build.proofs.Few.{Low}
-use Rattle.build.proofs.Shift.{shift, elements-shift}
+use Rattle.build.proofs.Shift.{shift, elements_shift}
 
 -- a field stands there, and its own heads are as short as can be
 abbrev pub LeastAt : Bool → List ℕ → Field → ℕ → Value → ℕ → Type 0
@@ -49,8 +49,8 @@ run_there xs r ys l e = ap (take l) (drop_at xs (r ++ ys) (length xs) refl) ∙ 
 abbrev pub Says : Bool → Field → ℕ → List ℕ → Type 0
 Says asked f v cs = (xs ys : List ℕ) → LeastAt asked (xs ++ (cs ++ ys)) f (length xs) (number v) (length xs + length cs)
 
-below-says : (asked : Bool) (limit v : ℕ) → limit ≤ 2 ^ 32 → Found (Says asked (field.Below limit) v) (limited limit v)
-below-says asked limit v h =
+below_says : (asked : Bool) (limit v : ℕ) → limit ≤ 2 ^ 32 → Found (Says asked (field.Below limit) v) (limited limit v)
+below_says asked limit v h =
     cond_cases (Found (Says asked (field.Below limit) v)) (ltb v limit)
     (λ t xs ys.
     let low : v < limit = ltb-true v limit t in
@@ -58,8 +58,8 @@ below-says asked limit v h =
     (matching.below (reads_back 0 v xs ys (omega arith) (omega arith)) low, run_there xs cs ys (length xs + length cs - length xs) (omega arith)))
     (λ _. tt)
 
-truth-says : (asked : Bool) (v : ℕ) → Found (Says asked field.Bool v) (truth v)
-truth-says asked v =
+truth_says : (asked : Bool) (v : ℕ) → Found (Says asked field.Bool v) (truth v)
+truth_says asked v =
     cond_cases (Found (Says asked field.Bool v)) (eqb v 0)
     (λ t xs ys.
     subst⁻¹ (λ (v : ℕ). LeastAt asked (xs ++ (False ∷ ys)) field.Bool (length xs) (number v) (length xs + 1)) (eqb-true v 0 t)
@@ -71,11 +71,11 @@ truth-says asked v =
     (matching.true (get_or-append_seam xs True ys 0), tt))
     (λ _. tt))
 
-pub number-says : (asked : Bool) (f : Field) (v : ℕ) → Low f → Found (Says asked f v) (of_number f v)
-number-says asked field.Item v h = tt
-number-says asked (field.List e) v h = tt
-number-says asked (field.Below limit) v h = below-says asked limit v h
-number-says asked field.Bool v h = truth-says asked v
+pub number_says : (asked : Bool) (f : Field) (v : ℕ) → Low f → Found (Says asked f v) (of_number f v)
+number_says asked field.Item v h = tt
+number_says asked (field.List e) v h = tt
+number_says asked (field.Below limit) v h = below_says asked limit v h
+number_says asked field.Bool v h = truth_says asked v
 
 -- ---- runs
 
@@ -85,10 +85,10 @@ Holds asked f r cs =
     (xs ys : List ℕ)
     → (a : ℕ) × (l : ℕ) × LeastAt asked (xs ++ (cs ++ ys)) f (length xs) (place a l) (length xs + length cs) × (run (xs ++ (cs ++ ys)) a l ≡ r)
 
-item-holds : (asked : Bool) (r : List ℕ) → Found (Holds asked field.Item r) (one_item r)
-item-holds asked r =
+item_holds : (asked : Bool) (r : List ℕ) → Found (Holds asked field.Item r) (one_item r)
+item_holds asked r =
     end_cases (Found (Holds asked field.Item r)) (λ q. cond (eqb q (length r)) (some r) none) (item_end r in_message 0)
-    (item-sound r in_message 0) tt
+    (item_sound r in_message 0) tt
     (λ q i.
     cond_cases (Found (Holds asked field.Item r)) (eqb q (length r))
     (λ t xs ys.
@@ -102,10 +102,10 @@ item-holds asked r =
 
 -- the head is as build writes it
 module _ (bs : List ℕ) (asked : Bool) where
-  is-least : (e : Element) (k p a : ℕ) → openly asked e ≡ false → Least bs (opener e) k p a → ListLeast bs asked e (Counted k) p a
-  is-least element.Item k p a t l = (t, l)
-  is-least element.Pair k p a t l = (t, l)
-  is-least element.Version k p a t l = l
+  is_least : (e : Element) (k p a : ℕ) → openly asked e ≡ false → Least bs (opener e) k p a → ListLeast bs asked e (Counted k) p a
+  is_least element.Item k p a t l = (t, l)
+  is_least element.Pair k p a t l = (t, l)
+  is_least element.Version k p a t l = l
 
   is_open : (e : Element) (p a : ℕ) → openly asked e ≡ true → ListLeast bs asked e Open p a
   is_open element.Item p a t = t
@@ -113,9 +113,9 @@ module _ (bs : List ℕ) (asked : Bool) where
   is_open element.Version p a t = absurd (false≢true t)
 
 -- a list or map of definite length: its head, and its run of so many elements
-headed-holds : (asked : Bool) (e : Element) (r : List ℕ) (k : ℕ) → openly asked e ≡ false → k < 2 ^ 64 → ElementsAt r in_list e 0 k 0 (length r)
+headed_holds : (asked : Bool) (e : Element) (r : List ℕ) (k : ℕ) → openly asked e ≡ false → k < 2 ^ 64 → ElementsAt r in_list e 0 k 0 (length r)
     → Holds asked (field.List e) r (shortest (opener e) k ++ r)
-headed-holds asked e r k definite small s xs ys =
+headed_holds asked e r k definite small s xs ys =
     let f : Field = field.List e in
     let major : ℕ = opener e in
     let h : List ℕ = shortest major k in
@@ -132,11 +132,11 @@ headed-holds asked e r k definite small s xs ys =
     ap (λ (l : List ℕ). run l (length xs) (a - length xs)) (append_assoc xs h (r ++ ys)) ∙ run_there xs h (r ++ ys) (a - length xs) (omega arith) in
     let next : a + length r ≡ length xs + length (h ++ r) = omega arith in
     let z : a + 0 ≡ a = omega arith in
-    let elements = subst (λ (n : ℕ). ElementsAt bs in_list e 0 k n (a + length r)) z (elements-shift (xs ++ h) r ys s) in (
+    let elements = subst (λ (n : ℕ). ElementsAt bs in_list e 0 k n (a + length r)) z (elements_shift (xs ++ h) r ys s) in (
       a,
       l,
       subst (λ (bs : List ℕ). LeastAt asked bs f (length xs) (place a l) (length xs + length (h ++ r))) same
-          (subst (λ (q : ℕ). LeastAt asked bs f (length xs) (place a l) q) next (matching.list (Counted k) opens elements refl, is-least bs asked e k (length xs) a definite least)),
+          (subst (λ (q : ℕ). LeastAt asked bs f (length xs) (place a l) q) next (matching.list (Counted k) opens elements refl, is_least bs asked e k (length xs) a definite least)),
       ap (λ (bs : List ℕ). run bs a l) (sym same) ∙ run_there (xs ++ h) r ys l (omega arith),
     )
 
@@ -159,11 +159,11 @@ open_holds asked e r k lasts s xs ys =
     ap (λ (l : List ℕ). get_or l (length xs) 0) (append_assoc xs (b ∷ []) (r ++ end)) ∙ get_or-append_seam xs b (r ++ end) 0 in
     let closes : get_or bs (a + length r) 0 ≡ Break =
     ap (λ (l : List ℕ). get_or l (a + length r) 0) (sym (append_assoc front r end))
-    ∙ ap (getD' ((front ++ r) ++ end)) (sym (length-append front r))
+    ∙ ap (get_or' ((front ++ r) ++ end)) (sym (length-append front r))
     ∙ get_or-append_seam (front ++ r) Break ys 0 in
     let next : a + length r + 1 ≡ length xs + length (b ∷ (r ++ (Break ∷ []))) = omega arith in
     let z : a + 0 ≡ a = omega arith in
-    let elements = subst (λ (n : ℕ). ElementsAt bs in_list e 0 k n (a + length r)) z (elements-shift front r end s) in (
+    let elements = subst (λ (n : ℕ). ElementsAt bs in_list e 0 k n (a + length r)) z (elements_shift front r end s) in (
       a,
       l,
       subst (λ (bs : List ℕ). LeastAt asked bs f (length xs) (place a l) (length xs + length (b ∷ (r ++ (Break ∷ []))))) same
@@ -171,18 +171,18 @@ open_holds asked e r k lasts s xs ys =
       ap (λ (bs : List ℕ). run bs a l) (sym same) ∙ run_there front r end l (omega arith),
     )
   where
-    getD' : List ℕ → ℕ → ℕ
-    getD' l n = get_or l n 0
+    get_or' : List ℕ → ℕ → ℕ
+    get_or' l n = get_or l n 0
 
-list-holds : (asked : Bool) (e : Element) (r : List ℕ) → length r < 2 ^ 64
+list_holds : (asked : Bool) (e : Element) (r : List ℕ) → length r < 2 ^ 64
     → Found (Holds asked (field.List e) r) (on_some (count_of e r) (λ k. some (headed asked e r k)))
-list-holds asked e r small =
+list_holds asked e r small =
     some_cases (Found (Holds asked (field.List e) r)) (λ k. some (headed asked e r k)) (count_of e r) (counted e r) tt
     (λ k (s, h).
-    cond_cases (Holds asked (field.List e) r) (openly asked e) (λ t. open_holds asked e r k t s) (λ t. headed-holds asked e r k t (omega arith) s))
+    cond_cases (Holds asked (field.List e) r) (openly asked e) (λ t. open_holds asked e r k t s) (λ t. headed_holds asked e r k t (omega arith) s))
 
 pub run_holds : (asked : Bool) (f : Field) (r : List ℕ) → length r < 2 ^ 64 → Found (Holds asked f r) (of_run asked f r)
-run_holds asked field.Item r small = item-holds asked r
-run_holds asked (field.List e) r small = list-holds asked e r small
+run_holds asked field.Item r small = item_holds asked r
+run_holds asked (field.List e) r small = list_holds asked e r small
 run_holds asked (field.Below limit) r small = tt
 run_holds asked field.Bool r small = tt

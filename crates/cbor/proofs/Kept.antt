@@ -11,11 +11,11 @@ use Rattle.item.specs.Grammar.{One, Items, no_more, nesting}
 use Rattle.item.specs.Verdict.{Stack, nil, push, judge, start, verdict}
 use Rattle.item.specs.Besides.Verdict.{heads_of}
 use Rattle.item.proofs.Derivative.{Rest, then}
-use Rattle.item.proofs.Parts.{judge-same}
+use Rattle.item.proofs.Parts.{judge_same}
 use Rattle.cbor.specs.declared.Walk.{Walk}
 use Rattle.moves.specs.Inside.Levels.{frame_of, tell}
 use Rattle.cbor.specs.Inside.Walk.{levels, stack_of, comes, Sound, Resumed, first_at}
-use Rattle.moves.proofs.Tell.{pair, tell-one, tell-empty}
+use Rattle.moves.proofs.Tell.{pair, tell_one, tell_empty}
 
 pub first_sound : (at d : ℕ) → Sound (first_at at d)
 unfolding first_at
@@ -53,9 +53,9 @@ unfolding first_at stack_of
 first_verdict xs at d h =
     let z : nesting - (nesting - d) ≡ d = omega arith in
     ap (λ (t : Verdict × ℕ). t.0)
-    (tell-empty xs at 0 0 (push (nesting - (nesting - d)) (Items 1) (empty (nesting - d)))
-    ∙ ap (λ (n : ℕ). tell xs at 0 (push n (Items 1) (empty (nesting - d)))) z ∙ sym (tell-one xs at 0 d (empty (nesting - d))))
-    ∙ judge-same (push d One (empty (nesting - d))) (start d) to back (drop at xs) at
+    (tell_empty xs at 0 0 (push (nesting - (nesting - d)) (Items 1) (empty (nesting - d)))
+    ∙ ap (λ (n : ℕ). tell xs at 0 (push n (Items 1) (empty (nesting - d)))) z ∙ sym (tell_one xs at 0 d (empty (nesting - d))))
+    ∙ judge_same (push d One (empty (nesting - d))) (start d) to back (drop at xs) at
   where
     to : (bs : List ℕ) → Rest (push d One (empty (nesting - d))) bs → Rest (start d) bs
     to bs (then {cs = cs} g r) = then g (empty_rest (nesting - d) cs r)
@@ -67,7 +67,7 @@ first_verdict xs at d h =
 pub first_comes : (xs : List ℕ) → comes xs (first_at 0 nesting) ≡ (verdict xs, heads_of xs)
 unfolding first_at stack_of levels
 first_comes xs =
-    tell-empty xs 0 0 0 (push nesting (Items 1) nil) ∙ sym (tell-one xs 0 0 nesting nil) ∙ pair refl (omega arith)
+    tell_empty xs 0 0 0 (push nesting (Items 1) nil) ∙ sym (tell_one xs 0 0 nesting nil) ∙ pair refl (omega arith)
 
 -- Of a message whose first bytes are xs, the walk w will come to what a walk from the start comes to, whatever bytes
 -- come after: it may be kept instead of reading them again (document 02, K5).
@@ -81,12 +81,12 @@ kept_first xs ys = first_comes (xs ++ ys)
 pub kept_resumed : (xs : List ℕ) (w u : Walk) (v : Verdict) → Resumed xs w v u → Kept xs w → Kept xs u
 kept_resumed xs w u v r k ys = r.more ys ∙ k ys
 
-pub kept-fed : (xs zs : List ℕ) (w : Walk) → Kept xs w → Kept (xs ++ zs) w
-kept-fed xs zs w k ys = rw append_assoc (k (zs ++ ys))
+pub kept_fed : (xs zs : List ℕ) (w : Walk) → Kept xs w → Kept (xs ++ zs) w
+kept_fed xs zs w k ys = rw append_assoc (k (zs ++ ys))
 
 -- And so each time the verdict and the heads are those of a walk from the start.
-pub kept-told : (xs : List ℕ) (w u : Walk) (v : Verdict) → Resumed xs w v u → Kept xs w → (v ≡ verdict xs) × (u.heads ≡ heads_of xs)
-kept-told xs w u v r k =
+pub kept_told : (xs : List ℕ) (w u : Walk) (v : Verdict) → Resumed xs w v u → Kept xs w → (v ≡ verdict xs) × (u.heads ≡ heads_of xs)
+kept_told xs w u v r k =
     let e : ◌≡◌ {A = Verdict × ℕ} (v, u.heads) (verdict xs, heads_of xs) =
     r.told ∙ subst (λ (l : List ℕ). comes l w ≡ (verdict l, heads_of l)) (append-nil xs) (k []) in
     (ap (λ (t : Verdict × ℕ). t.0) e, ap (λ (t : Verdict × ℕ). t.1) e)

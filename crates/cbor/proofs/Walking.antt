@@ -21,18 +21,18 @@ use Rattle.cbor.specs.Inside.Walk.{levels, stack_of, comes, Outer, Sound, Resume
 use Rattle.moves.specs.declared.Move.{Move}
 use Rattle.moves.specs.declared.Move.TheVariants.{Stay, Down, Skip, Fault, Lack}
 use Rattle.moves.specs.Inside.Moves.{Stays, Downs, Skips, Stops, Moves}
-use Rattle.moves.proofs.Tell.{tell-nil, tell_none, tell-empty, tell-content, tell-string, tell-starved}
+use Rattle.moves.proofs.Tell.{tell_nil, tell_none, tell_empty, tell_content, tell_string, tell_starved}
 
 -- What was promised of an answer, by what the answer is.
 module _ {xs : List ℕ} {at k c d : ℕ} {m : Move} (h : Moves xs at k c d m) where
-  pub if-stay : {p : ℕ} {l : Level} → m ≡ Stay p l → Stays xs at k c d p l
-  if-stay e = subst (Moves xs at k c d) e h
+  pub if_stay : {p : ℕ} {l : Level} → m ≡ Stay p l → Stays xs at k c d p l
+  if_stay e = subst (Moves xs at k c d) e h
 
-  pub if-down : {p : ℕ} {l i : Level} → m ≡ Down p l i → Downs xs at k c d p l i
-  if-down e = subst (Moves xs at k c d) e h
+  pub if_down : {p : ℕ} {l i : Level} → m ≡ Down p l i → Downs xs at k c d p l i
+  if_down e = subst (Moves xs at k c d) e h
 
-  pub if-skip : {v : ℕ} {l : Level} → m ≡ Skip v l → Skips xs at k c d v l
-  if-skip e = subst (Moves xs at k c d) e h
+  pub if_skip : {v : ℕ} {l : Level} → m ≡ Skip v l → Skips xs at k c d v l
+  if_skip e = subst (Moves xs at k c d) e h
 
 -- A walk that began as w is at a place, in a level within others.
 pub record Under (xs : List ℕ) (w : Walk) (at h k c d : ℕ) (ks cs : List ℕ) : Type 0 where
@@ -58,13 +58,13 @@ begins xs at h k c d ks cs s a =
       few = s.few;
       good = s.good;
       outer = s.outer;
-      same = λ ys. sym (tell-empty (xs ++ ys) at h 0 (push (nesting - d) (frame_of k c) (levels ks cs d)));
+      same = λ ys. sym (tell_empty (xs ++ ys) at h 0 (push (nesting - d) (frame_of k c) (levels ks cs d)));
     }
 
 -- The rest of a string is there, and the walk goes on after it; or not all of it is there.
 past_string : (zs : List ℕ) (at h n : ℕ) (fs : Stack) → n ≤ length zs - at
     → tell zs (at + n) h (push 0 (Content 0) fs) ≡ tell zs at h (push 0 (Content n) fs)
-past_string zs at h n fs l = tell-empty zs (at + n) h 0 fs ∙ sym (tell-string zs at h n 0 fs l)
+past_string zs at h n fs l = tell_empty zs (at + n) h 0 fs ∙ sym (tell_string zs at h n 0 fs l)
 
 pub starts : (xs : List ℕ) (w u : Walk) (v : Verdict) → w.skip ≤ length xs - w.at
     → Resumed xs (walk_of (w.at + w.skip) 0 w.heads w.kind w.count w.depth w.kinds w.counts) v u → Resumed xs w v u
@@ -84,7 +84,7 @@ unfolding stack_of
 starts_cut xs w n r e s a l q =
     let f = s.few in
     record {
-      told = sym (goes xs (omega arith) ∙ tell-starved xs n w.heads r 0 around (omega arith) (omega arith));
+      told = sym (goes xs (omega arith) ∙ tell_starved xs n w.heads r 0 around (omega arith) (omega arith));
       more = λ ys. sym (goes (xs ++ ys) (omega (arith, length-append xs ys)));
       place = omega arith;
       sound = record { few = omega arith; good = s.good; outer = s.outer };
@@ -100,29 +100,29 @@ starts_cut xs w n r e s a l q =
         (push 0 (Content r) (push (nesting - w.depth) (frame_of w.kind w.count) (levels w.kinds w.counts w.depth)))
     goes zs m =
         let z : w.at + (n - w.at) ≡ n = omega arith in
-        tell-content zs w.at w.heads (n - w.at) w.skip 0 0 around (omega arith) m
+        tell_content zs w.at w.heads (n - w.at) w.skip 0 0 around (omega arith) m
         ∙ ap₂ (λ (j i : ℕ). tell zs j w.heads (push 0 (Content i) around)) z (sym q)
 
 -- A level above the lowest n is not among them.
-levels-set : (ks cs : List ℕ) (n i k c : ℕ) → n ≤ i → levels (set ks i k) (set cs i c) n ≡ levels ks cs n
+levels_set : (ks cs : List ℕ) (n i k c : ℕ) → n ≤ i → levels (set ks i k) (set cs i c) n ≡ levels ks cs n
 unfolding levels
-levels-set ks cs zero i k c h = refl
-levels-set ks cs (suc n) i k c h =
+levels_set ks cs zero i k c h = refl
+levels_set ks cs (suc n) i k c h =
     rw
-    (get_or-set_other ks i n k 0 (λ (e : n ≡ i). omega arith), get_or-set_other cs i n c 0 (λ (e : n ≡ i). omega arith), levels-set ks cs n i k c (omega arith))
+    (get_or-set_other ks i n k 0 (λ (e : n ≡ i). omega arith), get_or-set_other cs i n c 0 (λ (e : n ≡ i). omega arith), levels_set ks cs n i k c (omega arith))
 
 levels_put : (ks cs : List ℕ) (d k c : ℕ) → d < length ks → d < length cs
     → levels (set ks d k) (set cs d c) (d + 1) ≡ push (nesting - d) (frame_of k c) (levels ks cs d)
 unfolding levels
 levels_put ks cs d k c h l =
-    rw (add-one d) (rw (get_or-set_same ks d k 0 h, get_or-set_same cs d c 0 l, levels-set ks cs d d k c (omega arith)))
+    rw (add-one d) (rw (get_or-set_same ks d k 0 h, get_or-set_same cs d c 0 l, levels_set ks cs d d k c (omega arith)))
 
 levels_top : (ks cs : List ℕ) (d : ℕ) → 0 < d
     → levels ks cs d ≡ push (nesting - (d - 1)) (frame_of (get_or ks (d - 1) 0) (get_or cs (d - 1) 0)) (levels ks cs (d - 1))
 levels_top ks cs d h = let e : d ≡ suc (d - 1) = omega arith in ap (levels ks cs) e ∙ (unfold levels in refl)
 
-set-each : (ks : List ℕ) (d k : ℕ) → d < length ks → k < 4 → ((i : ℕ) → i < d → get_or ks i 0 < 4) → (i : ℕ) → i < d + 1 → get_or (set ks d k) i 0 < 4
-set-each ks d k h l e i q = of (eqb i d) refl
+set_each : (ks : List ℕ) (d k : ℕ) → d < length ks → k < 4 → ((i : ℕ) → i < d → get_or ks i 0 < 4) → (i : ℕ) → i < d + 1 → get_or (set ks d k) i 0 < 4
+set_each ks d k h l e i q = of (eqb i d) refl
   where
     of : (t : Bool) → eqb i d ≡ t → get_or (set ks d k) i 0 < 4
     of true p = let z : i ≡ d = eqb-true i d p in rw (z, get_or-set_same ks d k 0 h) l
@@ -151,7 +151,7 @@ module _ {xs : List ℕ} {w : Walk} {at h k c d : ℕ} {ks cs : List ℕ} (u : U
         outer = record {
           kinds_size = length-set ks d l.kind ∙ a;
           counts_size = length-set cs d l.count ∙ b;
-          each = set-each ks d l.kind (omega arith) m.items u.outer.each;
+          each = set_each ks d l.kind (omega arith) m.items u.outer.each;
         };
         same = λ ys.
             ap (λ (fs : Stack). tell (xs ++ ys) p (h + 1) (push (nesting - (d + 1)) (frame_of i.kind i.count) fs))
@@ -159,8 +159,8 @@ module _ {xs : List ℕ} {w : Walk} {at h k c d : ℕ} {ks cs : List ℕ} (u : U
             ∙ sym (m.same ys (levels ks cs d) h) ∙ u.same ys;
       }
 
-  nothing-here : (zs : List ℕ) → k ≡ 0 → c ≡ 0 → tell zs at h (push (nesting - d) (frame_of k c) (levels ks cs d)) ≡ tell zs at h (levels ks cs d)
-  nothing-here zs e z =
+  nothing_here : (zs : List ℕ) → k ≡ 0 → c ≡ 0 → tell zs at h (push (nesting - d) (frame_of k c) (levels ks cs d)) ≡ tell zs at h (levels ks cs d)
+  nothing_here zs e z =
       ap₂ (λ (i j : ℕ). tell zs at h (push (nesting - d) (frame_of i j) (levels ks cs d))) e z ∙ tell_none zs at h (nesting - d) (levels ks cs d)
 
   pub pops : k ≡ 0 → c ≡ 0 → 0 < d → Under xs w at h (get_or ks (d - 1) 0) (get_or cs (d - 1) 0) (d - 1) ks cs
@@ -172,7 +172,7 @@ module _ {xs : List ℕ} {w : Walk} {at h k c d : ℕ} {ks cs : List ℕ} (u : U
         few = u.few;
         good = record { tall = omega arith; low = λ a b. omega arith; none = λ a. absurd (omega arith) };
         outer = record { kinds_size = u.outer.kinds_size; counts_size = u.outer.counts_size; each = λ i q. u.outer.each i (omega arith) };
-        same = λ ys. ap (tell (xs ++ ys) at h) (sym (levels_top ks cs d p)) ∙ sym (nothing-here (xs ++ ys) e z) ∙ u.same ys;
+        same = λ ys. ap (tell (xs ++ ys) at h) (sym (levels_top ks cs d p)) ∙ sym (nothing_here (xs ++ ys) e z) ∙ u.same ys;
       }
 
   -- The walk stops where it is.
@@ -181,14 +181,14 @@ module _ {xs : List ℕ} {w : Walk} {at h k c d : ℕ} {ks cs : List ℕ} (u : U
   rests v e =
       record {
         told = e ∙ now u;
-        more = λ ys. tell-empty (xs ++ ys) at h 0 (push (nesting - d) (frame_of k c) (levels ks cs d)) ∙ u.same ys;
+        more = λ ys. tell_empty (xs ++ ys) at h 0 (push (nesting - d) (frame_of k c) (levels ks cs d)) ∙ u.same ys;
         place = u.place;
         sound = record { few = u.few; good = u.good; outer = u.outer };
       }
 
   pub whole : k ≡ 0 → c ≡ 0 → d ≡ 0 → Resumed xs w (Whole at) (walk_of at 0 h k c d ks cs)
   unfolding levels
-  whole e z q = rests (Whole at) (sym (nothing-here xs e z ∙ ap (λ (n : ℕ). tell xs at h (levels ks cs n)) q ∙ tell-nil xs at h))
+  whole e z q = rests (Whole at) (sym (nothing_here xs e z ∙ ap (λ (n : ℕ). tell xs at h (levels ks cs n)) q ∙ tell_nil xs at h))
 
   stops : (v : Verdict) → Stops xs at k c d v → Resumed xs w v (walk_of at 0 h k c d ks cs)
   stops v m = rests v (sym (m (levels ks cs d) h))
@@ -213,7 +213,7 @@ module _ {xs : List ℕ} {w : Walk} {at h k c d : ℕ} {ks cs : List ℕ} (u : U
             ∙ subst (λ (zs : List ℕ). tell zs at h (push (nesting - d) (frame_of k c) (levels ks cs d)) ≡ tell zs (length xs) (h + 1) (past zs))
             (append-nil xs)
             (m.same [] (levels ks cs d) h)
-            ∙ tell-starved xs (length xs) (h + 1) v 0 (push (nesting - d) (frame_of l.kind l.count) (levels ks cs d)) (omega arith) m.some);
+            ∙ tell_starved xs (length xs) (h + 1) v 0 (push (nesting - d) (frame_of l.kind l.count) (levels ks cs d)) (omega arith) m.some);
         more = λ ys. ap (λ (j : ℕ). tell (xs ++ ys) j (h + 1) (past xs)) (sym e) ∙ sym (m.same ys (levels ks cs d) h) ∙ u.same ys;
         place = omega arith;
         sound = record { few = omega arith; good = m.good; outer = u.outer };

@@ -11,9 +11,9 @@ use Rattle.connection.specs.declared.Gate.TheVariants.{Open, Closed}
 use Rattle.connection.specs.Closings.{closing_of, is_open, closed_by}
 
 -- a closed gate stays as it is
-pub closed-stays : (g : Gate) (x : Closing) → is_open g ≡ false → closed_by g x ≡ g
-closed-stays Open x e = absurd (true≢false e)
-closed-stays (Closed y) x e = refl
+pub closed_stays : (g : Gate) (x : Closing) → is_open g ≡ false → closed_by g x ≡ g
+closed_stays Open x e = absurd (true≢false e)
+closed_stays (Closed y) x e = refl
 
 -- a gate that tells a closing is closed
 pub closed_so : (g : Gate) (x : ℕ × Option ℕ) → closing_of g ≡ some x → is_open g ≡ false

@@ -11,7 +11,7 @@ use lib.ListN.{length, get_or, length-set}
 use lib.Seq.{get_or-set_same}
 use Rattle.base.proofs.Conds.{exactly_when}
 use Rattle.ring.specs.Ring.{base_of}
-use Rattle.ring.proofs.Stores.{stream_append, stream-same}
+use Rattle.ring.proofs.Stores.{stream_append, stream_same}
 use Rattle.wire.specs.Instances.{instances}
 use Rattle.wire.proofs.InstanceLaws.{at_most}
 use Rattle.messages.specs.declared.Message.{Message}
@@ -125,7 +125,7 @@ freed_held c store i j l k h =
     let start : get_or (handed c i j).receiving.starts i 0 ≡ (from + n) % cap = get_or-set_same c.receiving.starts i ((from + n) % cap) 0 l in
     let left : get_or (handed c i j).receiving.held i 0 ≡ all - n = get_or-set_same c.receiving.held i (all - n) 0 k in
     ap (λ (k : ℕ). first_held c store i k) whole ∙ stream_append store base cap from n (all - n)
-    ∙ ap (λ (bs : List ℕ). first_held c store i n ++ bs) (stream-same store base cap (from + n) ((from + n) % cap) (all - n) (sym (mod-mod (from + n) cap)) ∙ rw (start, left))
+    ∙ ap (λ (bs : List ℕ). first_held c store i n ++ bs) (stream_same store base cap (from + n) ((from + n) % cap) (all - n) (sym (mod-mod (from + n) cap)) ∙ rw (start, left))
 
 pub frees : Frees
 frees c store i s z =

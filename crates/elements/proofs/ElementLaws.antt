@@ -17,14 +17,14 @@ use Rattle.head.specs.declared.Initial.TheVariants as says
 use Rattle.head.specs.Read.{head_at, head_by}
 use Rattle.head.specs.declared.read.Head.{Head}
 use Rattle.head.specs.declared.read.Head.TheVariants as head
-use Rattle.head.proofs.ReadLaws.{definite-within}
+use Rattle.head.proofs.ReadLaws.{definite_within}
 use Rattle.item.specs.declared.Verdict.{Verdict}
 use Rattle.item.specs.declared.Verdict.TheVariants.{Whole, Bad, Incomplete}
 use Rattle.item.specs.Grammar.{Frame, One, Items, Elements, Pairs, Content, Reads, nest, indefinite, enter, one, no_more, item, end_array, element, end_map, key, value, no_byte}
 use Rattle.item.specs.Verdict.{judge, met, start}
 use Rattle.item.proofs.Local.{Cuts, cuts}
 use Rattle.item.proofs.Derivative.{nothing}
-use Rattle.item.proofs.Parts.{whole_reads, whole-place, reads_whole}
+use Rattle.item.proofs.Parts.{whole_reads, whole_place, reads_whole}
 use Rattle.elements.specs.declared.Element.{Element}
 use Rattle.elements.specs.declared.Element.TheVariants as element
 use Rattle.elements.specs.declared.Extent.{Extent}
@@ -44,7 +44,7 @@ use Rattle.elements.specs.Matching.{Break, past, array, map, versions, sizes, Fa
 use Rattle.elements.specs.Besides.Matching as matching
 use Rattle.elements.specs.Inside.{before, items_up_to}
 use Rattle.elements.specs.Reading.{on_number, on_opening, on_end, unsigned, unsigned_at, opens, opens_at, closed, ended, item_end, leaving, size_end, sized_end, two_end, pair_end, key_at, version_at, element_at, walk, elements_of, below, up_to, listed, bool_of, part_of}
-use Rattle.elements.proofs.Heads.{into, out, break_byte, open-byte, byte_head}
+use Rattle.elements.proofs.Heads.{into, out, break_byte, open_byte, byte_head}
 
 -- ---- by cases on what was found
 
@@ -76,17 +76,17 @@ pub end_cases : {A : Type 0} (P : A → Type 0) {R : ℕ → Type 0} {other : A}
 end_cases P k (At q) r x f = f q r
 end_cases P k Nowhere r x f = x
 
-ends-map : {R S : ℕ → Type 0} (e : End) → ((q : ℕ) → R q → S q) → Ends R e → Ends S e
-ends-map (At q) f r = f q r
-ends-map Nowhere f r = tt
+ends_map : {R S : ℕ → Type 0} (e : End) → ((q : ℕ) → R q → S q) → Ends R e → Ends S e
+ends_map (At q) f r = f q r
+ends_map Nowhere f r = tt
 
-numbers-map : {R S : ℕ → ℕ → Type 0} (n : Number) → ((v q : ℕ) → R v q → S v q) → Numbers R n → Numbers S n
-numbers-map (Is v q) f r = f v q r
-numbers-map Not f r = tt
+numbers_map : {R S : ℕ → ℕ → Type 0} (n : Number) → ((v q : ℕ) → R v q → S v q) → Numbers R n → Numbers S n
+numbers_map (Is v q) f r = f v q r
+numbers_map Not f r = tt
 
-leaving-map : {R : ℕ → Type 0} (S : ℕ → ℕ → Type 0) (next : ℕ) (e : End) → ((q : ℕ) → R q → S next q) → Ends R e → Numbers S (leaving next e)
-leaving-map S next (At q) f r = f q r
-leaving-map S next Nowhere f r = tt
+leaving_map : {R : ℕ → Type 0} (S : ℕ → ℕ → Type 0) (next : ℕ) (e : End) → ((q : ℕ) → R q → S next q) → Ends R e → Numbers S (leaving next e)
+leaving_map S next (At q) f r = f q r
+leaving_map S next Nowhere f r = tt
 
 -- the major type of a list is that of an array or a map
 pub opener_low : (e : Element) → opener e < 7
@@ -101,108 +101,108 @@ opener_high element.Version = omega arith
 
 -- ---- heads
 
-unsigned-says : (h : Head) → Numbers (λ v q. h ≡ head.Definite 0 v q) (unsigned h)
-unsigned-says (head.Definite M v q) =
+unsigned_says : (h : Head) → Numbers (λ v q. h ≡ head.Definite 0 v q) (unsigned h)
+unsigned_says (head.Definite M v q) =
     cond_cases (Numbers (λ w r. head.Definite M v q ≡ head.Definite 0 w r)) (eqb M 0)
     (λ t. ap (λ (n : ℕ). head.Definite n v q) (eqb-true M 0 t)) (λ _. tt)
-unsigned-says (head.Indefinite M q) = tt
-unsigned-says (head.Break q) = tt
-unsigned-says head.Short = tt
-unsigned-says head.Bad = tt
+unsigned_says (head.Indefinite M q) = tt
+unsigned_says (head.Break q) = tt
+unsigned_says head.Short = tt
+unsigned_says head.Bad = tt
 
 module _ (bs : List ℕ) where
-  pub unsigned-sound : (p : ℕ) → Numbers (λ v q. UnsignedAt bs p v q) (unsigned_at bs p)
+  pub unsigned_sound : (p : ℕ) → Numbers (λ v q. UnsignedAt bs p v q) (unsigned_at bs p)
   unfolding unsigned_at
-  unsigned-sound p = unsigned-says (head_at bs p)
+  unsigned_sound p = unsigned_says (head_at bs p)
 
-  pub unsigned-found : (p : ℕ) {v q : ℕ} → UnsignedAt bs p v q → unsigned_at bs p ≡ Is v q
+  pub unsigned_found : (p : ℕ) {v q : ℕ} → UnsignedAt bs p v q → unsigned_at bs p ≡ Is v q
   unfolding unsigned_at
-  unsigned-found p e = ap unsigned e
+  unsigned_found p e = ap unsigned e
 
-  pub opens-sound : (m p : ℕ) → Openings (λ x a. Opens bs m p x a) (opens_at bs m p)
+  pub opens_sound : (m p : ℕ) → Openings (λ x a. Opens bs m p x a) (opens_at bs m p)
   unfolding opens_at
-  opens-sound m p = of (head_at bs p) refl
+  opens_sound m p = of (head_at bs p) refl
     where
       of : (h : Head) → head_at bs p ≡ h → Openings (λ x a. Opens bs m p x a) (opens m h)
       of (head.Definite M v q) e =
           cond_cases (Openings (λ x a. Opens bs m p x a)) (eqb M m) (λ t. e ∙ ap (λ (n : ℕ). head.Definite n v q) (eqb-true M m t)) (λ _. tt)
       of (head.Indefinite M q) e =
           cond_cases (Openings (λ x a. Opens bs m p x a)) (eqb M m)
-          (λ t. let w = open-byte bs p e in (omega (arith, w.0, eqb-true M m t), w.1)) (λ _. tt)
+          (λ t. let w = open_byte bs p e in (omega (arith, w.0, eqb-true M m t), w.1)) (λ _. tt)
       of (head.Break q) e = tt
       of head.Short e = tt
       of head.Bad e = tt
 
   -- a byte that is not 0 is there
-  pub byte-there : (p b : ℕ) → get_or bs p 0 ≡ b → 0 < b → p < length bs
-  byte-there p b e h = elim (dec_lt p (length bs)) [
+  pub byte_there : (p b : ℕ) → get_or bs p 0 ≡ b → 0 < b → p < length bs
+  byte_there p b e h = elim (dec_lt p (length bs)) [
     | yes y ↦ y
     | no x ↦ absurd (omega (arith, e, get_or-eq_default bs 0 {n = p} (omega arith)))
   ]
 
-  open-head : (e : Element) (p : ℕ) → get_or bs p 0 ≡ opener e * 32 + 31 → head_at bs p ≡ head.Indefinite (opener e) (p + 1)
+  open_head : (e : Element) (p : ℕ) → get_or bs p 0 ≡ opener e * 32 + 31 → head_at bs p ≡ head.Indefinite (opener e) (p + 1)
   unfolding head_by initial
-  open-head element.Item p h = byte_head bs p 159 h (omega arith)
-  open-head element.Pair p h = byte_head bs p 159 h (omega arith)
-  open-head element.Version p h = byte_head bs p 191 h (omega arith)
+  open_head element.Item p h = byte_head bs p 159 h (omega arith)
+  open_head element.Pair p h = byte_head bs p 159 h (omega arith)
+  open_head element.Version p h = byte_head bs p 191 h (omega arith)
 
-  pub opens-found : (e : Element) (p : ℕ) (x : Extent) {a : ℕ} → Opens bs (opener e) p x a → opens_at bs (opener e) p ≡ opening.At x a
+  pub opens_found : (e : Element) (p : ℕ) (x : Extent) {a : ℕ} → Opens bs (opener e) p x a → opens_at bs (opener e) p ≡ opening.At x a
   unfolding opens_at
-  opens-found e p (Counted k) o = ap (opens (opener e)) o ∙ rw (eq-eqb (opener e) (opener e) refl)
-  opens-found e p Open (b, n) = ap (opens (opener e)) (open-head e p b) ∙ rw (eq-eqb (opener e) (opener e) refl) (ap (opening.At Open) (sym n))
-  opens-found e p Rest o = absurd o
+  opens_found e p (Counted k) o = ap (opens (opener e)) o ∙ rw (eq-eqb (opener e) (opener e) refl)
+  opens_found e p Open (b, n) = ap (opens (opener e)) (open_head e p b) ∙ rw (eq-eqb (opener e) (opener e) refl) (ap (opening.At Open) (sym n))
+  opens_found e p Rest o = absurd o
 
-  pub opens-within : (m p : ℕ) (x : Extent) {a : ℕ} → 0 < m → Opens bs m p x a → (p < a) × (a ≤ length bs)
-  opens-within m p (Counted k) h o = definite-within bs p o
-  opens-within m p Open h (b, n) = (omega arith, omega (arith, byte-there p (m * 32 + 31) b (omega arith), n))
-  opens-within m p Rest h o = absurd o
+  pub opens_within : (m p : ℕ) (x : Extent) {a : ℕ} → 0 < m → Opens bs m p x a → (p < a) × (a ≤ length bs)
+  opens_within m p (Counted k) h o = definite_within bs p o
+  opens_within m p Open h (b, n) = (omega arith, omega (arith, byte_there p (m * 32 + 31) b (omega arith), n))
+  opens_within m p Rest h o = absurd o
 
   -- an array or map that is at its end, with its break, ends in the bytes
-  pub closed-true : (x : Extent) (k q : ℕ) → closed bs x k q ≡ true → Closes bs x k q
-  closed-true (Counted n) k q t = eqb-true k n t
-  closed-true Open k q t = eqb-true (get_or bs q 0) Break t
-  closed-true Rest k q t = eqb-true q (length bs) t
+  pub closed_true : (x : Extent) (k q : ℕ) → closed bs x k q ≡ true → Closes bs x k q
+  closed_true (Counted n) k q t = eqb-true k n t
+  closed_true Open k q t = eqb-true (get_or bs q 0) Break t
+  closed_true Rest k q t = eqb-true q (length bs) t
 
-  closes-true : (x : Extent) (k q : ℕ) → Closes bs x k q → closed bs x k q ≡ true
-  closes-true (Counted n) k q c = eq-eqb k n c
-  closes-true Open k q c = eq-eqb (get_or bs q 0) Break c
-  closes-true Rest k q c = eq-eqb q (length bs) c
+  closes_true : (x : Extent) (k q : ℕ) → Closes bs x k q → closed bs x k q ≡ true
+  closes_true (Counted n) k q c = eq-eqb k n c
+  closes_true Open k q c = eq-eqb (get_or bs q 0) Break c
+  closes_true Rest k q c = eq-eqb q (length bs) c
 
-  pub past-inside : (x : Extent) (k : ℕ) {q : ℕ} → q ≤ length bs → Closes bs x k q → (q ≤ past x q) × (past x q ≤ length bs)
-  past-inside (Counted n) k h c = (omega arith, h)
-  past-inside Open k {q} h c = (omega arith, omega (arith, byte-there q Break c (omega arith)))
-  past-inside Rest k h c = (omega arith, h)
+  pub past_inside : (x : Extent) (k : ℕ) {q : ℕ} → q ≤ length bs → Closes bs x k q → (q ≤ past x q) × (past x q ≤ length bs)
+  past_inside (Counted n) k h c = (omega arith, h)
+  past_inside Open k {q} h c = (omega arith, omega (arith, byte_there q Break c (omega arith)))
+  past_inside Rest k h c = (omega arith, h)
 
   -- ---- items
 
-  ended-sound : (v : Verdict) → Ends (λ q. v ≡ Whole q) (ended v)
-  ended-sound (Whole q) = refl
-  ended-sound (Bad q) = tt
-  ended-sound Incomplete = tt
+  ended_sound : (v : Verdict) → Ends (λ q. v ≡ Whole q) (ended v)
+  ended_sound (Whole q) = refl
+  ended_sound (Bad q) = tt
+  ended_sound Incomplete = tt
 
   -- past the end there is no item
-  pub item-past : (d p : ℕ) → length bs < p → Nowhere ≡ item_end bs d p
+  pub item_past : (d p : ℕ) → length bs < p → Nowhere ≡ item_end bs d p
   unfolding item_end judge met
-  item-past d p h = let e : drop p bs ≡ _ = drop_of_length-le bs {i = p} (omega arith) in rw e
+  item_past d p h = let e : drop p bs ≡ _ = drop_of_length-le bs {i = p} (omega arith) in rw e
 
-  item-here : (d p : ℕ) → p ≤ length bs → Ends (λ q. ItemAt bs d p q) (item_end bs d p)
+  item_here : (d p : ℕ) → p ≤ length bs → Ends (λ q. ItemAt bs d p q) (item_end bs d p)
   unfolding item_end
-  item-here d p h =
-      ends-map (ended (judge (drop p bs) p (start d)))
+  item_here d p h =
+      ends_map (ended (judge (drop p bs) p (start d)))
       (λ q e.
-      let w = whole-place bs p q d One e in
+      let w = whole_place bs p q d One e in
       record { forward = w.0; inside = omega (arith, w.1, length-drop p bs); reads = whole_reads bs p q d One e })
-      (ended-sound (judge (drop p bs) p (start d)))
+      (ended_sound (judge (drop p bs) p (start d)))
 
-  pub item-sound : (d p : ℕ) → Ends (λ q. ItemAt bs d p q) (item_end bs d p)
-  item-sound d p = elim (dec_lt (length bs) p) [
-    | yes y ↦ subst (Ends (λ q. ItemAt bs d p q)) (item-past d p y) tt
-    | no x ↦ item-here d p (omega arith)
+  pub item_sound : (d p : ℕ) → Ends (λ q. ItemAt bs d p q) (item_end bs d p)
+  item_sound d p = elim (dec_lt (length bs) p) [
+    | yes y ↦ subst (Ends (λ q. ItemAt bs d p q)) (item_past d p y) tt
+    | no x ↦ item_here d p (omega arith)
   ]
 
-  pub item-found : {d p q : ℕ} → ItemAt bs d p q → item_end bs d p ≡ At q
+  pub item_found : {d p q : ℕ} → ItemAt bs d p q → item_end bs d p ≡ At q
   unfolding item_end
-  item-found {d} {p} {q} s = ap ended (reads_whole bs p q d One s.forward s.inside s.reads)
+  item_found {d} {p} {q} s = ap ended (reads_whole bs p q d One s.forward s.inside s.reads)
 
   -- what is read ends no earlier than it begins
   pub forward : {d : ℕ} {f : Frame} {p q : ℕ} → p ≤ length bs → q ≤ length bs → Reads d f (drop p bs) (drop q bs) → p ≤ q
@@ -212,17 +212,17 @@ module _ (bs : List ℕ) where
       of (a, e, _) = omega (arith, ap length e ∙ length-append a (drop q bs), length-drop p bs, length-drop q bs)
 
   -- a number is an item within any nesting
-  pub number-item : {d p v q : ℕ} → UnsignedAt bs p v q → ItemAt bs d p q
+  pub number_item : {d p v q : ℕ} → UnsignedAt bs p v q → ItemAt bs d p q
   unfolding nest
-  number-item {d} {p} {v} {q} e =
-      let w = definite-within bs p e in
+  number_item {d} {p} {v} {q} e =
+      let w = definite_within bs p e in
       record { forward = omega (arith, w.0); inside = w.1; reads = into bs p 0 v q (omega arith) e (λ f. refl) no_byte }
 
   -- an array is an item, and so is a map; its elements are what is in it
-  array-item : {d p k a q : ℕ} → Opens bs array p (Counted k) a → ItemsAt bs d k a q → ItemAt bs (suc d) p q
+  array_item : {d p k a q : ℕ} → Opens bs array p (Counted k) a → ItemsAt bs d k a q → ItemAt bs (suc d) p q
   unfolding nest
-  array-item {d} {p} {k} {a} {q} o s =
-      let w = definite-within bs p o in
+  array_item {d} {p} {k} {a} {q} o s =
+      let w = definite_within bs p o in
       let e : suc d - 1 ≡ d = omega arith in
       record {
         forward = omega (arith, w.0, s.forward);
@@ -230,10 +230,10 @@ module _ (bs : List ℕ) where
         reads = into bs p array k a (omega arith) o (λ f. refl) (subst⁻¹ (λ (n : ℕ). Reads n (Items k) (drop a bs) (drop q bs)) e s.reads);
       }
 
-  map-item : {d p k a q : ℕ} → Opens bs map p (Counted k) a → ItemsAt bs d (k * 2) a q → ItemAt bs (suc d) p q
+  map_item : {d p k a q : ℕ} → Opens bs map p (Counted k) a → ItemsAt bs d (k * 2) a q → ItemAt bs (suc d) p q
   unfolding nest
-  map-item {d} {p} {k} {a} {q} o s =
-      let w = definite-within bs p o in
+  map_item {d} {p} {k} {a} {q} o s =
+      let w = definite_within bs p o in
       let e : suc d - 1 ≡ d = omega arith in
       record {
         forward = omega (arith, w.0, s.forward);
@@ -241,9 +241,9 @@ module _ (bs : List ℕ) where
         reads = into bs p map k a (omega arith) o (λ f. refl) (subst⁻¹ (λ (n : ℕ). Reads n (Items (k * 2)) (drop a bs) (drop q bs)) e s.reads);
       }
 
-  pub item-array : {d p k a q : ℕ} → Opens bs array p (Counted k) a → ItemAt bs (suc d) p q → ItemsAt bs d k a q
-  item-array {d} {p} {k} {a} {q} o s =
-      let w = definite-within bs p o in
+  pub item_array : {d p k a q : ℕ} → Opens bs array p (Counted k) a → ItemAt bs (suc d) p q → ItemsAt bs d k a q
+  item_array {d} {p} {k} {a} {q} o s =
+      let w = definite_within bs p o in
       let e : suc d - 1 ≡ d = omega arith in
       let r : Reads d (Items k) (drop a bs) (drop q bs) =
       subst (λ (n : ℕ). Reads n (Items k) (drop a bs) (drop q bs)) e (out bs p array k a (omega arith) o s.reads) in
@@ -253,8 +253,8 @@ module _ (bs : List ℕ) where
   pub none_at : {d p : ℕ} → p ≤ length bs → ItemsAt bs d zero p p
   none_at h = record { forward = omega arith; inside = h; reads = no_more }
 
-  pub item-then : {d k p q r : ℕ} → ItemAt bs d p q → ItemsAt bs d k q r → ItemsAt bs d (suc k) p r
-  item-then s t = record { forward = omega (arith, s.forward, t.forward); inside = t.inside; reads = item s.reads t.reads }
+  pub item_then : {d k p q r : ℕ} → ItemAt bs d p q → ItemsAt bs d k q r → ItemsAt bs d (suc k) p r
+  item_then s t = record { forward = omega (arith, s.forward, t.forward); inside = t.inside; reads = item s.reads t.reads }
 
   -- an item has a byte at least
   pub ahead : {d p q : ℕ} → ItemAt bs d p q → p < q
@@ -272,8 +272,8 @@ module _ (bs : List ℕ) where
       of : {xs ys : List ℕ} → Reads d (Items zero) xs ys → xs ≡ ys
       of no_more = refl
 
-  pub first-item : {d k p r : ℕ} → ItemsAt bs d (suc k) p r → (q : ℕ) × ItemAt bs d p q × ItemsAt bs d k q r
-  first-item {d} {k} {p} {r} s = of s.reads
+  pub first_item : {d k p r : ℕ} → ItemsAt bs d (suc k) p r → (q : ℕ) × ItemAt bs d p q × ItemsAt bs d k q r
+  first_item {d} {k} {p} {r} s = of s.reads
     where
       of : Reads d (Items (suc k)) (drop p bs) (drop r bs) → (q : ℕ) × ItemAt bs d p q × ItemsAt bs d k q r
       of (item {cs = cs} g h) =
@@ -291,9 +291,9 @@ module _ (bs : List ℕ) where
   -- ---- arrays and maps of indefinite length
 
   -- items up to a break, and keys and values; and such items are so many
-  open-items : {d k b : ℕ} {xs ys : List ℕ} → Reads d (Items k) xs (b ∷ ys) → initial b ≡ says.Break → Reads d Elements xs ys
-  open-items no_more e = end_array e
-  open-items (item g r) e = element g (open-items r e)
+  open_items : {d k b : ℕ} {xs ys : List ℕ} → Reads d (Items k) xs (b ∷ ys) → initial b ≡ says.Break → Reads d Elements xs ys
+  open_items no_more e = end_array e
+  open_items (item g r) e = element g (open_items r e)
 
   open_pairs : {d b : ℕ} (k : ℕ) {xs ys : List ℕ} → Reads d (Items (2 * k)) xs (b ∷ ys) → initial b ≡ says.Break → Reads d Pairs xs ys
   open_pairs {d} {b} zero {xs} {ys} r e = let z : 2 * 0 ≡ 0 = omega arith in of (subst (λ (n : ℕ). Reads d (Items n) xs (b ∷ ys)) z r)
@@ -307,55 +307,55 @@ module _ (bs : List ℕ) where
           → Reads d Pairs xs ys
       of (item g (item h r)) go = key g (value h (go _ r))
 
-  counted-items : {d : ℕ} {xs ys : List ℕ} → Reads d Elements xs ys → (k : ℕ) × (b : ℕ) × Reads d (Items k) xs (b ∷ ys) × (initial b ≡ says.Break)
-  counted-items (end_array {b = b} e) = (0, b, no_more, e)
-  counted-items (element g r) = let c = counted-items r in (suc c.0, c.1, item g c.2, c.3)
+  counted_items : {d : ℕ} {xs ys : List ℕ} → Reads d Elements xs ys → (k : ℕ) × (b : ℕ) × Reads d (Items k) xs (b ∷ ys) × (initial b ≡ says.Break)
+  counted_items (end_array {b = b} e) = (0, b, no_more, e)
+  counted_items (element g r) = let c = counted_items r in (suc c.0, c.1, item g c.2, c.3)
 
   -- the byte at a place, and the bytes behind it
-  byte-here : (p b : ℕ) → get_or bs p 0 ≡ b → 0 < b → drop p bs ≡ b ∷ drop (p + 1) bs
-  byte-here p b e h =
+  byte_here : (p b : ℕ) → get_or bs p 0 ≡ b → 0 < b → drop p bs ≡ b ∷ drop (p + 1) bs
+  byte_here p b e h =
       let next : suc p ≡ p + 1 = omega arith in
-      drop-cons bs p 0 (byte-there p b e h) ∙ ap (λ (x : ℕ). x ∷ drop (suc p) bs) e ∙ ap (λ (n : ℕ). b ∷ drop n bs) next
+      drop-cons bs p 0 (byte_there p b e h) ∙ ap (λ (x : ℕ). x ∷ drop (suc p) bs) e ∙ ap (λ (n : ℕ). b ∷ drop n bs) next
 
-  break-says : initial Break ≡ says.Break
+  break_says : initial Break ≡ says.Break
   unfolding initial
-  break-says = refl
+  break_says = refl
 
   -- an array that opens at p and has these elements up to a break at q
   module _ (d p a k q : ℕ) (o : a ≡ p + 1) (s : ItemsAt bs d k a q) (c : get_or bs q 0 ≡ Break) where
-    up-to-break : Reads d (Items k) (drop (p + 1) bs) (Break ∷ drop (q + 1) bs)
-    up-to-break =
-        subst (λ (l : List ℕ). Reads d (Items k) (drop (p + 1) bs) l) (byte-here q Break c (omega arith))
+    up_to_break : Reads d (Items k) (drop (p + 1) bs) (Break ∷ drop (q + 1) bs)
+    up_to_break =
+        subst (λ (l : List ℕ). Reads d (Items k) (drop (p + 1) bs) l) (byte_here q Break c (omega arith))
         (subst (λ (n : ℕ). Reads d (Items k) (drop n bs) (drop q bs)) o s.reads)
 
-    open-list : (b : ℕ) {f : Frame} → get_or bs p 0 ≡ b → 0 < b → enter (suc d) (initial b) ≡ some f → Reads d f (drop (p + 1) bs) (drop (q + 1) bs)
+    open_list : (b : ℕ) {f : Frame} → get_or bs p 0 ≡ b → 0 < b → enter (suc d) (initial b) ≡ some f → Reads d f (drop (p + 1) bs) (drop (q + 1) bs)
         → ItemAt bs (suc d) p (q + 1)
-    open-list b {f} e h enters r =
+    open_list b {f} e h enters r =
         let z : d ≡ suc d - 1 = omega arith in
         record {
           forward = omega (arith, s.forward);
-          inside = omega (arith, byte-there q Break c (omega arith));
+          inside = omega (arith, byte_there q Break c (omega arith));
           reads =
-              subst⁻¹ (λ (l : List ℕ). Reads (suc d) One l (drop (q + 1) bs)) (byte-here p b e h)
+              subst⁻¹ (λ (l : List ℕ). Reads (suc d) One l (drop (q + 1) bs)) (byte_here p b e h)
               (one enters (subst (λ (n : ℕ). Reads n f (drop (p + 1) bs) (drop (q + 1) bs)) z r));
         }
 
     open_array : get_or bs p 0 ≡ array * 32 + 31 → ItemAt bs (suc d) p (q + 1)
     unfolding enter initial indefinite
-    open_array b = open-list 159 b (omega arith) refl (open-items up-to-break break-says)
+    open_array b = open_list 159 b (omega arith) refl (open_items up_to_break break_says)
 
   open_map : (d p a k q : ℕ) → a ≡ p + 1 → ItemsAt bs d (2 * k) a q → get_or bs q 0 ≡ Break → get_or bs p 0 ≡ map * 32 + 31 → ItemAt bs (suc d) p (q + 1)
   unfolding enter initial indefinite
-  open_map d p a k q o s c b = open-list d p a (2 * k) q o s c 191 b (omega arith) refl (open_pairs k (up-to-break d p a (2 * k) q o s c) break-says)
+  open_map d p a k q o s c b = open_list d p a (2 * k) q o s c 191 b (omega arith) refl (open_pairs k (up_to_break d p a (2 * k) q o s c) break_says)
 
   -- what is in an array of indefinite length
-  array-open : {d p r : ℕ} → get_or bs p 0 ≡ array * 32 + 31 → ItemAt bs (suc d) p r
+  array_open : {d p r : ℕ} → get_or bs p 0 ≡ array * 32 + 31 → ItemAt bs (suc d) p r
       → (k : ℕ) × (q : ℕ) × ItemsAt bs d k (p + 1) q × (get_or bs q 0 ≡ Break) × (q + 1 ≡ r)
   unfolding enter initial indefinite
-  array-open {d} {p} {r} e s = of (subst (λ (l : List ℕ). Reads (suc d) One l (drop r bs)) (byte-here p 159 e (omega arith)) s.reads)
+  array_open {d} {p} {r} e s = of (subst (λ (l : List ℕ). Reads (suc d) One l (drop r bs)) (byte_here p 159 e (omega arith)) s.reads)
     where
       in_bytes : p < length bs
-      in_bytes = byte-there p 159 e (omega arith)
+      in_bytes = byte_there p 159 e (omega arith)
 
       found : {k b : ℕ} → Reads d (Items k) (drop (p + 1) bs) (b ∷ drop r bs) → initial b ≡ says.Break
           → (k : ℕ) × (q : ℕ) × ItemsAt bs d k (p + 1) q × (get_or bs q 0 ≡ Break) × (q + 1 ≡ r)
@@ -382,30 +382,30 @@ module _ (bs : List ℕ) where
       of (one {f = f} w g) =
           let same : Elements ≡ f = cc in
           let z : suc d - 1 ≡ d = omega arith in
-          let c = counted-items (subst (λ (n : ℕ). Reads n Elements (drop (p + 1) bs) (drop r bs)) z
+          let c = counted_items (subst (λ (n : ℕ). Reads n Elements (drop (p + 1) bs) (drop r bs)) z
           (subst⁻¹ (λ (f : Frame). Reads (suc d - 1) f (drop (p + 1) bs) (drop r bs)) same g)) in
           found c.2 c.3
 
   -- an array is its elements, of definite or indefinite length
-  pub array-elements : (x : Extent) {d p a r : ℕ} → Opens bs array p x a → ItemAt bs (suc d) p r
+  pub array_elements : (x : Extent) {d p a r : ℕ} → Opens bs array p x a → ItemAt bs (suc d) p r
       → (k : ℕ) × (q : ℕ) × ItemsAt bs d k a q × Closes bs x k q × (past x q ≡ r)
-  array-elements (Counted n) {r = r} o s = (n, r, item-array o s, refl, refl)
-  array-elements Open {d} (b, n) s =
-      let f = array-open b s in (f.0, f.1, subst⁻¹ (λ (a : ℕ). ItemsAt bs d f.0 a f.1) n f.2, f.3, f.4)
-  array-elements Rest o s = absurd o
+  array_elements (Counted n) {r = r} o s = (n, r, item_array o s, refl, refl)
+  array_elements Open {d} (b, n) s =
+      let f = array_open b s in (f.0, f.1, subst⁻¹ (λ (a : ℕ). ItemsAt bs d f.0 a f.1) n f.2, f.3, f.4)
+  array_elements Rest o s = absurd o
 
   -- no item begins with a break
-  pub item-no-break : {d p q : ℕ} → ItemAt bs d p q → get_or bs p 0 ≡ Break → ⊥
+  pub item_no_break : {d p q : ℕ} → ItemAt bs d p q → get_or bs p 0 ≡ Break → ⊥
   unfolding enter initial
-  item-no-break {d} {p} {q} s e = of (subst (λ (l : List ℕ). Reads d One l (drop q bs)) (byte-here p Break e (omega arith)) s.reads)
+  item_no_break {d} {p} {q} s e = of (subst (λ (l : List ℕ). Reads d One l (drop q bs)) (byte_here p Break e (omega arith)) s.reads)
     where
       of : {xs ys : List ℕ} → Reads d One (Break ∷ xs) ys → ⊥
       of (one w g) = nothing w
 
   -- nor does a head that is none
-  head-no-break : (p : ℕ) {m v q : ℕ} → head_at bs p ≡ head.Definite m v q → get_or bs p 0 ≡ Break → ⊥
+  head_no_break : (p : ℕ) {m v q : ℕ} → head_at bs p ≡ head.Definite m v q → get_or bs p 0 ≡ Break → ⊥
   unfolding head_by initial
-  head-no-break p {m} {v} {q} o e =
+  head_no_break p {m} {v} {q} o e =
       let b : head_at bs p ≡ head.Break (p + 1) = byte_head bs p Break e (omega arith) in
       let z : head.Break (p + 1) ≡ head.Definite m v q = sym b ∙ o in
       let y : ◌≡◌ {A = ℕ} 0 1 = cc in
@@ -420,82 +420,82 @@ module _ (bs : List ℕ) where
   abbrev SizedAt : ℕ → ℕ → ℕ → Type 0
   SizedAt d p q = (b : ℕ) × ItemAt bs d p b × SizeAt b q
 
-  size-sound : (p : ℕ) → Ends (SizeAt p) (size_end bs p)
+  size_sound : (p : ℕ) → Ends (SizeAt p) (size_end bs p)
   unfolding size_end
-  size-sound p =
-      number_cases (Ends (SizeAt p)) (λ v q. cond (ltb v sizes) (At q) Nowhere) (unsigned_at bs p) (unsigned-sound p) tt
+  size_sound p =
+      number_cases (Ends (SizeAt p)) (λ v q. cond (ltb v sizes) (At q) Nowhere) (unsigned_at bs p) (unsigned_sound p) tt
       (λ v q e. cond_cases (Ends (SizeAt p)) (ltb v sizes) (λ t. (v, e, ltb-true v sizes t)) (λ _. tt))
 
-  sized-sound : (d p : ℕ) → Ends (SizedAt d p) (sized_end bs d p)
+  sized_sound : (d p : ℕ) → Ends (SizedAt d p) (sized_end bs d p)
   unfolding sized_end
-  sized-sound d p =
-      end_cases (Ends (SizedAt d p)) (size_end bs) (item_end bs d p) (item-sound d p) tt
-      (λ b i. ends-map (size_end bs b) (λ q s. (b, i, s)) (size-sound b))
+  sized_sound d p =
+      end_cases (Ends (SizedAt d p)) (size_end bs) (item_end bs d p) (item_sound d p) tt
+      (λ b i. ends_map (size_end bs b) (λ q s. (b, i, s)) (size_sound b))
 
   sized_inside : {d p q : ℕ} → SizedAt d p q → q ≤ length bs
-  sized_inside (b, i, (v, u, l)) = (definite-within bs b u).1
+  sized_inside (b, i, (v, u, l)) = (definite_within bs b u).1
 
-  pub sized-end : (d p : ℕ) {q : ℕ} → sized_end bs d p ≡ At q → q ≤ length bs
-  sized-end d p e = sized_inside (subst (Ends (SizedAt d p)) e (sized-sound d p))
+  pub sized_end_lem : (d p : ℕ) {q : ℕ} → sized_end bs d p ≡ At q → q ≤ length bs
+  sized_end_lem d p e = sized_inside (subst (Ends (SizedAt d p)) e (sized_sound d p))
 
-  pair-sound : (d low p : ℕ) → Ends (λ q. ElementAt bs d element.Pair low p 0 q) (pair_end bs d p)
+  pair_sound : (d low p : ℕ) → Ends (λ q. ElementAt bs d element.Pair low p 0 q) (pair_end bs d p)
   unfolding pair_end
-  pair-sound d low p =
+  pair_sound d low p =
       let P : End → Type 0 = Ends (λ q. ElementAt bs d element.Pair low p 0 q) in
-      opening_cases P (λ x a. on_end Nowhere (sized_end bs (d - 1) a) (λ q. two_end bs x q)) (opens_at bs array p) (opens-sound array p) tt
+      opening_cases P (λ x a. on_end Nowhere (sized_end bs (d - 1) a) (λ q. two_end bs x q)) (opens_at bs array p) (opens_sound array p) tt
       (λ x a o.
-      end_cases P (λ q. two_end bs x q) (sized_end bs (d - 1) a) (sized-sound (d - 1) a) tt
-      (λ q (b, i, (v, u, l)). cond_cases P (closed bs x 2 q) (λ t. a_pair x o i u l (closed-true x 2 q t)) (λ _. tt)))
+      end_cases P (λ q. two_end bs x q) (sized_end bs (d - 1) a) (sized_sound (d - 1) a) tt
+      (λ q (b, i, (v, u, l)). cond_cases P (closed bs x 2 q) (λ t. a_pair x o i u l (closed_true x 2 q t)) (λ _. tt)))
 
   abbrev KeyAt : ℕ → ℕ → ℕ → ℕ → Type 0
   KeyAt low p v a = UnsignedAt bs p v a × (low ≤ v) × (v < versions)
 
-  pub key-sound : (low p : ℕ) → Numbers (KeyAt low p) (key_at bs low p)
+  pub key_sound : (low p : ℕ) → Numbers (KeyAt low p) (key_at bs low p)
   unfolding key_at
-  key-sound low p =
-      number_cases (Numbers (KeyAt low p)) (λ v q. cond (leb low v && ltb v versions) (Is v q) Not) (unsigned_at bs p) (unsigned-sound p) tt
+  key_sound low p =
+      number_cases (Numbers (KeyAt low p)) (λ v q. cond (leb low v && ltb v versions) (Is v q) Not) (unsigned_at bs p) (unsigned_sound p) tt
       (λ v q u.
       cond_cases (Numbers (KeyAt low p)) (leb low v && ltb v versions)
       (λ t. let ts = both_true (leb low v) (ltb v versions) t in (u, leb-true low v ts.0, ltb-true v versions ts.1)) (λ _. tt))
 
-  version-sound : (d low p : ℕ) → Numbers (λ next q. ElementAt bs d element.Version low p next q) (version_at bs d low p)
+  version_sound : (d low p : ℕ) → Numbers (λ next q. ElementAt bs d element.Version low p next q) (version_at bs d low p)
   unfolding version_at
-  version-sound d low p =
+  version_sound d low p =
       let P : Number → Type 0 = Numbers (λ next q. ElementAt bs d element.Version low p next q) in
-      number_cases P (λ v a. leaving (v + 1) (item_end bs d a)) (key_at bs low p) (key-sound low p) tt
-      (λ v a (u, l, l'). leaving-map (λ next q. ElementAt bs d element.Version low p next q) (v + 1) (item_end bs d a) (λ q i. a_version u l l' i) (item-sound d a))
+      number_cases P (λ v a. leaving (v + 1) (item_end bs d a)) (key_at bs low p) (key_sound low p) tt
+      (λ v a (u, l, l'). leaving_map (λ next q. ElementAt bs d element.Version low p next q) (v + 1) (item_end bs d a) (λ q i. a_version u l l' i) (item_sound d a))
 
   -- what is found next stands there, and what stands there is found
-  pub next-sound : (d : ℕ) (e : Element) (low p : ℕ) → Numbers (λ next q. ElementAt bs d e low p next q) (element_at bs d e low p)
+  pub next_sound : (d : ℕ) (e : Element) (low p : ℕ) → Numbers (λ next q. ElementAt bs d e low p next q) (element_at bs d e low p)
   unfolding element_at
-  next-sound d element.Item low p = leaving-map (λ next q. ElementAt bs d element.Item low p next q) 0 (item_end bs d p) (λ q i. an_item i) (item-sound d p)
-  next-sound d element.Pair low p = leaving-map (λ next q. ElementAt bs d element.Pair low p next q) 0 (pair_end bs d p) (λ q s. s) (pair-sound d low p)
-  next-sound d element.Version low p = version-sound d low p
+  next_sound d element.Item low p = leaving_map (λ next q. ElementAt bs d element.Item low p next q) 0 (item_end bs d p) (λ q i. an_item i) (item_sound d p)
+  next_sound d element.Pair low p = leaving_map (λ next q. ElementAt bs d element.Pair low p next q) 0 (pair_end bs d p) (λ q s. s) (pair_sound d low p)
+  next_sound d element.Version low p = version_sound d low p
 
-  next-found : {d : ℕ} {e : Element} {low p next q : ℕ} → ElementAt bs d e low p next q → element_at bs d e low p ≡ Is next q
+  next_found : {d : ℕ} {e : Element} {low p next q : ℕ} → ElementAt bs d e low p next q → element_at bs d e low p ≡ Is next q
   unfolding element_at pair_end sized_end size_end version_at key_at
-  next-found (an_item i) = rw (item-found i)
-  next-found (a_pair {p = p} {b = b} {v = v} {q = q} x o i u l c) =
-      rw (opens-found element.Pair p x o, item-found i, unsigned-found b u, lt-ltb v sizes l, closes-true x 2 q c)
-  next-found (a_version {low = low} {p = p} {v = v} u l l' i) = rw (unsigned-found p u, le-leb low v l, lt-ltb v versions l', item-found i)
+  next_found (an_item i) = rw (item_found i)
+  next_found (a_pair {p = p} {b = b} {v = v} {q = q} x o i u l c) =
+      rw (opens_found element.Pair p x o, item_found i, unsigned_found b u, lt-ltb v sizes l, closes_true x 2 q c)
+  next_found (a_version {low = low} {p = p} {v = v} u l l' i) = rw (unsigned_found p u, le-leb low v l, lt-ltb v versions l', item_found i)
 
   -- an element has a byte at least
   pub advance : {d : ℕ} {e : Element} {low p next q : ℕ} → ElementAt bs d e low p next q → (p < q) × (q ≤ length bs)
   advance (an_item i) = (ahead i, i.inside)
   advance (a_pair {p = p} {b = b} x o i u l c) =
-      let w = opens-within array p x (omega arith) o in
-      let w' = definite-within bs b u in
-      let e = past-inside x 2 w'.1 c in
+      let w = opens_within array p x (omega arith) o in
+      let w' = definite_within bs b u in
+      let e = past_inside x 2 w'.1 c in
       (omega (arith, w.0, i.forward, w'.0, e.0), e.1)
-  advance (a_version {p = p} u l l' i) = let w = definite-within bs p u in (omega (arith, w.0, i.forward), i.inside)
+  advance (a_version {p = p} u l l' i) = let w = definite_within bs p u in (omega (arith, w.0, i.forward), i.inside)
 
-  pub elements-on : {d : ℕ} {e : Element} {low k p q : ℕ} → ElementsAt bs d e low k p q → p + k ≤ q
-  elements-on no_element = omega arith
-  elements-on (an_element s r) = omega (arith, (advance s).0, elements-on r)
+  pub elements_on : {d : ℕ} {e : Element} {low k p q : ℕ} → ElementsAt bs d e low k p q → p + k ≤ q
+  elements_on no_element = omega arith
+  elements_on (an_element s r) = omega (arith, (advance s).0, elements_on r)
 
-  pub elements-inside : {d : ℕ} {e : Element} {low k p q : ℕ} → p ≤ length bs → ElementsAt bs d e low k p q → q ≤ length bs
-  elements-inside h no_element = h
-  elements-inside h (an_element s r) = elements-inside (advance s).1 r
+  pub elements_inside : {d : ℕ} {e : Element} {low k p q : ℕ} → p ≤ length bs → ElementsAt bs d e low k p q → q ≤ length bs
+  elements_inside h no_element = h
+  elements_inside h (an_element s r) = elements_inside (advance s).1 r
 
   -- a pair is an item, and a version with its value two
   abbrev pub per : Element → ℕ
@@ -504,53 +504,53 @@ module _ (bs : List ℕ) where
   per element.Version = 2
 
   -- a list is an item, and so is a pair
-  pub list-item : (e : Element) (x : Extent) (k : ℕ) {d p a q : ℕ} → Opens bs (opener e) p x a → ItemsAt bs d (per e * k) a q → Closes bs x k q
+  pub list_item : (e : Element) (x : Extent) (k : ℕ) {d p a q : ℕ} → Opens bs (opener e) p x a → ItemsAt bs d (per e * k) a q → Closes bs x k q
       → ItemAt bs (suc d) p (past x q)
-  list-item element.Item (Counted n) k {d} {a = a} {q = q} o s c =
-      let z : 1 * k ≡ n = omega arith in array-item o (subst (λ (n : ℕ). ItemsAt bs d n a q) z s)
-  list-item element.Pair (Counted n) k {d} {a = a} {q = q} o s c =
-      let z : 1 * k ≡ n = omega arith in array-item o (subst (λ (n : ℕ). ItemsAt bs d n a q) z s)
-  list-item element.Version (Counted n) k {d} {a = a} {q = q} o s c =
-      let z : 2 * k ≡ n * 2 = omega arith in map-item o (subst (λ (n : ℕ). ItemsAt bs d n a q) z s)
-  list-item element.Item Open k {d} {p} {a} {q} (b, n) s c = open_array d p a (1 * k) q n s c b
-  list-item element.Pair Open k {d} {p} {a} {q} (b, n) s c = open_array d p a (1 * k) q n s c b
-  list-item element.Version Open k {d} {p} {a} {q} (b, n) s c = open_map d p a k q n s c b
-  list-item e Rest k o s c = absurd o
+  list_item element.Item (Counted n) k {d} {a = a} {q = q} o s c =
+      let z : 1 * k ≡ n = omega arith in array_item o (subst (λ (n : ℕ). ItemsAt bs d n a q) z s)
+  list_item element.Pair (Counted n) k {d} {a = a} {q = q} o s c =
+      let z : 1 * k ≡ n = omega arith in array_item o (subst (λ (n : ℕ). ItemsAt bs d n a q) z s)
+  list_item element.Version (Counted n) k {d} {a = a} {q = q} o s c =
+      let z : 2 * k ≡ n * 2 = omega arith in map_item o (subst (λ (n : ℕ). ItemsAt bs d n a q) z s)
+  list_item element.Item Open k {d} {p} {a} {q} (b, n) s c = open_array d p a (1 * k) q n s c b
+  list_item element.Pair Open k {d} {p} {a} {q} (b, n) s c = open_array d p a (1 * k) q n s c b
+  list_item element.Version Open k {d} {p} {a} {q} (b, n) s c = open_map d p a k q n s c b
+  list_item e Rest k o s c = absurd o
 
-  element-then : {d : ℕ} {e : Element} {low m p next q r : ℕ} → 0 < d → ElementAt bs d e low p next q → ItemsAt bs d m q r
+  element_then : {d : ℕ} {e : Element} {low m p next q r : ℕ} → 0 < d → ElementAt bs d e low p next q → ItemsAt bs d m q r
       → ItemsAt bs d (per e + m) p r
-  element-then {d} {m = m} {p = p} {r = r} h (an_item i) s = let z : suc m ≡ 1 + m = omega arith in subst (λ (n : ℕ). ItemsAt bs d n p r) z (item-then i s)
-  element-then {d} {m = m} {p = p} {q = e} {r = r} h (a_pair {q = q} x o i u l c) s =
-      let n = number-item u in
+  element_then {d} {m = m} {p = p} {r = r} h (an_item i) s = let z : suc m ≡ 1 + m = omega arith in subst (λ (n : ℕ). ItemsAt bs d n p r) z (item_then i s)
+  element_then {d} {m = m} {p = p} {q = e} {r = r} h (a_pair {q = q} x o i u l c) s =
+      let n = number_item u in
       let z : suc m ≡ 1 + m = omega arith in
       let y : suc (d - 1) ≡ d = omega arith in
       let pair : ItemAt bs d p (past x q) =
-      subst (λ (n : ℕ). ItemAt bs n p (past x q)) y (list-item element.Pair x 2 o (item-then i (item-then n (none_at n.inside))) c) in
-      subst (λ (n : ℕ). ItemsAt bs d n p r) z (item-then pair s)
-  element-then {d} {m = m} {p = p} {r = r} h (a_version u l l' i) s =
+      subst (λ (n : ℕ). ItemAt bs n p (past x q)) y (list_item element.Pair x 2 o (item_then i (item_then n (none_at n.inside))) c) in
+      subst (λ (n : ℕ). ItemsAt bs d n p r) z (item_then pair s)
+  element_then {d} {m = m} {p = p} {r = r} h (a_version u l l' i) s =
       let z : suc (suc m) ≡ 2 + m = omega arith in
-      subst (λ (n : ℕ). ItemsAt bs d n p r) z (item-then (number-item u) (item-then i s))
+      subst (λ (n : ℕ). ItemsAt bs d n p r) z (item_then (number_item u) (item_then i s))
 
-  elements-items : {d : ℕ} {e : Element} {low k p q : ℕ} → 0 < d → p ≤ length bs → ElementsAt bs d e low k p q → ItemsAt bs d (per e * k) p q
-  elements-items {d} {e} {p = p} h l no_element = let z : 0 ≡ per e * 0 = omega arith in subst (λ (n : ℕ). ItemsAt bs d n p p) z (none_at l)
-  elements-items {d} {e} {p = p} {q = r} h l (an_element {k = k} s rest) =
+  elements_items : {d : ℕ} {e : Element} {low k p q : ℕ} → 0 < d → p ≤ length bs → ElementsAt bs d e low k p q → ItemsAt bs d (per e * k) p q
+  elements_items {d} {e} {p = p} h l no_element = let z : 0 ≡ per e * 0 = omega arith in subst (λ (n : ℕ). ItemsAt bs d n p p) z (none_at l)
+  elements_items {d} {e} {p = p} {q = r} h l (an_element {k = k} s rest) =
       let z : per e + per e * k ≡ per e * suc k = omega arith in
-      subst (λ (n : ℕ). ItemsAt bs d n p r) z (element-then h s (elements-items h (advance s).1 rest))
+      subst (λ (n : ℕ). ItemsAt bs d n p r) z (element_then h s (elements_items h (advance s).1 rest))
 
   -- k elements that are items are k items, and the other way round
-  pub items-elements : {d : ℕ} (k low : ℕ) {p q : ℕ} → ItemsAt bs d k p q → ElementsAt bs d element.Item low k p q
-  items-elements {d} zero low {p} s = subst (λ (n : ℕ). ElementsAt bs d element.Item low 0 p n) (no_items s) no_element
-  items-elements (suc k) low s = let f = first-item s in an_element (an_item f.1) (items-elements k 0 f.2)
+  pub items_elements : {d : ℕ} (k low : ℕ) {p q : ℕ} → ItemsAt bs d k p q → ElementsAt bs d element.Item low k p q
+  items_elements {d} zero low {p} s = subst (λ (n : ℕ). ElementsAt bs d element.Item low 0 p n) (no_items s) no_element
+  items_elements (suc k) low s = let f = first_item s in an_element (an_item f.1) (items_elements k 0 f.2)
 
   -- ---- the walk along elements
 
   -- no element begins with a break
   no_break : {d : ℕ} {e : Element} {low p next q : ℕ} → ElementAt bs d e low p next q → get_or bs p 0 ≡ Break → ⊥
-  no_break (an_item i) e = item-no-break i e
-  no_break (a_pair {p = p} (Counted n) o i u l c) e = head-no-break p o e
+  no_break (an_item i) e = item_no_break i e
+  no_break (a_pair {p = p} (Counted n) o i u l c) e = head_no_break p o e
   no_break (a_pair Open (b, n) i u l c) e = omega arith
   no_break (a_pair Rest o i u l c) e = o
-  no_break (a_version {p = p} u l l' i) e = head-no-break p u e
+  no_break (a_version {p = p} u l l' i) e = head_no_break p u e
 
   -- so elements go on where one stands in front of their end
   still_open : (x : Extent) {d : ℕ} {e : Element} {low p next b : ℕ} (k : ℕ) {n q : ℕ} → ElementAt bs d e low p next b → k < n → b ≤ q
@@ -564,82 +564,82 @@ module _ (bs : List ℕ) where
     abbrev pub Walked : ℕ → ℕ → ℕ → ℕ → ℕ → Type 0
     Walked k low p n q = (j : ℕ) × (n ≡ k + j) × ElementsAt bs d e low j p q × Closes bs x n q
 
-    walk-sound : (bytes k low p : ℕ) → Numbers (Walked k low p) (walk bs d e x bytes k low p)
+    walk_sound : (bytes k low p : ℕ) → Numbers (Walked k low p) (walk bs d e x bytes k low p)
     unfolding walk
-    walk-sound zero k low p =
-        cond_cases (Numbers (Walked k low p)) (closed bs x k p) (λ t. (0, omega arith, no_element, closed-true x k p t)) (λ _. tt)
-    walk-sound (suc bytes) k low p =
+    walk_sound zero k low p =
+        cond_cases (Numbers (Walked k low p)) (closed bs x k p) (λ t. (0, omega arith, no_element, closed_true x k p t)) (λ _. tt)
+    walk_sound (suc bytes) k low p =
         let P : Number → Type 0 = Numbers (Walked k low p) in
-        cond_cases P (closed bs x k p) (λ t. (0, omega arith, no_element, closed-true x k p t))
+        cond_cases P (closed bs x k p) (λ t. (0, omega arith, no_element, closed_true x k p t))
         (λ _.
-        number_cases P (λ next q. walk bs d e x bytes (k + 1) next q) (element_at bs d e low p) (next-sound d e low p) tt
+        number_cases P (λ next q. walk bs d e x bytes (k + 1) next q) (element_at bs d e low p) (next_sound d e low p) tt
         (λ next q s.
-        numbers-map (walk bs d e x bytes (k + 1) next q) (λ n r (j, z, rest, c). (suc j, omega (arith, z), an_element s rest, c))
-        (walk-sound bytes (k + 1) next q)))
+        numbers_map (walk bs d e x bytes (k + 1) next q) (λ n r (j, z, rest, c). (suc j, omega (arith, z), an_element s rest, c))
+        (walk_sound bytes (k + 1) next q)))
 
     walk-found : (j bytes k low p : ℕ) {q : ℕ} → ElementsAt bs d e low j p q → Closes bs x (k + j) q → q ≤ p + bytes
         → walk bs d e x bytes k low p ≡ Is (k + j) q
     unfolding walk
-    walk-found zero zero k low p no_element c h = let z : k ≡ k + 0 = omega arith in rw (closes-true x k p (subst⁻¹ (λ (n : ℕ). Closes bs x n p) z c)) (ap (λ (n : ℕ). Is n p) z)
-    walk-found zero (suc bytes) k low p no_element c h = let z : k ≡ k + 0 = omega arith in rw (closes-true x k p (subst⁻¹ (λ (n : ℕ). Closes bs x n p) z c)) (ap (λ (n : ℕ). Is n p) z)
-    walk-found (suc j) zero k low p (an_element s r) c h = absurd (omega (arith, (advance s).0, elements-on r))
+    walk-found zero zero k low p no_element c h = let z : k ≡ k + 0 = omega arith in rw (closes_true x k p (subst⁻¹ (λ (n : ℕ). Closes bs x n p) z c)) (ap (λ (n : ℕ). Is n p) z)
+    walk-found zero (suc bytes) k low p no_element c h = let z : k ≡ k + 0 = omega arith in rw (closes_true x k p (subst⁻¹ (λ (n : ℕ). Closes bs x n p) z c)) (ap (λ (n : ℕ). Is n p) z)
+    walk-found (suc j) zero k low p (an_element s r) c h = absurd (omega (arith, (advance s).0, elements_on r))
     walk-found (suc j) (suc bytes) k low p {q} (an_element {next = next} {q = b} s r) c h =
         let z : k + 1 + j ≡ k + suc j = omega arith in
         let go : walk bs d e x bytes (k + 1) next b ≡ Is (k + 1 + j) q =
         walk-found j bytes (k + 1) next b r (subst⁻¹ (λ (n : ℕ). Closes bs x n q) z c) (omega (arith, (advance s).0)) in
-        rw (still_open x k s (omega arith) (omega (arith, elements-on r)) c, next-found s) (go ∙ ap (λ (n : ℕ). Is n q) z)
+        rw (still_open x k s (omega arith) (omega (arith, elements_on r)) c, next_found s) (go ∙ ap (λ (n : ℕ). Is n q) z)
 
-    pub elements-sound : (p : ℕ) → Numbers (λ k q. ElementsAt bs d e 0 k p q × Closes bs x k q) (elements_of bs d e x p)
-    elements-sound p =
-        numbers-map (elements_of bs d e x p)
-        (λ k q (j, z, s, c). let y : j ≡ k = omega arith in (subst (λ (n : ℕ). ElementsAt bs d e 0 n p q) y s, c)) (walk-sound (length bs) 0 0 p)
+    pub elements_sound : (p : ℕ) → Numbers (λ k q. ElementsAt bs d e 0 k p q × Closes bs x k q) (elements_of bs d e x p)
+    elements_sound p =
+        numbers_map (elements_of bs d e x p)
+        (λ k q (j, z, s, c). let y : j ≡ k = omega arith in (subst (λ (n : ℕ). ElementsAt bs d e 0 n p q) y s, c)) (walk_sound (length bs) 0 0 p)
 
-    pub elements-found : {k p q : ℕ} → p ≤ length bs → ElementsAt bs d e 0 k p q → Closes bs x k q → elements_of bs d e x p ≡ Is k q
-    elements-found {k} {p} {q} h s c =
+    pub elements_found : {k p q : ℕ} → p ≤ length bs → ElementsAt bs d e 0 k p q → Closes bs x k q → elements_of bs d e x p ≡ Is k q
+    elements_found {k} {p} {q} h s c =
         let z : 0 + k ≡ k = omega arith in
-        walk-found k (length bs) 0 0 p s (subst⁻¹ (λ (n : ℕ). Closes bs x n q) z c) (omega (arith, elements-inside h s)) ∙ ap (λ (n : ℕ). Is n q) z
+        walk-found k (length bs) 0 0 p s (subst⁻¹ (λ (n : ℕ). Closes bs x n q) z c) (omega (arith, elements_inside h s)) ∙ ap (λ (n : ℕ). Is n q) z
 
   -- where elements are found, they end in the bytes
-  elements-end : (d : ℕ) (e : Element) (x : Extent) (p : ℕ) {k q : ℕ} → p ≤ length bs → elements_of bs d e x p ≡ Is k q → past x q ≤ length bs
-  elements-end d e x p {k} {q} h f =
-      let s = subst (Numbers (λ k q. ElementsAt bs d e 0 k p q × Closes bs x k q)) f (elements-sound d e x p) in
-      (past-inside x k (elements-inside h s.0) s.1).1
+  elements_end : (d : ℕ) (e : Element) (x : Extent) (p : ℕ) {k q : ℕ} → p ≤ length bs → elements_of bs d e x p ≡ Is k q → past x q ≤ length bs
+  elements_end d e x p {k} {q} h f =
+      let s = subst (Numbers (λ k q. ElementsAt bs d e 0 k p q × Closes bs x k q)) f (elements_sound d e x p) in
+      (past_inside x k (elements_inside h s.0) s.1).1
 
-  pub list-end : (e : Element) (x : Extent) (p : ℕ) {a k q : ℕ} → opens_at bs (opener e) p ≡ opening.At x a → elements_of bs in_list e x a ≡ Is k q
+  pub list_end : (e : Element) (x : Extent) (p : ℕ) {a k q : ℕ} → opens_at bs (opener e) p ≡ opening.At x a → elements_of bs in_list e x a ≡ Is k q
       → past x q ≤ length bs
-  list-end e x p {a} found f =
-      let o = subst (Openings (λ x a. Opens bs (opener e) p x a)) found (opens-sound (opener e) p) in
-      elements-end in_list e x a (opens-within (opener e) p x (opener_high e) o).1 f
+  list_end e x p {a} found f =
+      let o = subst (Openings (λ x a. Opens bs (opener e) p x a)) found (opens_sound (opener e) p) in
+      elements_end in_list e x a (opens_within (opener e) p x (opener_high e) o).1 f
 
-  before-past : (x : Extent) (q : ℕ) → before x (past x q) ≡ q
-  before-past (Counted n) q = refl
-  before-past Open q = omega arith
-  before-past Rest q = refl
+  before_past : (x : Extent) (q : ℕ) → before x (past x q) ≡ q
+  before_past (Counted n) q = refl
+  before_past Open q = omega arith
+  before_past Rest q = refl
 
   -- a list of items ends where its array ends
-  pub items-end : (x : Extent) (p : ℕ) {a : ℕ} → opens_at bs array p ≡ opening.At x a
+  pub items_end : (x : Extent) (p : ℕ) {a : ℕ} → opens_at bs array p ≡ opening.At x a
       → items_up_to x a (item_end bs in_message p) ≡ listed x a (elements_of bs in_list element.Item x a)
-  items-end x p {a} found =
-      of (item_end bs in_message p) refl (item-sound in_message p) (elements_of bs in_list element.Item x a) refl
-      (elements-sound in_list element.Item x a)
+  items_end x p {a} found =
+      of (item_end bs in_message p) refl (item_sound in_message p) (elements_of bs in_list element.Item x a) refl
+      (elements_sound in_list element.Item x a)
     where
       o : Opens bs array p x a
-      o = subst (Openings (λ x a. Opens bs array p x a)) found (opens-sound array p)
+      o = subst (Openings (λ x a. Opens bs array p x a)) found (opens_sound array p)
 
       low : a ≤ length bs
-      low = (opens-within array p x (omega arith) o).1
+      low = (opens_within array p x (omega arith) o).1
 
       of : (e : End) → item_end bs in_message p ≡ e → Ends (λ q. ItemAt bs in_message p q) e → (n : Number)
           → elements_of bs in_list element.Item x a ≡ n → Numbers (λ j q. ElementsAt bs in_list element.Item 0 j a q × Closes bs x j q) n
           → items_up_to x a e ≡ listed x a n
       of (At r) h i n m s =
-          let f = array-elements x o i in
+          let f = array_elements x o i in
           let q : ℕ = f.1 in
-          let is : elements_of bs in_list element.Item x a ≡ Is f.0 q = elements-found in_list element.Item x low (items-elements f.0 0 f.2) f.3 in
-          let b : before x r ≡ q = ap (before x) (sym f.4) ∙ before-past x q in
+          let is : elements_of bs in_list element.Item x a ≡ Is f.0 q = elements_found in_list element.Item x low (items_elements f.0 0 f.2) f.3 in
+          let b : before x r ≡ q = ap (before x) (sym f.4) ∙ before_past x q in
           ap (λ (q : ℕ). part.Place a (q - a) r) b ∙ ap (part.Place a (q - a)) (sym f.4) ∙ ap (listed x a) (sym is ∙ m)
       of Nowhere h i (Is j q) m (s, c) =
-          let whole = item-found (list-item element.Item x j o (elements-items (omega arith) low s) c) in
+          let whole = item_found (list_item element.Item x j o (elements_items (omega arith) low s) c) in
           absurd (let y : At (past x q) ≡ Nowhere = sym whole ∙ h in let x : ◌≡◌ {A = ℕ} 0 1 = cc in omega arith)
       of Nowhere h i Not m s = refl
 
@@ -651,66 +651,66 @@ module _ (bs : List ℕ) where
   Parts R (part.Place a l q) = R (place a l) q
   Parts R part.Wrong = Unit {0}
 
-  below-sound : (limit p : ℕ) (R : Value → ℕ → Type 0) → ((v q : ℕ) → UnsignedAt bs p v q → v < limit → R (number v) q)
+  below_sound : (limit p : ℕ) (R : Value → ℕ → Type 0) → ((v q : ℕ) → UnsignedAt bs p v q → v < limit → R (number v) q)
       → Parts R (below limit (unsigned_at bs p))
-  below-sound limit p R f =
-      number_cases (Parts R) (λ v q. cond (ltb v limit) (part.Number v q) part.Wrong) (unsigned_at bs p) (unsigned-sound p) tt
+  below_sound limit p R f =
+      number_cases (Parts R) (λ v q. cond (ltb v limit) (part.Number v q) part.Wrong) (unsigned_at bs p) (unsigned_sound p) tt
       (λ v q u. cond_cases (Parts R) (ltb v limit) (λ t. f v q u (ltb-true v limit t)) (λ _. tt))
 
-  up-to-sound : {S : ℕ → Type 0} (a : ℕ) (R : Value → ℕ → Type 0) (e : End) → Ends S e → ((q : ℕ) → S q → R (place a (q - a)) q)
+  up_to_sound : {S : ℕ → Type 0} (a : ℕ) (R : Value → ℕ → Type 0) (e : End) → Ends S e → ((q : ℕ) → S q → R (place a (q - a)) q)
       → Parts R (up_to a e)
-  up-to-sound a R e s f = end_cases (Parts R) (λ q. part.Place a (q - a) q) e s tt f
+  up_to_sound a R e s f = end_cases (Parts R) (λ q. part.Place a (q - a) q) e s tt f
 
-  bool-sound : (p b : ℕ) → get_or bs p 0 ≡ b → Parts (λ x q. FieldAt bs field.Bool p x q) (bool_of b p)
-  bool-sound p b e =
+  bool_sound : (p b : ℕ) → get_or bs p 0 ≡ b → Parts (λ x q. FieldAt bs field.Bool p x q) (bool_of b p)
+  bool_sound p b e =
       cond_cases (Parts (λ x q. FieldAt bs field.Bool p x q)) (eqb b False) (λ t. matching.false (e ∙ eqb-true b False t))
       (λ _. cond_cases (Parts (λ x q. FieldAt bs field.Bool p x q)) (eqb b True) (λ t. matching.true (e ∙ eqb-true b True t)) (λ _. tt))
 
   pub part_sound : (f : Field) (p : ℕ) → Parts (λ x q. FieldAt bs f p x q) (part_of bs f p)
   unfolding part_of
   part_sound field.Item p =
-      up-to-sound p (λ x q. FieldAt bs field.Item p x q) (item_end bs in_message p) (item-sound in_message p) (λ q i. matching.item i)
+      up_to_sound p (λ x q. FieldAt bs field.Item p x q) (item_end bs in_message p) (item_sound in_message p) (λ q i. matching.item i)
   part_sound (field.List e) p =
       let P : Part → Type 0 = Parts (λ x q. FieldAt bs (field.List e) p x q) in
-      opening_cases P (λ x a. listed x a (elements_of bs in_list e x a)) (opens_at bs (opener e) p) (opens-sound (opener e) p) tt
+      opening_cases P (λ x a. listed x a (elements_of bs in_list e x a)) (opens_at bs (opener e) p) (opens_sound (opener e) p) tt
       (λ x a o.
-      number_cases P (λ n q. part.Place a (q - a) (past x q)) (elements_of bs in_list e x a) (elements-sound in_list e x a) tt
+      number_cases P (λ n q. part.Place a (q - a) (past x q)) (elements_of bs in_list e x a) (elements_sound in_list e x a) tt
       (λ n q (s, c). matching.list x o s c))
-  part_sound (field.Below limit) p = below-sound limit p (λ x q. FieldAt bs (field.Below limit) p x q) (λ v q u l. matching.below u l)
-  part_sound field.Bool p = bool-sound p (get_or bs p 0) refl
+  part_sound (field.Below limit) p = below_sound limit p (λ x q. FieldAt bs (field.Below limit) p x q) (λ v q u l. matching.below u l)
+  part_sound field.Bool p = bool_sound p (get_or bs p 0) refl
 
   -- what a value at a place is in the answer
   abbrev pub got : Value → ℕ → Part
   got (number v) q = part.Number v q
   got (place a l) q = part.Place a l q
 
-  below-found : (limit p : ℕ) {v q : ℕ} → UnsignedAt bs p v q → v < limit → below limit (unsigned_at bs p) ≡ part.Number v q
-  below-found limit p {v} {q} u l = rw (unsigned-found p u, lt-ltb v limit l)
+  below_found : (limit p : ℕ) {v q : ℕ} → UnsignedAt bs p v q → v < limit → below limit (unsigned_at bs p) ≡ part.Number v q
+  below_found limit p {v} {q} u l = rw (unsigned_found p u, lt-ltb v limit l)
 
-  pub part-found : {f : Field} {p q : ℕ} {x : Value} → FieldAt bs f p x q → part_of bs f p ≡ got x q
+  pub part_found : {f : Field} {p q : ℕ} {x : Value} → FieldAt bs f p x q → part_of bs f p ≡ got x q
   unfolding part_of
-  part-found (matching.item i) = rw (item-found i)
-  part-found (matching.list {e = e} {p = p} x o s c) =
-      rw (opens-found e p x o, elements-found in_list e x (opens-within (opener e) p x (opener_high e) o).1 s c)
-  part-found (matching.below {limit = limit} {p = p} u l) = below-found limit p u l
-  part-found (matching.false e) = rw e
-  part-found (matching.true e) = rw e
+  part_found (matching.item i) = rw (item_found i)
+  part_found (matching.list {e = e} {p = p} x o s c) =
+      rw (opens_found e p x o, elements_found in_list e x (opens_within (opener e) p x (opener_high e) o).1 s c)
+  part_found (matching.below {limit = limit} {p = p} u l) = below_found limit p u l
+  part_found (matching.false e) = rw e
+  part_found (matching.true e) = rw e
 
   -- ---- a field is an item
 
-  bool-item : (d p b : ℕ) → get_or bs p 0 ≡ b → 0 < b → enter d (initial b) ≡ some (Content 0) → ItemAt bs d p (p + 1)
-  bool-item d p b e h f =
-      let there : p < length bs = byte-there p b e h in
+  bool_item : (d p b : ℕ) → get_or bs p 0 ≡ b → 0 < b → enter d (initial b) ≡ some (Content 0) → ItemAt bs d p (p + 1)
+  bool_item d p b e h f =
+      let there : p < length bs = byte_there p b e h in
       let next : suc p ≡ p + 1 = omega arith in
       let here : b ∷ drop (p + 1) bs ≡ drop p bs =
       ap (λ (x : ℕ). x ∷ drop (p + 1) bs) (sym e) ∙ ap (λ (n : ℕ). get_or bs p 0 ∷ drop n bs) (sym next) ∙ sym (drop-cons bs p 0 there) in
       record { forward = omega arith; inside = omega arith; reads = subst (λ (l : List ℕ). Reads d One l (drop (p + 1) bs)) here (one f no_byte) }
 
-  pub field-item : {f : Field} {p q : ℕ} {x : Value} → FieldAt bs f p x q → ItemAt bs in_message p q
+  pub field_item : {f : Field} {p q : ℕ} {x : Value} → FieldAt bs f p x q → ItemAt bs in_message p q
   unfolding enter initial nest
-  field-item (matching.item i) = i
-  field-item (matching.list {e = e} {p = p} {k = k} x o s c) =
-      list-item e x k o (elements-items (omega arith) (opens-within (opener e) p x (opener_high e) o).1 s) c
-  field-item (matching.below u l) = number-item u
-  field-item (matching.false {p = p} e) = bool-item in_message p False e (omega arith) refl
-  field-item (matching.true {p = p} e) = bool-item in_message p True e (omega arith) refl
+  field_item (matching.item i) = i
+  field_item (matching.list {e = e} {p = p} {k = k} x o s c) =
+      list_item e x k o (elements_items (omega arith) (opens_within (opener e) p x (opener_high e) o).1 s) c
+  field_item (matching.below u l) = number_item u
+  field_item (matching.false {p = p} e) = bool_item in_message p False e (omega arith) refl
+  field_item (matching.true {p = p} e) = bool_item in_message p True e (omega arith) refl

@@ -20,7 +20,7 @@ use Rattle.head.specs.declared.Initial.{Initial}
 use Rattle.head.specs.declared.Initial.TheVariants as says
 use Rattle.head.specs.declared.read.Head.{Head}
 use Rattle.head.specs.declared.read.Head.TheVariants.{Definite, Indefinite, Short, Bad}
-use Rattle.head.proofs.ReadLaws.{Sound, sound, head-by, long-here, long-short, cut_short, definite-within, indefinite-within}
+use Rattle.head.proofs.ReadLaws.{Sound, sound, head_by_lem, long_here, long_short, cut_short, definite_within, indefinite_within}
 use Rattle.item.specs.Grammar.{Frame, One, Argument, content, nest, enter, Reads, one, last, digit}
 use Rattle.item.proofs.Heads.{nest_is}
 
@@ -62,9 +62,9 @@ module _ (bs : List ℕ) (p : ℕ) (h : p < length bs) where
   past : (k : ℕ) → drop k rest ≡ drop (p + 1 + k) bs
   past k = drop-drop k (suc p) bs ∙ ap (λ (n : ℕ). drop n bs) (let e : suc p + k ≡ p + 1 + k = omega arith in e)
 
-  simple-seven : {m v q : ℕ} → simple_at bs (p + 1) ≡ Definite m v q → m ≡ 7
+  simple_seven : {m v q : ℕ} → simple_at bs (p + 1) ≡ Definite m v q → m ≡ 7
   unfolding simple_at
-  simple-seven {m} {v} {q} =
+  simple_seven {m} {v} {q} =
       let P : Head → Type 0 = λ k. k ≡ Definite m v q → m ≡ 7 in
       cond_cases P (ltb (p + 1) (length bs)) (λ _. cond_cases P (ltb (get_or bs (p + 1) 0) 32) (λ _ e. absurd (bad e)) (λ _ e. cc))
       (λ _ e. absurd (cut_short e))
@@ -89,10 +89,10 @@ module _ (bs : List ℕ) (p m v q : ℕ) (low : m < 7) where
       let y : w ≡ v = cc in
       inside (e ∙ ap (λ (N : Major). says.Short N w) (n.0 ∙ ap major_of x) ∙ ap (says.Short (major_of m)) y) cc
   by h (says.Long M k) e n f = elim (dec_lt (length bs) (p + 1 + (k + 1))) [
-    | yes y ↦ absurd (cut_short (sym (long-short bs (b' / 32) (k + 1) (p + 1) y) ∙ f))
+    | yes y ↦ absurd (cut_short (sym (long_short bs (b' / 32) (k + 1) (p + 1) y) ∙ f))
     | no x ↦
         let g : Definite (b' / 32) (number (run bs (p + 1) (k + 1))) (p + 1 + (k + 1)) ≡ Definite m v q =
-        sym (long-here bs (b' / 32) (k + 1) (p + 1) (omega arith)) ∙ f in
+        sym (long_here bs (b' / 32) (k + 1) (p + 1) (omega arith)) ∙ f in
         let is : b' / 32 ≡ m = cc in
         let spells : number (run bs (p + 1) (k + 1)) ≡ v = cc in
         let next : p + 1 + (k + 1) ≡ q = cc in
@@ -103,17 +103,17 @@ module _ (bs : List ℕ) (p m v q : ℕ) (low : m < 7) where
         (drop-drop (suc k) (suc p) bs ∙ ap (λ (n : ℕ). drop n bs) (let e : suc p + suc k ≡ q = omega arith in e))
   ]
   by h (says.Indefinite M) e n f = absurd (let z : ◌≡◌ {A = ℕ} 0 1 = cc in omega arith)
-  by h says.Simple e n f = absurd (omega (arith, simple-seven bs p h f))
+  by h says.Simple e n f = absurd (omega (arith, simple_seven bs p h f))
   by h says.Break e n f = absurd (let z : ◌≡◌ {A = ℕ} 0 1 = cc in omega arith)
   by h says.Reserved e n f = absurd (let z : ◌≡◌ {A = ℕ} 0 1 = cc in omega arith)
 
   asks : head_at bs p ≡ Definite m v q → Asks bs p m v q
-  asks e = let h : p < length bs = omega (arith, (definite-within bs p e).0, (definite-within bs p e).1) in
-      by h (initial b') refl (sound b') (sym (head-by bs {at = p} h refl refl refl) ∙ e)
+  asks e = let h : p < length bs = omega (arith, (definite_within bs p e).0, (definite_within bs p e).1) in
+      by h (initial b') refl (sound b') (sym (head_by_lem bs {at = p} h refl refl refl) ∙ e)
 
   module _ (head : head_at bs p ≡ Definite m v q) where
     in_bytes : p < length bs
-    in_bytes = omega (arith, (definite-within bs p head).0, (definite-within bs p head).1)
+    in_bytes = omega (arith, (definite_within bs p head).0, (definite_within bs p head).1)
 
     -- an item that begins with this head, where what is in it follows
     pub into : {d : ℕ} {ds : List ℕ} → Room d m → Reads (d - 1) (content (major_of m) v) (drop q bs) ds → Reads d One (drop p bs) ds
@@ -187,41 +187,41 @@ module _ (bs : List ℕ) (p : ℕ) {m q : ℕ} where
   never : {M v r : ℕ} → Definite M v r ≡ Indefinite m q → ⊥
   never e = let z : ◌≡◌ {A = ℕ} 0 1 = cc in omega arith
 
-  nor-short : Short ≡ Indefinite m q → ⊥
-  nor-short e = let z : ◌≡◌ {A = ℕ} 0 1 = cc in omega arith
+  nor_short : Short ≡ Indefinite m q → ⊥
+  nor_short e = let z : ◌≡◌ {A = ℕ} 0 1 = cc in omega arith
 
-  nor-bad : Bad ≡ Indefinite m q → ⊥
-  nor-bad e = let z : ◌≡◌ {A = ℕ} 0 1 = cc in omega arith
+  nor_bad : Bad ≡ Indefinite m q → ⊥
+  nor_bad e = let z : ◌≡◌ {A = ℕ} 0 1 = cc in omega arith
 
-  never-long : (M k at : ℕ) → long_at bs M k at ≡ Indefinite m q → ⊥
+  never_long : (M k at : ℕ) → long_at bs M k at ≡ Indefinite m q → ⊥
   unfolding long_at
-  never-long M k at = cond_cases (λ (h : Head). h ≡ Indefinite m q → ⊥) (leb (at + k) (length bs)) (λ _. never) (λ _. nor-short)
+  never_long M k at = cond_cases (λ (h : Head). h ≡ Indefinite m q → ⊥) (leb (at + k) (length bs)) (λ _. never) (λ _. nor_short)
 
-  never-simple : (at : ℕ) → simple_at bs at ≡ Indefinite m q → ⊥
+  never_simple : (at : ℕ) → simple_at bs at ≡ Indefinite m q → ⊥
   unfolding simple_at
-  never-simple at =
+  never_simple at =
       let P : Head → Type 0 = λ h. h ≡ Indefinite m q → ⊥ in
-      cond_cases P (ltb at (length bs)) (λ _. cond_cases P (ltb (get_or bs at 0) 32) (λ _. nor-bad) (λ _. never)) (λ _. nor-short)
+      cond_cases P (ltb at (length bs)) (λ _. cond_cases P (ltb (get_or bs at 0) 32) (λ _. nor_bad) (λ _. never)) (λ _. nor_short)
 
   -- the byte of a head of indefinite length
-  pub open-byte : head_at bs p ≡ Indefinite m q → (get_or bs p 0 ≡ m * 32 + 31) × (q ≡ p + 1)
+  pub open_byte : head_at bs p ≡ Indefinite m q → (get_or bs p 0 ≡ m * 32 + 31) × (q ≡ p + 1)
   unfolding head_by
-  open-byte e =
-      let w = indefinite-within bs p e in
+  open_byte e =
+      let w = indefinite_within bs p e in
       let h : p < length bs = omega (arith, w) in
-      (of (initial (get_or bs p 0)) (marks (get_or bs p 0)) (sym (head-by bs {at = p} h refl refl refl) ∙ e), w.0)
+      (of (initial (get_or bs p 0)) (marks (get_or bs p 0)) (sym (head_by_lem bs {at = p} h refl refl refl) ∙ e), w.0)
     where
       of : (i : Initial) → Marks (get_or bs p 0) i → head_by i bs (get_or bs p 0 / 32) (p + 1) ≡ Indefinite m q → get_or bs p 0 ≡ m * 32 + 31
       of (says.Short M v) n f = absurd (never f)
-      of (says.Long M k) n f = absurd (never-long (get_or bs p 0 / 32) (k + 1) (p + 1) f)
+      of (says.Long M k) n f = absurd (never_long (get_or bs p 0 / 32) (k + 1) (p + 1) f)
       of (says.Indefinite M) n f = let z : get_or bs p 0 / 32 ≡ m = cc in omega (arith, n)
-      of says.Simple n f = absurd (never-simple (p + 1) f)
+      of says.Simple n f = absurd (never_simple (p + 1) f)
       of says.Break n f = absurd (let z : ◌≡◌ {A = ℕ} 0 1 = cc in omega arith)
-      of says.Reserved n f = absurd (nor-bad f)
+      of says.Reserved n f = absurd (nor_bad f)
 
 -- the head that a byte makes by itself
 pub byte_head : (bs : List ℕ) (p b : ℕ) → get_or bs p 0 ≡ b → 0 < b → head_at bs p ≡ head_by (initial b) bs (b / 32) (p + 1)
 byte_head bs p b e h = elim (dec_lt p (length bs)) [
-  | yes y ↦ head-by bs {at = p} y (sym e) refl refl
+  | yes y ↦ head_by_lem bs {at = p} y (sym e) refl refl
   | no x ↦ absurd (omega (arith, e, get_or-eq_default bs 0 {n = p} (omega arith)))
 ]

@@ -23,97 +23,97 @@ use Rattle.elements.specs.Matching.{array, Break, past, versions, sizes, in_list
 use Rattle.elements.specs.Besides.Matching.{ElementAt, UnsignedAt}
 use Rattle.elements.specs.Inside.{before, items_up_to}
 use Rattle.elements.specs.Reading.{on_number, on_opening, on_end, unsigned_at, opens_at, closed, item_end, leaving, size_end, sized_end, two_end, pair_end, key_at, version_at, element_at, walk, elements_of, up_to, listed, bool_of, part_of}
-use Rattle.elements.proofs.ElementLaws.{Numbers, key-sound, next-sound, advance}
+use Rattle.elements.proofs.ElementLaws.{Numbers, key_sound, next_sound, advance}
 
 module _ {A : Type 0} (other : A) where
   -- a number, or none, was found
-  pub number-then : (k : ℕ → ℕ → A) {n m : Number} {v q : ℕ} {r : A} → n ≡ m → n ≡ Is v q → r ≡ k v q → r ≡ on_number other m k
-  number-then k e f g = g ∙ ap (λ (n : Number). on_number other n k) (sym f ∙ e)
+  pub number_then : (k : ℕ → ℕ → A) {n m : Number} {v q : ℕ} {r : A} → n ≡ m → n ≡ Is v q → r ≡ k v q → r ≡ on_number other m k
+  number_then k e f g = g ∙ ap (λ (n : Number). on_number other n k) (sym f ∙ e)
 
-  pub number-not : (k : ℕ → ℕ → A) {n m : Number} → n ≡ m → n ≡ Not → other ≡ on_number other m k
-  number-not k e f = ap (λ (n : Number). on_number other n k) (sym f ∙ e)
+  pub number_not : (k : ℕ → ℕ → A) {n m : Number} → n ≡ m → n ≡ Not → other ≡ on_number other m k
+  number_not k e f = ap (λ (n : Number). on_number other n k) (sym f ∙ e)
 
   -- an array or map, or none, was found
-  pub opening-then : (k : Extent → ℕ → A) {n m : Opening} {x : Extent} {a : ℕ} {r : A} → n ≡ m → n ≡ opening.At x a → r ≡ k x a → r ≡ on_opening other m k
-  opening-then k e f g = g ∙ ap (λ (n : Opening). on_opening other n k) (sym f ∙ e)
+  pub opening_then : (k : Extent → ℕ → A) {n m : Opening} {x : Extent} {a : ℕ} {r : A} → n ≡ m → n ≡ opening.At x a → r ≡ k x a → r ≡ on_opening other m k
+  opening_then k e f g = g ∙ ap (λ (n : Opening). on_opening other n k) (sym f ∙ e)
 
-  pub opening-not : (k : Extent → ℕ → A) {n m : Opening} → n ≡ m → n ≡ opening.Not → other ≡ on_opening other m k
-  opening-not k e f = ap (λ (n : Opening). on_opening other n k) (sym f ∙ e)
+  pub opening_not : (k : Extent → ℕ → A) {n m : Opening} → n ≡ m → n ≡ opening.Not → other ≡ on_opening other m k
+  opening_not k e f = ap (λ (n : Opening). on_opening other n k) (sym f ∙ e)
 
   -- an end, or none, was found
-  pub end-then : (k : ℕ → A) {n m : End} {q : ℕ} {r : A} → n ≡ m → n ≡ At q → r ≡ k q → r ≡ on_end other m k
-  end-then k e f g = g ∙ ap (λ (n : End). on_end other n k) (sym f ∙ e)
+  pub end_then : (k : ℕ → A) {n m : End} {q : ℕ} {r : A} → n ≡ m → n ≡ At q → r ≡ k q → r ≡ on_end other m k
+  end_then k e f g = g ∙ ap (λ (n : End). on_end other n k) (sym f ∙ e)
 
-  pub end-not : (k : ℕ → A) {n m : End} → n ≡ m → n ≡ Nowhere → other ≡ on_end other m k
-  end-not k e f = ap (λ (n : End). on_end other n k) (sym f ∙ e)
+  pub end_not : (k : ℕ → A) {n m : End} → n ≡ m → n ≡ Nowhere → other ≡ on_end other m k
+  end_not k e f = ap (λ (n : End). on_end other n k) (sym f ∙ e)
 
 -- ---- by what was found
 
 module _ (bs : List ℕ) where
   pub size_is : (p : ℕ) {v q : ℕ} {n : Number} {r : End} → n ≡ unsigned_at bs p → n ≡ Is v q → r ≡ cond (ltb v sizes) (At q) Nowhere → r ≡ size_end bs p
   unfolding size_end
-  size_is p e f g = number-then Nowhere (λ v q. cond (ltb v sizes) (At q) Nowhere) e f g
+  size_is p e f g = number_then Nowhere (λ v q. cond (ltb v sizes) (At q) Nowhere) e f g
 
-  pub size-not : (p : ℕ) {n : Number} → n ≡ unsigned_at bs p → n ≡ Not → Nowhere ≡ size_end bs p
+  pub size_not : (p : ℕ) {n : Number} → n ≡ unsigned_at bs p → n ≡ Not → Nowhere ≡ size_end bs p
   unfolding size_end
-  size-not p e f = number-not Nowhere (λ v q. cond (ltb v sizes) (At q) Nowhere) e f
+  size_not p e f = number_not Nowhere (λ v q. cond (ltb v sizes) (At q) Nowhere) e f
 
-  pub sized-is : (d p : ℕ) {q : ℕ} {n : End} {r : End} → n ≡ item_end bs d p → n ≡ At q → r ≡ size_end bs q → r ≡ sized_end bs d p
+  pub sized_is : (d p : ℕ) {q : ℕ} {n : End} {r : End} → n ≡ item_end bs d p → n ≡ At q → r ≡ size_end bs q → r ≡ sized_end bs d p
   unfolding sized_end
-  sized-is d p e f g = end-then Nowhere (λ q. size_end bs q) e f g
+  sized_is d p e f g = end_then Nowhere (λ q. size_end bs q) e f g
 
-  pub sized-not : (d p : ℕ) {n : End} → n ≡ item_end bs d p → n ≡ Nowhere → Nowhere ≡ sized_end bs d p
+  pub sized_not : (d p : ℕ) {n : End} → n ≡ item_end bs d p → n ≡ Nowhere → Nowhere ≡ sized_end bs d p
   unfolding sized_end
-  sized-not d p e f = end-not Nowhere (λ q. size_end bs q) e f
+  sized_not d p e f = end_not Nowhere (λ q. size_end bs q) e f
 
   pub pair_is : (d p : ℕ) {x : Extent} {a : ℕ} {n : Opening} {r : End} → n ≡ opens_at bs array p → n ≡ opening.At x a
       → r ≡ on_end Nowhere (sized_end bs (d - 1) a) (λ q. two_end bs x q) → r ≡ pair_end bs d p
   unfolding pair_end
-  pair_is d p e f g = opening-then Nowhere (λ x a. on_end Nowhere (sized_end bs (d - 1) a) (λ q. two_end bs x q)) e f g
+  pair_is d p e f g = opening_then Nowhere (λ x a. on_end Nowhere (sized_end bs (d - 1) a) (λ q. two_end bs x q)) e f g
 
-  pub pair-not : (d p : ℕ) {n : Opening} → n ≡ opens_at bs array p → n ≡ opening.Not → Nowhere ≡ pair_end bs d p
+  pub pair_not : (d p : ℕ) {n : Opening} → n ≡ opens_at bs array p → n ≡ opening.Not → Nowhere ≡ pair_end bs d p
   unfolding pair_end
-  pair-not d p e f = opening-not Nowhere (λ x a. on_end Nowhere (sized_end bs (d - 1) a) (λ q. two_end bs x q)) e f
+  pair_not d p e f = opening_not Nowhere (λ x a. on_end Nowhere (sized_end bs (d - 1) a) (λ q. two_end bs x q)) e f
 
-  pub key-is : (low p : ℕ) {v q : ℕ} {n : Number} {r : Number} {t : Bool} → n ≡ unsigned_at bs p → n ≡ Is v q
+  pub key_is : (low p : ℕ) {v q : ℕ} {n : Number} {r : Number} {t : Bool} → n ≡ unsigned_at bs p → n ≡ Is v q
       → t ≡ (leb low v && ltb v versions) → r ≡ cond t (Is v q) Not → r ≡ key_at bs low p
   unfolding key_at
-  key-is low p {v} {q} e f g h =
-      number-then Not (λ v q. cond (leb low v && ltb v versions) (Is v q) Not) e f (h ∙ ap (λ (t : Bool). cond t (Is v q) Not) g)
+  key_is low p {v} {q} e f g h =
+      number_then Not (λ v q. cond (leb low v && ltb v versions) (Is v q) Not) e f (h ∙ ap (λ (t : Bool). cond t (Is v q) Not) g)
 
-  pub key-not : (low p : ℕ) {n : Number} → n ≡ unsigned_at bs p → n ≡ Not → Not ≡ key_at bs low p
+  pub key_not : (low p : ℕ) {n : Number} → n ≡ unsigned_at bs p → n ≡ Not → Not ≡ key_at bs low p
   unfolding key_at
-  key-not low p e f = number-not Not (λ v q. cond (leb low v && ltb v versions) (Is v q) Not) e f
+  key_not low p e f = number_not Not (λ v q. cond (leb low v && ltb v versions) (Is v q) Not) e f
 
   -- a key is a version
-  pub key-small : (low p : ℕ) {v q : ℕ} {n : Number} → n ≡ key_at bs low p → n ≡ Is v q → v < versions
-  key-small low p {v} {q} e f = (subst (Numbers (λ w a. UnsignedAt bs p w a × (low ≤ w) × (w < versions))) (sym e ∙ f) (key-sound bs low p)).2
+  pub key_small : (low p : ℕ) {v q : ℕ} {n : Number} → n ≡ key_at bs low p → n ≡ Is v q → v < versions
+  key_small low p {v} {q} e f = (subst (Numbers (λ w a. UnsignedAt bs p w a × (low ≤ w) × (w < versions))) (sym e ∙ f) (key_sound bs low p)).2
 
-  pub version-is : (d low p : ℕ) {v q : ℕ} {n : Number} {r : Number} {e : End} → n ≡ key_at bs low p → n ≡ Is v q → e ≡ item_end bs d q
+  pub version_is : (d low p : ℕ) {v q : ℕ} {n : Number} {r : Number} {e : End} → n ≡ key_at bs low p → n ≡ Is v q → e ≡ item_end bs d q
       → r ≡ leaving (v + 1) e → r ≡ version_at bs d low p
   unfolding version_at
-  version-is d low p {v} {q} e f g h = number-then Not (λ v q. leaving (v + 1) (item_end bs d q)) e f (h ∙ ap (leaving (v + 1)) g)
+  version_is d low p {v} {q} e f g h = number_then Not (λ v q. leaving (v + 1) (item_end bs d q)) e f (h ∙ ap (leaving (v + 1)) g)
 
-  pub version-not : (d low p : ℕ) {n : Number} → n ≡ key_at bs low p → n ≡ Not → Not ≡ version_at bs d low p
+  pub version_not : (d low p : ℕ) {n : Number} → n ≡ key_at bs low p → n ≡ Not → Not ≡ version_at bs d low p
   unfolding version_at
-  version-not d low p e f = number-not Not (λ v q. leaving (v + 1) (item_end bs d q)) e f
+  version_not d low p e f = number_not Not (λ v q. leaving (v + 1) (item_end bs d q)) e f
 
   -- an element by its kind
-  pub element-by : (d low p : ℕ) {e g : Element} {r : Number} → e ≡ g → r ≡ element_at bs d g low p → r ≡ element_at bs d e low p
-  element-by d low p e h = h ∙ ap (λ (e : Element). element_at bs d e low p) (sym e)
+  pub element_by : (d low p : ℕ) {e g : Element} {r : Number} → e ≡ g → r ≡ element_at bs d g low p → r ≡ element_at bs d e low p
+  element_by d low p e h = h ∙ ap (λ (e : Element). element_at bs d e low p) (sym e)
 
   -- the list at a place, by the major type of its elements
   pub opened : (e : Element) (p : ℕ) {m : ℕ} {n : Opening} → m ≡ opener e → n ≡ opens_at bs m p → n ≡ opens_at bs (opener e) p
   opened e p f g = g ∙ ap (λ (m : ℕ). opens_at bs m p) f
 
-  pub list-is : (e : Element) (p : ℕ) {x : Extent} {a : ℕ} {n : Opening} {r : Part} → n ≡ opens_at bs (opener e) p → n ≡ opening.At x a
+  pub list_is : (e : Element) (p : ℕ) {x : Extent} {a : ℕ} {n : Opening} {r : Part} → n ≡ opens_at bs (opener e) p → n ≡ opening.At x a
       → r ≡ listed x a (elements_of bs in_list e x a) → r ≡ part_of bs (field.List e) p
   unfolding part_of
-  list-is e p f g h = opening-then part.Wrong (λ x a. listed x a (elements_of bs in_list e x a)) f g h
+  list_is e p f g h = opening_then part.Wrong (λ x a. listed x a (elements_of bs in_list e x a)) f g h
 
-  pub list-not : (e : Element) (p : ℕ) {n : Opening} → n ≡ opens_at bs (opener e) p → n ≡ opening.Not → part.Wrong ≡ part_of bs (field.List e) p
+  pub list_not : (e : Element) (p : ℕ) {n : Opening} → n ≡ opens_at bs (opener e) p → n ≡ opening.Not → part.Wrong ≡ part_of bs (field.List e) p
   unfolding part_of
-  list-not e p f g = opening-not part.Wrong (λ x a. listed x a (elements_of bs in_list e x a)) f g
+  list_not e p f g = opening_not part.Wrong (λ x a. listed x a (elements_of bs in_list e x a)) f g
 
 -- the place from a up to an end
 pub up_to_is : (a : ℕ) {q n : ℕ} {e : End} → n ≡ q - a → e ≡ At q → part.Place a n q ≡ up_to a e
@@ -132,12 +132,12 @@ pub closed_by : (bs : List ℕ) (k p : ℕ) {x y : Extent} {r : Bool} → x ≡ 
 closed_by bs k p e h = h ∙ ap (λ (x : Extent). closed bs x k p) (sym e)
 
 -- past the end there is no bool
-pub bool-past : (bs : List ℕ) (p : ℕ) → length bs ≤ p → part.Wrong ≡ bool_of (get_or bs p 0) p
-bool-past bs p h = rw (get_or-eq_default bs 0 h)
+pub bool_past : (bs : List ℕ) (p : ℕ) → length bs ≤ p → part.Wrong ≡ bool_of (get_or bs p 0) p
+bool_past bs p h = rw (get_or-eq_default bs 0 h)
 
 -- the byte that is there says what it says
-pub bool-here : (p : ℕ) {b x : ℕ} {r : Part} → b ≡ x → r ≡ bool_of b p → r ≡ bool_of x p
-bool-here p e f = f ∙ ap (λ (b : ℕ). bool_of b p) e
+pub bool_here : (p : ℕ) {b x : ℕ} {r : Part} → b ≡ x → r ≡ bool_of b p → r ≡ bool_of x p
+bool_here p e f = f ∙ ap (λ (b : ℕ). bool_of b p) e
 
 -- the place of elements, by what the walk came to, or by where their array ends
 pub listed_is : (x : Extent) (a : ℕ) {k q n r : ℕ} {m : Number} → n ≡ q - a → r ≡ past x q → m ≡ Is k q → part.Place a n r ≡ listed x a m
@@ -161,23 +161,23 @@ module _ (bs : List ℕ) (d : ℕ) (e : Element) (x : Extent) (k low p : ℕ) {t
       of (suc b) = rw c
 
   module _ (f : t ≡ false) {m : Number} (found : m ≡ element_at bs d e low p) where
-    open-still : closed bs x k p ≡ false
-    open-still = sym test ∙ f
+    open_still : closed bs x k p ≡ false
+    open_still = sym test ∙ f
 
-    pub walk-stop : m ≡ Not → Not ≡ walk bs d e x (length bs - k) k low p
+    pub walk_stop : m ≡ Not → Not ≡ walk bs d e x (length bs - k) k low p
     unfolding walk
-    walk-stop is = of (length bs - k)
+    walk_stop is = of (length bs - k)
       where
         of : (b : ℕ) → Not ≡ walk bs d e x b k low p
-        of zero = rw open-still
-        of (suc b) = rw open-still (number-not Not (λ next q. walk bs d e x b (k + 1) next q) found is)
+        of zero = rw open_still
+        of (suc b) = rw open_still (number_not Not (λ next q. walk bs d e x b (k + 1) next q) found is)
 
     module _ {next q : ℕ} (is : m ≡ Is next q) where
-      pub walk-forward : (p < q) × (q ≤ length bs)
-      walk-forward = advance bs (subst (Numbers (λ next q. ElementAt bs d e low p next q)) (sym found ∙ is) (next-sound bs d e low p))
+      pub walk_forward : (p < q) × (q ≤ length bs)
+      walk_forward = advance bs (subst (Numbers (λ next q. ElementAt bs d e low p next q)) (sym found ∙ is) (next_sound bs d e low p))
 
-      pub walk-on : k ≤ p → walk bs d e x (length bs - (k + 1)) (k + 1) next q ≡ walk bs d e x (length bs - k) k low p
+      pub walk_on : k ≤ p → walk bs d e x (length bs - (k + 1)) (k + 1) next q ≡ walk bs d e x (length bs - k) k low p
       unfolding walk
-      walk-on h =
-          let z : length bs - k ≡ suc (length bs - (k + 1)) = omega (arith, walk-forward) in
-          rw (z, open-still) (number-then Not (λ next q. walk bs d e x (length bs - (k + 1)) (k + 1) next q) found is refl)
+      walk_on h =
+          let z : length bs - k ≡ suc (length bs - (k + 1)) = omega (arith, walk_forward) in
+          rw (z, open_still) (number_then Not (λ next q. walk bs d e x (length bs - (k + 1)) (k + 1) next q) found is refl)

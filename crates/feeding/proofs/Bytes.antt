@@ -14,7 +14,7 @@ use lib.Seq.{get_or-set_same, set-set, drop-cons, drop-drop}
 use Rattle.base.proofs.Conds.{by_test, cond_cases, and_equal}
 use Rattle.ring.specs.Ring.{run, base_of, laid}
 use Rattle.ring.proofs.Runs.{run_length}
-use Rattle.ring.proofs.Stores.{laid-length}
+use Rattle.ring.proofs.Stores.{laid_length}
 use Rattle.ring.proofs.Areas.{area_in_store}
 use Rattle.wire.specs.declared.segment.Header.{Header}
 use Rattle.wire.specs.declared.instances.Party.{Party}
@@ -47,13 +47,13 @@ open_is (Closed x) e = cc
 -- ---- one byte
 
 module _ (us : Party) (caps : List ℕ) where
-  pub step-closed : (s : Reception) (x : ℕ) → is_open s.gate ≡ false → step us caps s x ≡ s
+  pub step_closed : (s : Reception) (x : ℕ) → is_open s.gate ≡ false → step us caps s x ≡ s
   unfolding step
-  step-closed s x g = rw g
+  step_closed s x g = rw g
 
-  pub step-headed : (s : Reception) (x : ℕ) → is_open s.gate ≡ true → s.receiving.rest ≡ 0 → step us caps s x ≡ headed us caps s x
+  pub step_headed : (s : Reception) (x : ℕ) → is_open s.gate ≡ true → s.receiving.rest ≡ 0 → step us caps s x ≡ headed us caps s x
   unfolding step
-  step-headed s x g z = rw (g, eq-eqb s.receiving.rest 0 z)
+  step_headed s x g z = rw (g, eq-eqb s.receiving.rest 0 z)
 
   pub step_kept : (s : Reception) (x : ℕ) → is_open s.gate ≡ true → 0 < s.receiving.rest → step us caps s x ≡ kept caps s (x ∷ [])
   unfolding step
@@ -62,32 +62,32 @@ module _ (us : Party) (caps : List ℕ) where
   -- ---- a run
 
   -- a closed connection takes nothing
-  pub fed-closed : (s : Reception) (xs : List ℕ) → is_open s.gate ≡ false → fed us caps s xs ≡ s
+  pub fed_closed : (s : Reception) (xs : List ℕ) → is_open s.gate ≡ false → fed us caps s xs ≡ s
   unfolding fed
-  fed-closed s [] g = refl
-  fed-closed s (x ∷ xs) g = ap (λ (t : Reception). fed us caps t xs) (step-closed s x g) ∙ fed-closed s xs g
+  fed_closed s [] g = refl
+  fed_closed s (x ∷ xs) g = ap (λ (t : Reception). fed us caps t xs) (step_closed s x g) ∙ fed_closed s xs g
 
-  pub used-closed : (s : Reception) (xs : List ℕ) → is_open s.gate ≡ false → used us caps s xs ≡ 0
+  pub used_closed : (s : Reception) (xs : List ℕ) → is_open s.gate ≡ false → used us caps s xs ≡ 0
   unfolding used
-  used-closed s [] g = refl
-  used-closed s (x ∷ xs) g = rw g
+  used_closed s [] g = refl
+  used_closed s (x ∷ xs) g = rw g
 
   -- the bytes of a run in two parts
-  pub fed-append : (s : Reception) (xs ys : List ℕ) → fed us caps s (xs ++ ys) ≡ fed us caps (fed us caps s xs) ys
+  pub fed_append : (s : Reception) (xs ys : List ℕ) → fed us caps s (xs ++ ys) ≡ fed us caps (fed us caps s xs) ys
   unfolding fed
-  fed-append s [] ys = refl
-  fed-append s (x ∷ xs) ys = fed-append (step us caps s x) xs ys
+  fed_append s [] ys = refl
+  fed_append s (x ∷ xs) ys = fed_append (step us caps s x) xs ys
 
-  pub used-append : (s : Reception) (xs ys : List ℕ)
+  pub used_append : (s : Reception) (xs ys : List ℕ)
       → used us caps s (xs ++ ys) ≡ used us caps s xs + used us caps (fed us caps s xs) ys
   unfolding fed used
-  used-append s [] ys = sym (zero-add (used us caps s ys))
-  used-append s (x ∷ xs) ys =
-      by_test (is_open s.gate) (λ g. rw g (omega (arith, used-append (step us caps s x) xs ys)))
+  used_append s [] ys = sym (zero-add (used us caps s ys))
+  used_append s (x ∷ xs) ys =
+      by_test (is_open s.gate) (λ g. rw g (omega (arith, used_append (step us caps s x) xs ys)))
       (λ g.
-      let one : step us caps s x ≡ s = step-closed s x g in
-      let stays : fed us caps (step us caps s x) xs ≡ s = fed-closed (step us caps s x) xs (rw one g) ∙ one in
-      rw (g, stays, used-closed s ys g))
+      let one : step us caps s x ≡ s = step_closed s x g in
+      let stays : fed us caps (step us caps s x) xs ≡ s = fed_closed (step us caps s x) xs (rw one g) ∙ one in
+      rw (g, stays, used_closed s ys g))
 
   -- ---- a payload
 
@@ -106,9 +106,9 @@ module _ (us : Party) (caps : List ℕ) where
       let next : start + (get_or held i 0 + 1) ≡ suc (start + get_or held i 0) = omega arith in
       rw (more, now, set-set, count, less, next)
 
-  kept-many : (s : Reception) (xs : List ℕ) → length (kept caps s xs).receiving.held ≡ length s.receiving.held
+  kept_many : (s : Reception) (xs : List ℕ) → length (kept caps s xs).receiving.held ≡ length s.receiving.held
   unfolding kept
-  kept-many s xs = simp length-set
+  kept_many s xs = simp length-set
 
   kept_on : (s : Reception) (xs : List ℕ) → length xs < s.receiving.rest
       → ((kept caps s xs).gate ≡ s.gate)
@@ -118,23 +118,23 @@ module _ (us : Party) (caps : List ℕ) where
   kept_on s xs h = (refl, refl, rw (ne_eqb (s.receiving.rest - length xs) 0 (λ e. omega arith)))
 
   -- payload bytes fed one after the other are kept as a run
-  pub fed-kept : (s : Reception) (xs ys : List ℕ) → is_open s.gate ≡ true → 0 < length xs → length xs ≤ s.receiving.rest
+  pub fed_kept : (s : Reception) (xs ys : List ℕ) → is_open s.gate ≡ true → 0 < length xs → length xs ≤ s.receiving.rest
       → s.receiving.instance < length s.receiving.held
       → (fed us caps s (xs ++ ys) ≡ fed us caps (kept caps s xs) ys)
       × (used us caps s (xs ++ ys) ≡ length xs + used us caps (kept caps s xs) ys)
   unfolding fed used
-  fed-kept s [] ys g p l h = absurd (omega arith)
-  fed-kept s (x ∷ []) ys g p l h =
+  fed_kept s [] ys g p l h = absurd (omega arith)
+  fed_kept s (x ∷ []) ys g p l h =
       let one : step us caps s x ≡ kept caps s (x ∷ []) = step_kept s x g (omega arith) in
       (ap (λ (t : Reception). fed us caps t ys) one, rw (g, one) (omega arith))
-  fed-kept s (x ∷ y ∷ xs) ys g p l h =
+  fed_kept s (x ∷ y ∷ xs) ys g p l h =
       let s1 : Reception = kept caps s (x ∷ []) in
       let one : step us caps s x ≡ s1 = step_kept s x g (omega arith) in
       let on = kept_on s (x ∷ []) (omega arith) in
-      let many : length s1.receiving.held ≡ length s.receiving.held = kept-many s (x ∷ []) in
+      let many : length s1.receiving.held ≡ length s.receiving.held = kept_many s (x ∷ []) in
       let h1 : s1.receiving.instance < length s1.receiving.held = rw (on.2, many) h in
       let l1 : length (y ∷ xs) ≤ s1.receiving.rest = omega (arith, on.1) in
-      let rest = fed-kept s1 (y ∷ xs) ys (rw on.0 g) (omega arith) l1 h1 in
+      let rest = fed_kept s1 (y ∷ xs) ys (rw on.0 g) (omega arith) l1 h1 in
       let all : kept caps s1 (y ∷ xs) ≡ kept caps s (x ∷ y ∷ xs) = kept_more s x (y ∷ xs) (omega arith) h in
       let after : used us caps (kept caps s1 (y ∷ xs)) ys ≡ used us caps (kept caps s (x ∷ y ∷ xs)) ys =
       ap (λ (t : Reception). used us caps t ys) all in (
@@ -198,7 +198,7 @@ sound_kept b caps s xs r more l =
     let now : get_or (set held i (get_or held i 0 + length xs)) i 0 ≡ get_or held i 0 + length xs =
     get_or-set_same held i (get_or held i 0 + length xs) 0 (omega (arith, u.0, at_most b, r.many)) in
     record {
-      areas = laid-length s.store (base_of caps i) (get_or caps i 0) (get_or s.receiving.starts i 0 + get_or held i 0) xs ∙ r.areas;
+      areas = laid_length s.store (base_of caps i) (get_or caps i 0) (get_or s.receiving.starts i 0 + get_or held i 0) xs ∙ r.areas;
       many = length-set held i (get_or held i 0 + length xs) ∙ r.many;
       each = r.each;
       under = λ still. rw (ne_eqb (s.receiving.rest - length xs) 0 (λ z. omega arith)) (u.0, omega (arith, u.1, now));
@@ -224,13 +224,13 @@ sound_under {b} {caps} {w = w} {store} r more =
 module _ {us : Party} {caps starts held : List ℕ} {w : Way} {store xs : List ℕ} {at : ℕ} {t : Step}
     (r : Sound us.bundle caps (reception starts held w Open store)) where
   -- a header byte
-  pub steps-header : at < length xs → w.rest ≡ 0 → Heads us caps held w (get_or xs at 0) t
+  pub steps_header : at < length xs → w.rest ≡ 0 → Heads us caps held w (get_or xs at 0) t
       → Steps us caps starts held held w store store xs at t
   unfolding fed used
-  steps-header h z k =
+  steps_header h z k =
       let s : Reception = reception starts held w Open store in
       let n : Reception = reception starts held t.way t.gate store in
-      let leads : step us caps s (get_or xs at 0) ≡ n = step-headed us caps s (get_or xs at 0) refl z ∙ sym (k.leaves starts store) in
+      let leads : step us caps s (get_or xs at 0) ≡ n = step_headed us caps s (get_or xs at 0) refl z ∙ sym (k.leaves starts store) in
       let e : suc at ≡ at + t.used = omega (arith, k.one) in
       record {
         some = omega (arith, k.one);
@@ -248,13 +248,13 @@ module _ {us : Party} {caps starts held : List ℕ} {w : Way} {store xs : List �
       }
 
   -- a run of bytes whose law says to which reception it leads
-  pub steps-run : {held' store' : List ℕ} (m : Reception) → 0 < t.used → at + t.used ≤ length xs
+  pub steps_run : {held' store' : List ℕ} (m : Reception) → 0 < t.used → at + t.used ≤ length xs
       → reception starts held' t.way t.gate store' ≡ m → Sound us.bundle caps m
       → ((ys : List ℕ)
       → (fed us caps (reception starts held w Open store) (run xs at t.used ++ ys) ≡ fed us caps m ys)
       × (used us caps (reception starts held w Open store) (run xs at t.used ++ ys) ≡ length (run xs at t.used) + used us caps m ys))
       → Steps us caps starts held held' w store store' xs at t
-  steps-run {held'} {store'} m more ends leads ready law =
+  steps_run {held'} {store'} m more ends leads ready law =
       let s : Reception = reception starts held w Open store in
       let p : List ℕ = run xs at t.used in
       let behind : List ℕ = drop (at + t.used) xs in
@@ -273,14 +273,14 @@ module _ {us : Party} {caps starts held : List ℕ} {w : Way} {store xs : List �
       }
 
   -- a run of payload bytes
-  pub steps-kept : {held' store' : List ℕ} → 0 < w.rest → Lays caps starts held held' w store store' xs at t
+  pub steps_kept : {held' store' : List ℕ} → 0 < w.rest → Lays caps starts held held' w store store' xs at t
       → Steps us caps starts held held' w store store' xs at t
-  steps-kept more k =
+  steps_kept more k =
       let s : Reception = reception starts held w Open store in
       let p : List ℕ = run xs at t.used in
       let long : length p ≡ t.used = run_length xs at t.used k.ends in
-      steps-run (kept caps s p) k.some k.ends k.leaves (sound_kept us.bundle caps s p r more (omega (arith, k.within)))
-      (λ ys. fed-kept us caps s p ys refl (omega (arith, k.some)) (omega (arith, k.within)) (omega (arith, (r.under more).0, at_most us.bundle, r.many)))
+      steps_run (kept caps s p) k.some k.ends k.leaves (sound_kept us.bundle caps s p r more (omega (arith, k.within)))
+      (λ ys. fed_kept us caps s p ys refl (omega (arith, k.some)) (omega (arith, k.within)) (omega (arith, (r.under more).0, at_most us.bundle, r.many)))
 
 -- the loop: what is left to feed leaves what all of it does
 pub record Running (us : Party) (caps : List ℕ) (s₀ : Reception) (xs : List ℕ) (s : Reception) (at : ℕ) : Type 0 where
@@ -305,13 +305,13 @@ module _ {us : Party} {caps : List ℕ} {s₀ : Reception} {xs starts held : Lis
       })
 
   -- at the byte that closes
-  pub run-shut : {held' store' : List ℕ} {t : Step} → Steps us caps starts held held' w store store' xs at t → is_open t.gate ≡ false
+  pub run_shut : {held' store' : List ℕ} {t : Step} → Steps us caps starts held held' w store store' xs at t → is_open t.gate ≡ false
       → (reception starts held' t.way t.gate store' ≡ fed us caps s₀ xs) × (at + t.used ≡ used us caps s₀ xs)
-  run-shut {held'} {store'} {t} k g =
+  run_shut {held'} {store'} {t} k g =
       let n : Reception = reception starts held' t.way t.gate store' in
       let behind : List ℕ = drop (at + t.used) xs in (
-        sym (v.leaves ∙ k.leaves ∙ fed-closed us caps n behind g),
-        omega (arith, v.counts, k.counts, used-closed us caps n behind g),
+        sym (v.leaves ∙ k.leaves ∙ fed_closed us caps n behind g),
+        omega (arith, v.counts, k.counts, used_closed us caps n behind g),
       )
 
   -- at the end of the run
@@ -354,14 +354,14 @@ open_by c st xs n s s₀ e f g = rw (f, g, e)
 
 -- the ways out
 module _ (c : Connection) (st xs : List ℕ) where
-  pub feed-range : receives c (length st) ≡ false → feed_of c st xs ≡ told (refused c 23) st
+  pub feed_range : receives c (length st) ≡ false → feed_of c st xs ≡ told (refused c 23) st
   unfolding feed_of
-  feed-range e = rw e
+  feed_range e = rw e
 
-  pub feed-closed : receives c (length st) ≡ true → is_open c.gate ≡ false → feed_of c st xs ≡ told (refused c 20) st
+  pub feed_closed : receives c (length st) ≡ true → is_open c.gate ≡ false → feed_of c st xs ≡ told (refused c 20) st
   unfolding feed_of
-  feed-closed e g = rw (e, g)
+  feed_closed e g = rw (e, g)
 
-  pub feed-open : receives c (length st) ≡ true → is_open c.gate ≡ true → feed_of c st xs ≡ feed_open c st xs
+  pub feed_open_lem : receives c (length st) ≡ true → is_open c.gate ≡ true → feed_of c st xs ≡ feed_open c st xs
   unfolding feed_of
-  feed-open e g = rw (e, g)
+  feed_open_lem e g = rw (e, g)

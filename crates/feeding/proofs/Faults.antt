@@ -24,7 +24,7 @@ use Rattle.admitting.specs.declared.Admission.{Admission}
 use Rattle.admitting.specs.declared.Admission.TheVariants.{Fault, Payload}
 use Rattle.feeding.specs.Feeding.{Reception, admitted, admission, settled, headed, kept, step, fed, used}
 use Rattle.feeding.specs.Besides.Numbers.{Eighth}
-use Rattle.feeding.proofs.Bytes.{step-headed, fed-closed, used-closed, fed-append, used-append}
+use Rattle.feeding.proofs.Bytes.{step_headed, fed_closed, used_closed, fed_append, used_append}
 
 -- an open gate is not closed
 never : {P : Type 0} (g : Gate) (x : Closing) → is_open g ≡ true → g ≡ Closed x → P
@@ -71,8 +71,8 @@ module _ {us : Party} {caps : List ℕ} {s : Reception} {xs : List ℕ} {P : Lis
       Q m.held d.len (route_of us d.protocol d.mode)
 
   -- the same byte, of which more is known
-  pub eighth-with : {Q : List ℕ → ℕ → Route → Type 0} (k : Eighth us caps s xs P) → Holds k Q → Eighth us caps s xs Q
-  eighth-with k q =
+  pub eighth_with : {Q : List ℕ → ℕ → Route → Type 0} (k : Eighth us caps s xs P) → Holds k Q → Eighth us caps s xs Q
+  eighth_with k q =
       record {
         front = k.front;
         byte = k.byte;
@@ -85,25 +85,25 @@ module _ {us : Party} {caps : List ℕ} {s : Reception} {xs : List ℕ} {P : Lis
       }
 
   -- what follows from what it says
-  pub eighth-so : {Q : List ℕ → ℕ → Route → Type 0} → ((held : List ℕ) (n : ℕ) (to : Route) → P held n to → Q held n to)
+  pub eighth_so : {Q : List ℕ → ℕ → Route → Type 0} → ((held : List ℕ) (n : ℕ) (to : Route) → P held n to → Q held n to)
       → Eighth us caps s xs P → Eighth us caps s xs Q
-  eighth-so {Q} f k = eighth-with {Q = Q} k (f _ _ _ k.says)
+  eighth_so {Q} f k = eighth_with {Q = Q} k (f _ _ _ k.says)
 
 -- what an eighth byte says
 abbrev pub Refuses : List ℕ → Closing → List ℕ → ℕ → Route → Type 0
 Refuses caps x held n to = admitted caps held n to ≡ Fault x
 
 module _ (us : Party) (caps : List ℕ) where
-  settled-closes : (s : Reception) (a : Admission) (x : Closing) → is_open s.gate ≡ true → (settled s a).gate ≡ Closed x → a ≡ Fault x
-  settled-closes s (Fault y) x o e = let q : y ≡ x = cc in ap Fault q
-  settled-closes s (Payload i n) x o e = never s.gate x o e
+  settled_closes : (s : Reception) (a : Admission) (x : Closing) → is_open s.gate ≡ true → (settled s a).gate ≡ Closed x → a ≡ Fault x
+  settled_closes s (Fault y) x o e = let q : y ≡ x = cc in ap Fault q
+  settled_closes s (Payload i n) x o e = never s.gate x o e
 
   -- a byte that closes is the eighth of a header that is a fault
-  step-closes : (s : Reception) (y : ℕ) (x : Closing) → is_open s.gate ≡ true → (step us caps s y).gate ≡ Closed x
+  step_closes : (s : Reception) (y : ℕ) (x : Closing) → is_open s.gate ≡ true → (step us caps s y).gate ≡ Closed x
       → (s.receiving.rest ≡ 0) × (header_length ≤ (added s.receiving.header y).count)
       × (admission us caps s.receiving.held (added s.receiving.header y) ≡ Fault x)
   unfolding step headed kept
-  step-closes s y x o e =
+  step_closes s y x o e =
       let h : Header = added s.receiving.header y in
       by_test (eqb s.receiving.rest 0)
       (λ t.
@@ -111,19 +111,19 @@ module _ (us : Party) (caps : List ℕ) where
       (λ q. (
         eqb-true s.receiving.rest 0 t,
         leb-true header_length h.count q,
-        settled-closes s (admission us caps s.receiving.held h) x o (rw (o, t, q) at e),
+        settled_closes s (admission us caps s.receiving.held h) x o (rw (o, t, q) at e),
       ))
       (λ q. never s.gate x o (rw (o, t, q) at e)))
       (λ t. never s.gate x o (rw (o, t) at e))
 
-  pub fault-found : (s : Reception) (xs : List ℕ) (x : Closing) → is_open s.gate ≡ true → (fed us caps s xs).gate ≡ Closed x
+  pub fault_found : (s : Reception) (xs : List ℕ) (x : Closing) → is_open s.gate ≡ true → (fed us caps s xs).gate ≡ Closed x
       → Eighth us caps s xs (Refuses caps x)
   unfolding fed admission
-  fault-found s [] x o e = never s.gate x o e
-  fault-found s (y ∷ ys) x o e =
+  fault_found s [] x o e = never s.gate x o e
+  fault_found s (y ∷ ys) x o e =
       by_test (is_open (step us caps s y).gate)
       (λ t.
-      let k = fault-found (step us caps s y) ys x t e in
+      let k = fault_found (step us caps s y) ys x t e in
       record {
         front = y ∷ k.front;
         byte = k.byte;
@@ -135,7 +135,7 @@ module _ (us : Party) (caps : List ℕ) where
         says = k.says;
       })
       (λ t.
-      let k = step-closes s y x o (ap (λ (q : Reception). q.gate) (sym (fed-closed us caps (step us caps s y) ys t)) ∙ e) in
+      let k = step_closes s y x o (ap (λ (q : Reception). q.gate) (sym (fed_closed us caps (step us caps s y) ys t)) ∙ e) in
       record { front = []; byte = y; back = ys; run = refl; reached = o; idle = k.0; whole = k.1; says = k.2 })
 
   -- ---- what it leaves
@@ -147,36 +147,36 @@ module _ (us : Party) (caps : List ℕ) where
   used_all s (x ∷ xs) o =
       by_test (is_open s.gate) (λ t. rw t (ap suc (used_all (step us caps s x) xs o)))
       (λ t.
-      let stays : fed us caps s (x ∷ xs) ≡ s = fed-closed us caps s (x ∷ xs) t in
+      let stays : fed us caps s (x ∷ xs) ≡ s = fed_closed us caps s (x ∷ xs) t in
       absurd (true≢false (sym o ∙ ap (λ (q : Reception). is_open q.gate) stays ∙ t)))
 
-  pub fault-leaves : (s : Reception) (xs : List ℕ) (x : Closing) (e : Eighth us caps s xs (Refuses caps x))
+  pub fault_leaves : (s : Reception) (xs : List ℕ) (x : Closing) (e : Eighth us caps s xs (Refuses caps x))
       → (fed us caps s xs ≡ settled (fed us caps s e.front) (Fault x)) × (used us caps s xs ≡ suc (length e.front))
   unfolding fed used headed admission
-  fault-leaves s xs x e =
+  fault_leaves s xs x e =
       let m : Reception = fed us caps s e.front in
       let n : Reception = settled m (Fault x) in
       let h : Header = added m.receiving.header e.byte in
       let leads : step us caps m e.byte ≡ n =
-      step-headed us caps m e.byte e.reached e.idle
+      step_headed us caps m e.byte e.reached e.idle
       ∙ rw (le-leb header_length h.count e.whole, e.says) in
       let on : fed us caps m (e.byte ∷ e.back) ≡ n =
-      ap (λ (q : Reception). fed us caps q e.back) leads ∙ fed-closed us caps n e.back refl in
+      ap (λ (q : Reception). fed us caps q e.back) leads ∙ fed_closed us caps n e.back refl in
       let last : used us caps (step us caps m e.byte) e.back ≡ 0 =
-      ap (λ (q : Reception). used us caps q e.back) leads ∙ used-closed us caps n e.back refl in
+      ap (λ (q : Reception). used us caps q e.back) leads ∙ used_closed us caps n e.back refl in
       let some : used us caps m (e.byte ∷ e.back) ≡ 1 = rw e.reached (ap suc last) in (
-        ap (λ (l : List ℕ). fed us caps s l) e.run ∙ fed-append us caps s e.front (e.byte ∷ e.back) ∙ on,
-        ap (λ (l : List ℕ). used us caps s l) e.run ∙ used-append us caps s e.front (e.byte ∷ e.back)
+        ap (λ (l : List ℕ). fed us caps s l) e.run ∙ fed_append us caps s e.front (e.byte ∷ e.back) ∙ on,
+        ap (λ (l : List ℕ). used us caps s l) e.run ∙ used_append us caps s e.front (e.byte ∷ e.back)
             ∙ omega (arith, used_all s e.front e.reached, some),
       )
 
   -- what was open at a byte was open before
-  pub open-before : (s : Reception) (xs : List ℕ) → is_open (fed us caps s xs).gate ≡ true → is_open s.gate ≡ true
-  open-before s xs o =
+  pub open_before : (s : Reception) (xs : List ℕ) → is_open (fed us caps s xs).gate ≡ true → is_open s.gate ≡ true
+  open_before s xs o =
       by_test (is_open s.gate) (λ t. t)
-      (λ t. absurd (true≢false (sym o ∙ ap (λ (q : Reception). is_open q.gate) (fed-closed us caps s xs t) ∙ t)))
+      (λ t. absurd (true≢false (sym o ∙ ap (λ (q : Reception). is_open q.gate) (fed_closed us caps s xs t) ∙ t)))
 
-  pub fault-why : (s : Reception) (xs : List ℕ) (x : Closing) → is_open s.gate ≡ true → (fed us caps s xs).gate ≡ Closed x
+  pub fault_why : (s : Reception) (xs : List ℕ) (x : Closing) → is_open s.gate ≡ true → (fed us caps s xs).gate ≡ Closed x
       → Eighth us caps s xs (λ held n to. Cause caps held n to x)
-  fault-why s xs x o e =
-      eighth-so {P = Refuses caps x} {Q = λ held n to. Cause caps held n to x} (λ held n to f. cause caps held n to x f) (fault-found s xs x o e)
+  fault_why s xs x o e =
+      eighth_so {P = Refuses caps x} {Q = λ held n to. Cause caps held n to x} (λ held n to f. cause caps held n to x f) (fault_found s xs x o e)

@@ -11,9 +11,9 @@ use lib.ListN.{length, get_or, set, length-set}
 use lib.Seq.{get_or-set_other}
 use Rattle.base.specs.Numbers.{Bytes}
 use Rattle.base.proofs.Conds.{by_test, cond_cases}
-use Rattle.base.proofs.NumberLaws.{bytes-set, bytes-zeros}
+use Rattle.base.proofs.NumberLaws.{bytes_set, bytes_zeros}
 use Rattle.ring.specs.Ring.{base_of}
-use Rattle.ring.proofs.Stores.{laid-length}
+use Rattle.ring.proofs.Stores.{laid_length}
 use Rattle.wire.specs.declared.segment.Header.{Header}
 use Rattle.wire.specs.declared.instances.Party.{Party}
 use Rattle.wire.specs.declared.instances.Route.{Route}
@@ -42,19 +42,19 @@ pub record Kept (b : ℕ) (caps starts : List ℕ) (n : ℕ) (s : Reception) : T
       × (get_or s.receiving.held s.receiving.instance 0 + s.receiving.rest ≤ get_or caps s.receiving.instance 0)
   pub long : length s.store ≡ n
 
-set-most : (l : List ℕ) (i a : ℕ) → get_or (set l i a) i 0 ≤ a
-set-most [] i a = omega arith
-set-most (x ∷ l) zero a = omega arith
-set-most (x ∷ l) (suc i) a = set-most l i a
+set_most : (l : List ℕ) (i a : ℕ) → get_or (set l i a) i 0 ≤ a
+set_most [] i a = omega arith
+set_most (x ∷ l) zero a = omega arith
+set_most (x ∷ l) (suc i) a = set_most l i a
 
 module _ (us : Party) (caps starts : List ℕ) (n : ℕ) where
-  kept-settled : (s : Reception) (m : ℕ) (r : Route) → Within us.bundle r → Kept us.bundle caps starts n s → s.receiving.rest ≡ 0
+  kept_settled : (s : Reception) (m : ℕ) (r : Route) → Within us.bundle r → Kept us.bundle caps starts n s → s.receiving.rest ≡ 0
       → Kept us.bundle caps starts n (settled s (admitted caps s.receiving.held m r))
-  kept-settled s m Unknown w k z =
+  kept_settled s m Unknown w k z =
       record { places = k.places; held = k.held; header = omega arith; under_way = λ more. absurd (omega arith); long = k.long }
-  kept-settled s m (Wrong i) w k z =
+  kept_settled s m (Wrong i) w k z =
       record { places = k.places; held = k.held; header = omega arith; under_way = λ more. absurd (omega arith); long = k.long }
-  kept-settled s m (To i) w k z =
+  kept_settled s m (To i) w k z =
       cond_cases (λ (a : Admission). Kept us.bundle caps starts n (settled s a)) (leb (get_or s.receiving.held i 0 + m) (get_or caps i 0))
       (λ t.
       record {
@@ -68,13 +68,13 @@ module _ (us : Party) (caps starts : List ℕ) (n : ℕ) where
       })
       (λ t. record { places = k.places; held = k.held; header = omega arith; under_way = λ more. absurd (omega arith); long = k.long })
 
-  kept-headed : (s : Reception) (x : ℕ) → Kept us.bundle caps starts n s → s.receiving.rest ≡ 0 → Kept us.bundle caps starts n (headed us caps s x)
+  kept_headed : (s : Reception) (x : ℕ) → Kept us.bundle caps starts n s → s.receiving.rest ≡ 0 → Kept us.bundle caps starts n (headed us caps s x)
   unfolding headed admission
-  kept-headed s x k z =
+  kept_headed s x k z =
       let h = added s.receiving.header x in
       let d = decoded h.bytes in
       cond_cases (Kept us.bundle caps starts n) (leb header_length h.count)
-      (λ t. kept-settled s d.len (route_of us d.protocol d.mode) (route_within us d.protocol d.mode) k z)
+      (λ t. kept_settled s d.len (route_of us d.protocol d.mode) (route_within us d.protocol d.mode) k z)
       (λ t.
       record {
         places = k.places;
@@ -97,14 +97,14 @@ module _ (us : Party) (caps starts : List ℕ) (n : ℕ) where
             (λ q.
             let e : i ≡ j = eqb-true i j q in
             let was = (k.under_way more).2 in
-            rw (← e) (omega (arith, set-most held i (get_or held i 0 + 1), was)))
+            rw (← e) (omega (arith, set_most held i (get_or held i 0 + 1), was)))
             (λ q. rw (get_or-set_other held i j (get_or held i 0 + 1) 0 (λ e. eqb-false i j q (sym e))) (k.held j l));
         header = k.header;
         under_way = λ still.
             let some = ne_eqb (r.rest - 1) 0 (λ e. omega arith) in
             let (none, inside, fit) = k.under_way more in
-            (none, rw some inside, rw some (omega (arith, set-most held i (get_or held i 0 + 1), fit)));
-        long = laid-length s.store (base_of caps i) (get_or caps i 0) (get_or r.starts i 0 + get_or held i 0) (x ∷ []) ∙ k.long;
+            (none, rw some inside, rw some (omega (arith, set_most held i (get_or held i 0 + 1), fit)));
+        long = laid_length s.store (base_of caps i) (get_or caps i 0) (get_or r.starts i 0 + get_or held i 0) (x ∷ []) ∙ k.long;
       }
 
   kept_step : (s : Reception) (x : ℕ) → Kept us.bundle caps starts n s → Kept us.bundle caps starts n (step us caps s x)
@@ -112,20 +112,20 @@ module _ (us : Party) (caps starts : List ℕ) (n : ℕ) where
   kept_step s x k =
       cond_cases (Kept us.bundle caps starts n) (is_open s.gate)
       (λ o.
-      cond_cases (Kept us.bundle caps starts n) (eqb s.receiving.rest 0) (λ t. kept-headed s x k (eqb-true s.receiving.rest 0 t))
+      cond_cases (Kept us.bundle caps starts n) (eqb s.receiving.rest 0) (λ t. kept_headed s x k (eqb-true s.receiving.rest 0 t))
       (λ t. let z = eqb-false s.receiving.rest 0 t in kept_payload s x k (omega arith)))
       (λ o. k)
 
-  pub kept-fed : (s : Reception) (xs : List ℕ) → Kept us.bundle caps starts n s → Kept us.bundle caps starts n (fed us caps s xs)
+  pub kept_fed : (s : Reception) (xs : List ℕ) → Kept us.bundle caps starts n s → Kept us.bundle caps starts n (fed us caps s xs)
   unfolding fed
-  kept-fed s [] k = k
-  kept-fed s (x ∷ xs) k = kept-fed (step us caps s x) xs (kept_step s x k)
+  kept_fed s [] k = k
+  kept_fed s (x ∷ xs) k = kept_fed (step us caps s x) xs (kept_step s x k)
 
 -- ---- the range of the whole record
 
-pub kept-given : (c : Connection) (st : List ℕ) → in_range c ≡ true
+pub kept_given : (c : Connection) (st : List ℕ) → in_range c ≡ true
     → Kept c.settings.party.bundle c.settings.receive c.receiving.starts (length st) (given c st)
-kept-given c st e =
+kept_given c st e =
     let k : Ranged c = ranged c e in
     record { places = refl; held = λ i l. (k.receiving i l).1; header = k.header; under_way = k.under_way; long = refl }
 
@@ -154,19 +154,19 @@ spelt_added : (h : Header) (x : ℕ) → Spelt h → x < 256 → Spelt (added h 
 unfolding added
 spelt_added h x (l, s) t =
     cond_cases Spelt (ltb h.count header_length)
-    (λ q. (length-set h.bytes h.count x ∙ l, bytes-set h.bytes h.count x s t))
+    (λ q. (length-set h.bytes h.count x ∙ l, bytes_set h.bytes h.count x s t))
     (λ q. (l, s))
 
 pub spelt_empty : Spelt empty
-spelt_empty = (refl, bytes-zeros header_length)
+spelt_empty = (refl, bytes_zeros header_length)
 
 module _ (us : Party) (caps : List ℕ) where
   -- the closing is one that a fault leaves
   abbrev Proper : Reception → Type 0
   Proper s = Spelt s.receiving.header × (gate_ok us.bundle s.gate ≡ true)
 
-  proper-settled : (s : Reception) (p m n : ℕ) → m < 2 → Proper s → Proper (settled s (admitted caps s.receiving.held n (route_of us p m)))
-  proper-settled s p m n two k = go (route_of us p m) refl
+  proper_settled : (s : Reception) (p m n : ℕ) → m < 2 → Proper s → Proper (settled s (admitted caps s.receiving.held n (route_of us p m)))
+  proper_settled s p m n two k = go (route_of us p m) refl
     where
       go : (r : Route) → route_of us p m ≡ r → Proper (settled s (admitted caps s.receiving.held n r))
       go Unknown e = (spelt_empty, refl)
@@ -175,9 +175,9 @@ module _ (us : Party) (caps : List ℕ) where
           cond_cases (λ (a : Admission). Proper (settled s a)) (leb (get_or s.receiving.held i 0 + n) (get_or caps i 0)) (λ t. (spelt_empty, k.1))
           (λ t. (spelt_empty, rw (lt-ltb i (instances us.bundle) (subst (Within us.bundle) e (route_within us p m)))))
 
-  proper-step : (s : Reception) (x : ℕ) → Proper s → x < 256 → Proper (step us caps s x)
+  proper_step : (s : Reception) (x : ℕ) → Proper s → x < 256 → Proper (step us caps s x)
   unfolding step headed admission kept
-  proper-step s x k l =
+  proper_step s x k l =
       let h : Header = added s.receiving.header x in
       let spelt : Spelt h = spelt_added s.receiving.header x k.0 l in
       let d = decoded h.bytes in
@@ -186,12 +186,12 @@ module _ (us : Party) (caps : List ℕ) where
       cond_cases Proper (eqb s.receiving.rest 0)
       (λ t.
       cond_cases Proper (leb header_length h.count)
-      (λ q. proper-settled s d.protocol d.mode d.len (round_trip.written_read h.bytes spelt.0 spelt.1).0.mode k)
+      (λ q. proper_settled s d.protocol d.mode d.len (round_trip.written_read h.bytes spelt.0 spelt.1).0.mode k)
       (λ q. (spelt, k.1)))
       (λ t. k))
       (λ o. k)
 
-  pub proper-fed : (s : Reception) (xs : List ℕ) → Proper s → Bytes xs → Proper (fed us caps s xs)
+  pub proper_fed : (s : Reception) (xs : List ℕ) → Proper s → Bytes xs → Proper (fed us caps s xs)
   unfolding fed Bytes
-  proper-fed s [] k bs = k
-  proper-fed s (x ∷ xs) k (l, bs) = proper-fed (step us caps s x) xs (proper-step s x k l) bs
+  proper_fed s [] k bs = k
+  proper_fed s (x ∷ xs) k (l, bs) = proper_fed (step us caps s x) xs (proper_step s x k l) bs

@@ -15,7 +15,7 @@ use lib.Seq.{sets, sets-eq, length-take-le, append_snoc, drop_at, take_at, get_o
 use borrow.Author.Tests.{lt-ltb, leb-true, ltb-true, ltb-false, ne_eqb}
 use Rattle.base.specs.Numbers.{Bytes, number, octets}
 use Rattle.base.proofs.Conds.{by_test, cond_cases}
-use Rattle.base.proofs.NumberLaws.{length-octets, octets-bytes, number-octets, number-below, bytes_take, bytes_drop}
+use Rattle.base.proofs.NumberLaws.{length_octets, octets_bytes, number_octets, number_below, bytes_take, bytes_drop}
 use Rattle.ring.specs.Ring.{run}
 use Rattle.ring.proofs.Runs.{run_length}
 use Rattle.head.specs.Initial.{major_of, initial_of, initial}
@@ -28,18 +28,18 @@ use Rattle.head.specs.declared.Initial.TheVariants as says
 use Rattle.head.specs.declared.read.Head.{Head}
 use Rattle.head.specs.declared.read.Head.TheVariants.{Definite, Indefinite, Break, Short, Bad}
 use Rattle.head.specs.declared.write.Width.{Width}
-use Rattle.head.proofs.ReadLaws.{long-here, head-by, Sound, sound}
+use Rattle.head.proofs.ReadLaws.{long_here, head_by_lem, Sound, sound}
 
 -- it is 1, 2, 3, 5 or 9 bytes long
-pub shortest-length : (m v : ℕ) → length (shortest m v) ≡ length_of v
+pub shortest_length : (m v : ℕ) → length (shortest m v) ≡ length_of v
 unfolding shortest
-shortest-length m v = rw length-octets (sym (add-one (width_of v).bytes))
+shortest_length m v = rw length_octets (sym (add-one (width_of v).bytes))
 
 -- its first byte stored, and then the bytes of the argument
-pub shortest-stored : (l : List ℕ) (at m v : ℕ) {w : Width} {t : List ℕ} → w ≡ width_of v
+pub shortest_stored : (l : List ℕ) (at m v : ℕ) {w : Width} {t : List ℕ} → w ≡ width_of v
     → t ≡ sets (set l at (m * 32 + w.info)) (at + 1) (octets w.bytes v) → t ≡ sets l at (shortest m v)
 unfolding shortest
-shortest-stored l at m v e g =
+shortest_stored l at m v e g =
     g ∙ ap (λ (w : Width). sets (set l at (m * 32 + w.info)) (at + 1) (octets w.bytes v)) e ∙ rw add-one
 
 -- ---- where the argument is
@@ -86,16 +86,16 @@ announced m (suc (suc zero)) l h = refl
 announced m (suc (suc (suc zero))) l h = refl
 announced m (suc (suc (suc (suc e)))) l h = absurd (omega arith)
 
-initial-behind : (m e : ℕ) → m < 7 → e ≤ 3 → initial (m * 32 + (24 + e)) ≡ says.Long (major_of m) (2 ^ e - 1)
+initial_behind : (m e : ℕ) → m < 7 → e ≤ 3 → initial (m * 32 + (24 + e)) ≡ says.Long (major_of m) (2 ^ e - 1)
 unfolding initial
-initial-behind m e l h =
+initial_behind m e l h =
     ap (λ (q : ℕ). initial_of q ((m * 32 + (24 + e)) % 32)) (digits_div m {m = 32} {r = 24 + e} (omega arith))
     ∙ ap (initial_of m) (digits_mod m {m = 32} {r = 24 + e} (omega arith))
     ∙ announced m e l h
 
 -- the run that stands behind a byte
-run-behind : (xs : List ℕ) (b : ℕ) (ys zs : List ℕ) → run (xs ++ (b ∷ (ys ++ zs))) (length xs + 1) (length ys) ≡ ys
-run-behind xs b ys zs =
+run_behind : (xs : List ℕ) (b : ℕ) (ys zs : List ℕ) → run (xs ++ (b ∷ (ys ++ zs))) (length xs + 1) (length ys) ≡ ys
+run_behind xs b ys zs =
     ap (λ (l : List ℕ). run l (length xs + 1) (length ys)) (sym (append_snoc xs b (ys ++ zs)))
     ∙ ap (take (length ys)) (drop_at (xs ++ (b ∷ [])) (ys ++ zs) (length xs + 1) (length-append xs (b ∷ [])))
     ∙ take_at ys zs (length ys) refl
@@ -108,7 +108,7 @@ read_back m v i k before after l (inside h) =
     let bs : List ℕ = before ++ (b ∷ after) in
     let long : length bs ≡ length before + suc (length after) = length-append before (b ∷ after) in
     let next : length before + 1 ≡ length before + 1 + 0 = omega arith in
-    head-by bs {at = length before} (omega arith) (sym (get_or-append_seam before b after 0)) refl (initial_inside m v h)
+    head_by_lem bs {at = length before} (omega arith) (sym (get_or-append_seam before b after 0)) refl (initial_inside m v h)
     ∙ ap (λ (q : ℕ). Definite q v (length before + 1)) (digits_div m {m = 32} {r = v} (omega arith))
     ∙ ap (Definite m v) next
 read_back m v i k before after l (behind e h fits _) =
@@ -117,21 +117,21 @@ read_back m v i k before after l (behind e h fits _) =
     let rest : List ℕ = octets w v ++ after in
     let bs : List ℕ = before ++ (b ∷ rest) in
     let at : ℕ = length before + 1 in
-    let size : length (octets w v) ≡ w = length-octets w v in
+    let size : length (octets w v) ≡ w = length_octets w v in
     let more : length rest ≡ length (octets w v) + length after = length-append (octets w v) after in
     let long : length bs ≡ length before + suc (length rest) = length-append before (b ∷ rest) in
     let whole : w - 1 + 1 ≡ w = omega (arith, pow_pos e) in
-    let there : run bs at w ≡ octets w v = rw size at (run-behind before b (octets w v) after) in
-    head-by bs {at = length before} (omega arith) (sym (get_or-append_seam before b rest 0)) refl (initial-behind m e l h)
+    let there : run bs at w ≡ octets w v = rw size at (run_behind before b (octets w v) after) in
+    head_by_lem bs {at = length before} (omega arith) (sym (get_or-append_seam before b rest 0)) refl (initial_behind m e l h)
     ∙ ap (λ (n : ℕ). long_at bs (b / 32) n at) whole
     ∙ ap (λ (q : ℕ). long_at bs q w at) (digits_div m {m = 32} {r = 24 + e} (omega arith))
-    ∙ long-here bs m w at (omega arith)
-    ∙ ap (λ (n : ℕ). Definite m n (at + w)) (ap number there ∙ number-octets w v fits)
+    ∙ long_here bs m w at (omega arith)
+    ∙ ap (λ (n : ℕ). Definite m n (at + w)) (ap number there ∙ number_octets w v fits)
 
 pub reads_back : ReadsBack
 unfolding shortest
 reads_back m v before after l h =
-    let next : length before + 1 + (width_of v).bytes ≡ length before + length (shortest m v) = omega (arith, shortest-length m v) in
+    let next : length before + 1 + (width_of v).bytes ≡ length before + length (shortest m v) = omega (arith, shortest_length m v) in
     read_back m v (width_of v).info (width_of v).bytes before after l (tier v h) ∙ ap (Definite m v) next
 
 -- so it is read where it was stored
@@ -139,7 +139,7 @@ pub reads_stored : (l : List ℕ) (at m v : ℕ) → m < 7 → v < 2 ^ 64 → at
     → head_at (sets l at (shortest m v)) at ≡ Definite m v (at + length_of v)
 reads_stored l at m v h fits room =
     let xs : List ℕ = shortest m v in
-    let long : length xs ≡ length_of v = shortest-length m v in
+    let long : length xs ≡ length_of v = shortest_length m v in
     let front : length (take at l) ≡ at = length-take-le at l (omega arith) in
     let rest : List ℕ = drop (at + length xs) l in
     ap (λ (bs : List ℕ). head_at bs at) (sets-eq xs l at (omega arith) ∙ append_assoc (take at l) xs rest)
@@ -163,11 +163,11 @@ width_inside : (v : ℕ) → v < 24 → (width_of v).bytes ≡ 0
 width_inside v h = rw (lt-ltb v 24 h)
 
 -- one byte of a list of bytes
-byte-below : (xs : List ℕ) (i : ℕ) → Bytes xs → get_or xs i 0 < 256
+byte_below : (xs : List ℕ) (i : ℕ) → Bytes xs → get_or xs i 0 < 256
 unfolding Bytes
-byte-below [] i b = omega arith
-byte-below (x ∷ xs) zero (h, b) = h
-byte-below (x ∷ xs) (suc i) (h, b) = byte-below xs i b
+byte_below [] i b = omega arith
+byte_below (x ∷ xs) zero (h, b) = h
+byte_below (x ∷ xs) (suc i) (h, b) = byte_below xs i b
 
 -- a head whose initial byte is in front of a place leaves room for the bytes that must follow
 Least : ℕ → Head → Type 0
@@ -178,47 +178,47 @@ Least at Short = Unit {0}
 Least at Bad = Unit {0}
 
 module _ (bs : List ℕ) (b : Bytes bs) where
-  long-least : (m e at : ℕ) → e ≤ 3 → Least at (long_at bs m (2 ^ e) at)
+  long_least : (m e at : ℕ) → e ≤ 3 → Least at (long_at bs m (2 ^ e) at)
   unfolding long_at Least
-  long-least m e at h =
+  long_least m e at h =
       cond_cases (Least at) (leb (at + 2 ^ e) (length bs))
       (λ t.
       let part : List ℕ = run bs at (2 ^ e) in
       let size : length part ≡ 2 ^ e = run_length bs at (2 ^ e) (leb-true _ _ t) in
-      let low : number part < 256 ^ length part = number-below part (bytes_take (2 ^ e) (drop at bs) (bytes_drop at bs b)) in
+      let low : number part < 256 ^ length part = number_below part (bytes_take (2 ^ e) (drop at bs) (bytes_drop at bs b)) in
       omega (arith, width_least (number part) e h (rw size at low)))
       (λ _. tt)
 
-  simple-least : (at : ℕ) → Least at (simple_at bs at)
+  simple_least : (at : ℕ) → Least at (simple_at bs at)
   unfolding simple_at Least
-  simple-least at =
+  simple_least at =
       cond_cases (Least at) (ltb at (length bs))
       (λ _.
       cond_cases (Least at) (ltb (get_or bs at 0) 32) (λ _. tt)
-      (λ _. omega (arith, width_least (get_or bs at 0) 0 (omega arith) (byte-below bs at b))))
+      (λ _. omega (arith, width_least (get_or bs at 0) 0 (omega arith) (byte_below bs at b))))
       (λ _. tt)
 
-  head-least : (m at : ℕ) (i : Initial) → Sound m i → Least at (head_by i bs m at)
+  head_least : (m at : ℕ) (i : Initial) → Sound m i → Least at (head_by i bs m at)
   unfolding head_by Least Sound
-  head-least m at (says.Short _ v) s = omega (arith, width_inside v s.1)
-  head-least m at (says.Long _ k) (_, (e, h, w)) = rw w (long-least m e at h)
-  head-least m at (says.Indefinite _) s = tt
-  head-least m at says.Simple s = simple-least at
-  head-least m at says.Break s = tt
-  head-least m at says.Reserved s = tt
+  head_least m at (says.Short _ v) s = omega (arith, width_inside v s.1)
+  head_least m at (says.Long _ k) (_, (e, h, w)) = rw w (long_least m e at h)
+  head_least m at (says.Indefinite _) s = tt
+  head_least m at says.Simple s = simple_least at
+  head_least m at says.Break s = tt
+  head_least m at says.Reserved s = tt
 
   least : (at : ℕ) → Least (at + 1) (head_at bs at)
   unfolding head_at Least
   least at =
       cond_cases (Least (at + 1)) (ltb at (length bs))
-      (λ _. head-least (get_or bs at 0 / 32) (at + 1) (initial (get_or bs at 0)) (sound (get_or bs at 0)))
+      (λ _. head_least (get_or bs at 0 / 32) (at + 1) (initial (get_or bs at 0)) (sound (get_or bs at 0)))
       (λ _. tt)
 
-pub none-shorter : NoneShorter
+pub none_shorter : NoneShorter
 unfolding Least
-none-shorter bs at m v next b e =
+none_shorter bs at m v next b e =
     let room : at + 1 + (width_of v).bytes ≤ next = subst (Least (at + 1)) e (least bs b at) in
-    omega (arith, shortest-length m v)
+    omega (arith, shortest_length m v)
 
 -- what an initial byte says is below 32
 info_low : (v : ℕ) → (width_of v).info < 32
@@ -230,6 +230,6 @@ info_low v =
     (λ _. cond_cases Low (ltb v (2 ^ 16)) (λ _. omega arith) (λ _. cond_cases Low (ltb v (2 ^ 32)) (λ _. omega arith) (λ _. omega arith))))
 
 -- and it is bytes
-pub shortest-bytes : (m v : ℕ) → m < 8 → Bytes (shortest m v)
+pub shortest_bytes : (m v : ℕ) → m < 8 → Bytes (shortest m v)
 unfolding shortest Bytes
-shortest-bytes m v h = (omega (arith, info_low v), octets-bytes (width_of v).bytes v)
+shortest_bytes m v h = (omega (arith, info_low v), octets_bytes (width_of v).bytes v)

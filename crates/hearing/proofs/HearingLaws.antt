@@ -10,9 +10,9 @@ use lib.ListN.{length, get_or, take, drop}
 use borrow.Author.Tests.{lt-ltb, le-ltb}
 use Rattle.ring.specs.Ring.{base_of, run}
 use Rattle.ring.specs.Inside.{around}
-use Rattle.ring.proofs.Around.{stream-around}
+use Rattle.ring.proofs.Around.{stream_around}
 use Rattle.ring.proofs.Runs.{run_length}
-use Rattle.ring.proofs.Stores.{stream-length, stream-take}
+use Rattle.ring.proofs.Stores.{stream_length, stream_take}
 use Rattle.wire.specs.Instances.{instances}
 use Rattle.wire.proofs.InstanceLaws.{at_most}
 use Rattle.item.specs.declared.Verdict.TheVariants.{Whole}
@@ -48,7 +48,7 @@ held_there caps store i first count k b e =
     let cap = get_or caps i 0 in
     let long : b + cap - b ≡ cap = omega arith in
     rw (long, e)
-    (sym (stream-around store (base_of caps i) cap first count k.some k.within k.stored
+    (sym (stream_around store (base_of caps i) cap first count k.some k.within k.stored
     ∙ ap (λ (p : ℕ). around (run store (base_of caps i) cap) p count) (mod-eq_of_lt k.placed)))
 
 module _ (c : Connection) (store : List ℕ) (i : ℕ) where
@@ -70,11 +70,11 @@ module _ (c : Connection) (store : List ℕ) (i : ℕ) where
 
   -- the first n of those held
   pub held-take : (n : ℕ) → n ≤ get_or c.receiving.held i 0 → first_held c store i n ≡ take n (held_of c store i)
-  held-take n l = sym (stream-take store (base_of c.settings.receive i) (get_or c.settings.receive i 0) (get_or c.receiving.starts i 0) n _ l)
+  held-take n l = sym (stream_take store (base_of c.settings.receive i) (get_or c.settings.receive i 0) (get_or c.receiving.starts i 0) n _ l)
 
   -- as many are held as the record says, and an item among them is not longer
   pub held-long : length (held_of c store i) ≡ get_or c.receiving.held i 0
-  held-long = stream-length store (base_of c.settings.receive i) (get_or c.settings.receive i 0) (get_or c.receiving.starts i 0) _
+  held-long = stream_length store (base_of c.settings.receive i) (get_or c.settings.receive i 0) (get_or c.receiving.starts i 0) _
 
   pub held-within : (m : ℕ) → verdict (held_of c store i) ≡ Whole m → m ≤ get_or c.receiving.held i 0
   held-within m e = omega (arith, whole-within (held_of c store i) m e, held-long)

@@ -21,7 +21,7 @@ use Rattle.connection.specs.declared.Closing.TheVariants.{Of}
 use Rattle.connection.specs.Shapes.{Shaped}
 use Rattle.connection.specs.Closings.{closing_of, closed_by, is_open, wrong_mode, overflow, bytes_bad, among, heard_fault, gate_ok}
 use Rattle.connection.specs.Parts.{with_gate, held_of}
-use Rattle.connection.proofs.ClosingLaws.{closed-stays}
+use Rattle.connection.proofs.ClosingLaws.{closed_stays}
 use Rattle.range.specs.Ranges.{in_range, receives}
 use Rattle.range.specs.Besides.Ranges.{InReceive}
 use Rattle.range.proofs.RangeLaws.{Ranged, is_in_range}
@@ -153,7 +153,7 @@ pub shut_names : ShutNames
 shut_names c i n =
     record {
       fault = λ t o. rw t (names_open c.gate n i o);
-      kept = λ o. by_test (heard_fault n) (λ t. rw (t, closed-stays c.gate (Of n i) o)) (λ t. rw t);
+      kept = λ o. by_test (heard_fault n) (λ t. rw (t, closed_stays c.gate (Of n i) o)) (λ t. rw t);
       other = λ t. rw t;
     }
 

@@ -20,15 +20,15 @@ bad_not : {n : ℕ} → Bad n ≡ Incomplete → ⊥
 bad_not p = let z : ◌≡◌ {A = ℕ} 0 1 = cc in omega arith
 
 -- where nothing more is wanted
-judge-met : (bs : List ℕ) (at : ℕ) (fs : Stack) → met fs ≡ true → judge bs at fs ≡ Whole at
+judge_met : (bs : List ℕ) (at : ℕ) (fs : Stack) → met fs ≡ true → judge bs at fs ≡ Whole at
 unfolding judge
-judge-met [] at fs p = ap (λ (t : Bool). cond t (Whole at) Incomplete) p
-judge-met (b ∷ bs) at fs p = ap (λ (t : Bool). onward t at (step fs b) (λ gs. judge bs (suc at) gs)) p
+judge_met [] at fs p = ap (λ (t : Bool). cond t (Whole at) Incomplete) p
+judge_met (b ∷ bs) at fs p = ap (λ (t : Bool). onward t at (step fs b) (λ gs. judge bs (suc at) gs)) p
 
-heads-met : (bs : List ℕ) (fs : Stack) → met fs ≡ true → heads bs fs ≡ 0
+heads_met : (bs : List ℕ) (fs : Stack) → met fs ≡ true → heads bs fs ≡ 0
 unfolding heads
-heads-met [] fs p = refl
-heads-met (b ∷ bs) fs p = ap (λ (t : Bool). counting t (tally fs b) (step fs b) (λ gs. heads bs gs)) p
+heads_met [] fs p = refl
+heads_met (b ∷ bs) fs p = ap (λ (t : Bool). counting t (tally fs b) (step fs b) (λ gs. heads bs gs)) p
 
 pub goes_on : GoesOn
 unfolding judge heads stands
@@ -54,7 +54,7 @@ unfolding judge heads
 settled [] ys at fs v p n = of (met fs) refl v p n
   where
     of : (t : Bool) → met fs ≡ t → (v : Verdict) → cond t (Whole at) Incomplete ≡ v → (v ≡ Incomplete → ⊥) → (judge ys at fs ≡ v) × (heads ys fs ≡ 0)
-    of true e v q n = (judge-met ys at fs e ∙ q, heads-met ys fs e)
+    of true e v q n = (judge_met ys at fs e ∙ q, heads_met ys fs e)
     of false e v q n = absurd (n (sym q))
 settled (b ∷ bs) ys at fs v p n = of (met fs) (step fs b) (λ gs q. settled bs ys (suc at) gs v q n) p
   where

@@ -107,14 +107,14 @@ rest_met (then (value g h) r) = absurd (some_byte g)
 rest_met (then no_byte r) = rest_met r
 
 -- where nothing more is wanted, nothing more is read
-pub met-none : {fs : Stack} {b : ℕ} {bs : List ℕ} → Rest fs [] → Rest fs (b ∷ bs) → ⊥
-met-none {b = b} {bs = bs} done q = elim q [ ]
-met-none (then no_more r) (then no_more q) = met-none r q
-met-none (then (item g h) r) q = absurd (some_byte g)
-met-none (then (element g h) r) q = absurd (some_byte g)
-met-none (then (key g h) r) q = absurd (some_byte g)
-met-none (then (value g h) r) q = absurd (some_byte g)
-met-none (then no_byte r) (then no_byte q) = met-none r q
+pub met_none : {fs : Stack} {b : ℕ} {bs : List ℕ} → Rest fs [] → Rest fs (b ∷ bs) → ⊥
+met_none {b = b} {bs = bs} done q = elim q [ ]
+met_none (then no_more r) (then no_more q) = met_none r q
+met_none (then (item g h) r) q = absurd (some_byte g)
+met_none (then (element g h) r) q = absurd (some_byte g)
+met_none (then (key g h) r) q = absurd (some_byte g)
+met_none (then (value g h) r) q = absurd (some_byte g)
+met_none (then no_byte r) (then no_byte q) = met_none r q
 
 -- What each verdict says of the bytes from the place `at` on, where the stack is wanted.
 abbrev pub Begun : Stack → List ℕ → Type 0
@@ -167,17 +167,17 @@ only_end at fs true p (Whole n) (zero, e, l, r) = ap Whole (omega arith)
 only_end at fs false p (Whole n) (zero, e, l, r) = absurd (false≢true (sym p ∙ rest_met r))
 only_end at fs t p (Whole n) (suc m, e, l, r) = absurd (omega arith)
 only_end at fs t p (Bad n) (m, e, l, r, no_item) = absurd (omega arith)
-only_end at fs true p Incomplete (c, cs, r, o) = absurd (met-none (met_rest fs p) r)
+only_end at fs true p Incomplete (c, cs, r, o) = absurd (met_none (met_rest fs p) r)
 only_end at fs false p Incomplete x = refl
 
 only_more : (b : ℕ) (bs : List ℕ) (at : ℕ) (fs : Stack) (t : Bool) → met fs ≡ t → (n : Option Stack) → step fs b ≡ n
     → ((gs : Stack) (v : Verdict) → Exact gs bs (suc at) v → judge bs (suc at) gs ≡ v)
     → (v : Verdict) → Exact fs (b ∷ bs) at v → onward t at n (λ gs. judge bs (suc at) gs) ≡ v
 only_more b bs at fs true p n q h (Whole k) (zero, e, l, r) = ap Whole (omega arith)
-only_more b bs at fs true p n q h (Whole k) (suc m, e, l, r) = absurd (met-none (met_rest fs p) r)
-only_more b bs at fs true p n q h (Bad k) (zero, e, l, (c, cs, r, o), no_item) = absurd (met-none (met_rest fs p) r)
-only_more b bs at fs true p n q h (Bad k) (suc m, e, l, (c, cs, r, o), no_item) = absurd (met-none (met_rest fs p) r)
-only_more b bs at fs true p n q h Incomplete (c, cs, r, o) = absurd (met-none (met_rest fs p) r)
+only_more b bs at fs true p n q h (Whole k) (suc m, e, l, r) = absurd (met_none (met_rest fs p) r)
+only_more b bs at fs true p n q h (Bad k) (zero, e, l, (c, cs, r, o), no_item) = absurd (met_none (met_rest fs p) r)
+only_more b bs at fs true p n q h (Bad k) (suc m, e, l, (c, cs, r, o), no_item) = absurd (met_none (met_rest fs p) r)
+only_more b bs at fs true p n q h Incomplete (c, cs, r, o) = absurd (met_none (met_rest fs p) r)
 only_more b bs at fs false p n q h (Whole k) (zero, e, l, r) = absurd (false≢true (sym p ∙ rest_met r))
 only_more b bs at fs false p none q h (Whole k) (suc m, e, l, r) = absurd (onto q r)
 only_more b bs at fs false p (some gs) q h (Whole k) (suc m, e, l, r) = h gs (Whole k) (m, omega arith, omega arith, onto q r)

@@ -19,7 +19,7 @@ use Rattle.item.specs.Verdict.{Stack, nil, push, into, step, met}
 use Rattle.item.specs.Besides.Verdict.{alone, tally, counting, heads}
 use Rattle.item.specs.Besides.Theorem.{heads_in, HeadsRead}
 use Rattle.item.proofs.Derivative.{Rest, done, then, nothing, no_break, no_break_chunk}
-use Rattle.item.proofs.Exact.{met_rest, met-none, some_byte}
+use Rattle.item.proofs.Exact.{met_rest, met_none, some_byte}
 
 -- a head of which the first byte was read and the last was not
 abbrev pending : Frame → ℕ
@@ -42,13 +42,13 @@ heads_rest done = 0
 heads_rest (then g r) = heads_in g + heads_rest r
 
 -- a first byte is a head by itself, or leaves one pending
-content-whole : (m : Major) (v : ℕ) → pending (content m v) ≡ 0
-content-whole Number v = refl
-content-whole Bytes v = refl
-content-whole Text v = refl
-content-whole Array v = refl
-content-whole Map v = refl
-content-whole Tag v = refl
+content_whole : (m : Major) (v : ℕ) → pending (content m v) ≡ 0
+content_whole Number v = refl
+content_whole Bytes v = refl
+content_whole Text v = refl
+content_whole Array v = refl
+content_whole Map v = refl
+content_whole Tag v = refl
 
 within_is : (d : ℕ) (f g : Frame) → within d f ≡ some g → f ≡ g
 within_is zero f g p = absurd (nothing p)
@@ -63,20 +63,20 @@ nest_is Array d f g p = within_is d f g p
 nest_is Map d f g p = within_is d f g p
 nest_is Tag d f g p = within_is d f g p
 
-indefinite-whole : (m : Major) (d : ℕ) (g : Frame) → indefinite m d ≡ some g → pending g ≡ 0
+indefinite_whole : (m : Major) (d : ℕ) (g : Frame) → indefinite m d ≡ some g → pending g ≡ 0
 unfolding indefinite
-indefinite-whole Number d g p = absurd (nothing p)
-indefinite-whole Bytes d g p = ap pending (sym (some-injective _ _ p))
-indefinite-whole Text d g p = ap pending (sym (some-injective _ _ p))
-indefinite-whole Array d g p = ap pending (sym (within_is d Elements g p))
-indefinite-whole Map d g p = ap pending (sym (within_is d Pairs g p))
-indefinite-whole Tag d g p = absurd (nothing p)
+indefinite_whole Number d g p = absurd (nothing p)
+indefinite_whole Bytes d g p = ap pending (sym (some-injective _ _ p))
+indefinite_whole Text d g p = ap pending (sym (some-injective _ _ p))
+indefinite_whole Array d g p = ap pending (sym (within_is d Elements g p))
+indefinite_whole Map d g p = ap pending (sym (within_is d Pairs g p))
+indefinite_whole Tag d g p = absurd (nothing p)
 
 item_head : (i : Initial) (d : ℕ) (g : Frame) → enter d i ≡ some g → alone i + pending g ≡ 1
 unfolding enter
-item_head (Short m v) d g p = let e : pending g ≡ 0 = ap pending (sym (nest_is m d (content m v) g p)) ∙ content-whole m v in omega arith
+item_head (Short m v) d g p = let e : pending g ≡ 0 = ap pending (sym (nest_is m d (content m v) g p)) ∙ content_whole m v in omega arith
 item_head (Long m k) d g p = ap (λ (f : Frame). 0 + pending f) (sym (nest_is m d (Argument m 0 k) g p)) ∙ omega arith
-item_head (Indefinite m) d g p = let e : pending g ≡ 0 = indefinite-whole m d g p in omega arith
+item_head (Indefinite m) d g p = let e : pending g ≡ 0 = indefinite_whole m d g p in omega arith
 item_head Simple d g p = ap (λ (f : Frame). 0 + pending f) (sym (some-injective _ _ p)) ∙ omega arith
 item_head Break d g p = absurd (nothing p)
 item_head Reserved d g p = absurd (nothing p)
@@ -94,7 +94,7 @@ alike_is t Tag f g p = cc
 
 chunk_head : (i : Initial) (t : Bool) (g : Frame) → enter_chunk t i ≡ some g → alone i + pending g ≡ 1
 unfolding enter_chunk
-chunk_head (Short m v) t g p = let e : pending g ≡ 0 = ap pending (sym (alike_is t m (content m v) g p)) ∙ content-whole m v in omega arith
+chunk_head (Short m v) t g p = let e : pending g ≡ 0 = ap pending (sym (alike_is t m (content m v) g p)) ∙ content_whole m v in omega arith
 chunk_head (Long m k) t g p = ap (λ (f : Frame). 0 + pending f) (sym (alike_is t m (Argument m 0 k) g p)) ∙ omega arith
 chunk_head (Indefinite m) t g p = absurd (nothing p)
 chunk_head Simple t g p = absurd (nothing p)
@@ -109,38 +109,38 @@ pub record Moved (fs : Stack) (b : ℕ) (bs : List ℕ) (n : ℕ) : Type 0 where
   pub sum : tally fs b + (owed to + heads_rest rest) ≡ n
 
 -- into what the first byte asks for
-pub into-some : (d : ℕ) (o : Option Frame) (f : Frame) (fs : Stack) → o ≡ some f → into d o fs ≡ some (push (d - 1) f fs)
-into-some d o f fs e = ap (λ (o : Option Frame). into d o fs) e
+pub into_some : (d : ℕ) (o : Option Frame) (f : Frame) (fs : Stack) → o ≡ some f → into d o fs ≡ some (push (d - 1) f fs)
+into_some d o f fs e = ap (λ (o : Option Frame). into d o fs) e
 
 moves : {fs : Stack} {b : ℕ} {bs : List ℕ} (r : Rest fs (b ∷ bs)) → Moved fs b bs (owed fs + heads_rest r)
 unfolding step tally
 moves (then (one {d = d} {b = b} {f = f} p g) r) =
     let e = item_head (initial b) d f p in
-    record { to = _; by = into-some d (enter d (initial b)) f _ p; rest = then g (then no_more r); sum = omega arith }
+    record { to = _; by = into_some d (enter d (initial b)) f _ p; rest = then g (then no_more r); sum = omega arith }
 moves (then no_more r) = let q = moves r in record { to = q.to; by = q.by; rest = q.rest; sum = q.sum ∙ omega arith }
 moves (then (item (one {d = d} {b = b} {f = f} p g) h) r) =
     let e = item_head (initial b) d f p in
-    record { to = _; by = into-some d (enter d (initial b)) f _ p; rest = then g (then h r); sum = omega arith }
+    record { to = _; by = into_some d (enter d (initial b)) f _ p; rest = then g (then h r); sum = omega arith }
 moves (then {fs = fs} (end_array p) r) = record { to = fs; by = rw p; rest = r; sum = rw p (omega arith) }
 moves (then (element (one {d = d} {b = b} {f = f} p g) h) r) =
     let e = item_head (initial b) d f p in
-    record { to = _; by = no_break (initial b) d _ _ p ∙ into-some d (enter d (initial b)) f _ p; rest = then g (then h r); sum = omega arith }
+    record { to = _; by = no_break (initial b) d _ _ p ∙ into_some d (enter d (initial b)) f _ p; rest = then g (then h r); sum = omega arith }
 moves (then {fs = fs} (end_map p) r) = record { to = fs; by = rw p; rest = r; sum = rw p (omega arith) }
 moves (then (key (one {d = d} {b = b} {f = f} p g) h) r) =
     let e = item_head (initial b) d f p in
-    record { to = _; by = no_break (initial b) d _ _ p ∙ into-some d (enter d (initial b)) f _ p; rest = then g (then h r); sum = omega arith }
+    record { to = _; by = no_break (initial b) d _ _ p ∙ into_some d (enter d (initial b)) f _ p; rest = then g (then h r); sum = omega arith }
 moves (then (value (one {d = d} {b = b} {f = f} p g) h) r) =
     let e = item_head (initial b) d f p in
-    record { to = _; by = into-some d (enter d (initial b)) f _ p; rest = then g (then h r); sum = omega arith }
+    record { to = _; by = into_some d (enter d (initial b)) f _ p; rest = then g (then h r); sum = omega arith }
 moves (then {fs = fs} (end_string p) r) = record { to = fs; by = rw p; rest = r; sum = rw p (omega arith) }
 moves (then (chunk {d = d} {b = b} {text = t} {f = f} p g h) r) =
     let e = chunk_head (initial b) t f p in
-    record { to = _; by = no_break_chunk (initial b) t _ _ p ∙ into-some d (enter_chunk t (initial b)) f _ p; rest = then g (then h r); sum = omega arith }
+    record { to = _; by = no_break_chunk (initial b) t _ _ p ∙ into_some d (enter_chunk t (initial b)) f _ p; rest = then g (then h r); sum = omega arith }
 moves (then no_byte r) = let q = moves r in record { to = q.to; by = q.by; rest = q.rest; sum = q.sum ∙ omega arith }
 moves (then (byte g) r) = record { to = _; by = refl; rest = then g r; sum = omega arith }
 moves (then {fs = fs} (simple {x = x} p) r) = record { to = fs; by = rw (le-leb 32 x p); rest = r; sum = omega arith }
 moves (then (last {v = v} {x = x} {m = m} g) r) =
-    let e = content-whole m (v * 256 + x) in record { to = _; by = refl; rest = then g r; sum = omega arith }
+    let e = content_whole m (v * 256 + x) in record { to = _; by = refl; rest = then g r; sum = omega arith }
 moves (then (digit g) r) = record { to = _; by = refl; rest = then g r; sum = omega arith }
 
 -- Nothing is left to be read, so nothing is owed.
@@ -162,8 +162,8 @@ all_heads (b ∷ bs) {fs} r =
   where
     of : {gs : Stack} (t : Bool) → met fs ≡ t → step fs b ≡ some gs
         → counting t (tally fs b) (step fs b) (λ gs. heads bs gs) ≡ tally fs b + heads bs gs
-    of true p e = absurd (met-none (met_rest fs p) r)
+    of true p e = absurd (met_none (met_rest fs p) r)
     of false p e = ap (λ (n : Option Stack). counting false (tally fs b) n (λ gs. heads bs gs)) e
 
-pub heads-read : HeadsRead
-heads-read d bs g = all_heads bs (then g done) ∙ omega arith
+pub heads_read : HeadsRead
+heads_read d bs g = all_heads bs (then g done) ∙ omega arith

@@ -21,9 +21,9 @@ exact_map S T f g bs at (Whole n) (m, e, l, r) = (m, e, l, f _ r)
 exact_map S T f g bs at (Bad n) (m, e, l, (b, cs, r, o), no_item) = (m, e, l, (b, cs, f _ r, o), λ es q. no_item es (g _ q))
 exact_map S T f g bs at Incomplete (b, cs, r, o) = (b, cs, f _ r, o)
 
-pub judge-same : (S T : Stack) → ((bs : List ℕ) → Rest S bs → Rest T bs) → ((bs : List ℕ) → Rest T bs → Rest S bs)
+pub judge_same : (S T : Stack) → ((bs : List ℕ) → Rest S bs → Rest T bs) → ((bs : List ℕ) → Rest T bs → Rest S bs)
     → (bs : List ℕ) (at : ℕ) → judge bs at S ≡ judge bs at T
-judge-same S T f g bs at = sym (only bs at T (judge bs at S) (exact_map S T f g bs at (judge bs at S) (exact bs at S)))
+judge_same S T f g bs at = sym (only bs at T (judge bs at S) (exact_map S T f g bs at (judge bs at S) (exact bs at S)))
 
 -- What is wanted at the place p reaches to q if and only if the grammar reads it so.
 rest_of : {d : ℕ} {f : Frame} {bs : List ℕ} → Rest (push d f nil) bs → Reads d f bs []
@@ -39,8 +39,8 @@ whole_reads xs p q d f e = of (subst (Exact (push d f nil) (drop p xs) p) e (exa
         (longer (drop q xs) (rest_of r))
 
 -- such a place is not before p, nor after the end
-pub whole-place : (xs : List ℕ) (p q d : ℕ) (f : Frame) → judge (drop p xs) p (push d f nil) ≡ Whole q → (p ≤ q) × (q ≤ p + length (drop p xs))
-whole-place xs p q d f e = of (subst (Exact (push d f nil) (drop p xs) p) e (exact (drop p xs) p (push d f nil)))
+pub whole_place : (xs : List ℕ) (p q d : ℕ) (f : Frame) → judge (drop p xs) p (push d f nil) ≡ Whole q → (p ≤ q) × (q ≤ p + length (drop p xs))
+whole_place xs p q d f e = of (subst (Exact (push d f nil) (drop p xs) p) e (exact (drop p xs) p (push d f nil)))
   where
     of : Exact (push d f nil) (drop p xs) p (Whole q) → (p ≤ q) × (q ≤ p + length (drop p xs))
     of (m, k, l, r) = (omega arith, omega arith)

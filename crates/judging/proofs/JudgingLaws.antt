@@ -9,7 +9,7 @@ use lib.Dec.{eqb}
 use lib.ListN.{length, take}
 use lib.Seq.{take-take, length-take-le}
 use Rattle.ring.specs.Inside.{around}
-use Rattle.ring.proofs.Around.{around-length, around-take}
+use Rattle.ring.proofs.Around.{around_length, around_take}
 use Rattle.wire.specs.declared.instances.Party.{Party}
 use Rattle.wire.specs.Instances.{mode_from, initiates, role_of}
 use Rattle.item.specs.declared.Verdict.TheVariants.{Whole}
@@ -55,11 +55,11 @@ pub whole-alone : (xs : List ℕ) (from n m : ℕ) → n ≤ length xs → verdi
 whole-alone xs from n m l e =
     let bs : List ℕ = around xs from n in
     let q = (exactly nesting bs (Whole m)).0 e in
-    let long : length bs ≡ n = around-length xs from n l in
+    let long : length bs ≡ n = around_length xs from n l in
     let in-n : m ≤ n = omega (arith, q.0) in
     let alone : verdict (take m bs) ≡ Whole m =
     (exactly nesting (take m bs) (Whole m)).1 (rw (length-take-le m bs q.0) (omega arith), rw (take-take m m bs (omega arith)) q.1) in
-    (in-n, ap verdict (sym (around-take xs from m n in-n)) ∙ alone)
+    (in-n, ap verdict (sym (around_take xs from m n in-n)) ∙ alone)
 
 -- ---- the ways out of the code
 

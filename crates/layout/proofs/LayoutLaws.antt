@@ -14,7 +14,7 @@ use Rattle.base.proofs.ListLaws.{sets_append}
 use Rattle.ring.specs.Ring.{run}
 use Rattle.head.specs.Inside.{length_of}
 use Rattle.head.specs.Write.{shortest}
-use Rattle.head.proofs.WriteLaws.{shortest-length}
+use Rattle.head.proofs.WriteLaws.{shortest_length}
 use Rattle.elements.specs.declared.Element.TheVariants as element
 use Rattle.elements.specs.declared.Field.{Field}
 use Rattle.elements.specs.declared.Field.TheVariants as field
@@ -27,14 +27,14 @@ use Rattle.layout.specs.Inside.{headless, major_of, open_in, head_of, tail_of, b
 -- ---- room for three lengths
 
 module _ (room a b c : ℕ) where
-  pub no-room-first : room < a → false ≡ leb (a + (b + c)) room
-  no-room-first h = sym (lt-leb (a + (b + c)) room (omega arith))
+  pub no_room_first : room < a → false ≡ leb (a + (b + c)) room
+  no_room_first h = sym (lt-leb (a + (b + c)) room (omega arith))
 
-  pub no-room-second : a ≤ room → room - a < b → false ≡ leb (a + (b + c)) room
-  no-room-second h l = sym (lt-leb (a + (b + c)) room (omega arith))
+  pub no_room_second : a ≤ room → room - a < b → false ≡ leb (a + (b + c)) room
+  no_room_second h l = sym (lt-leb (a + (b + c)) room (omega arith))
 
-  pub room-for-third : a ≤ room → b ≤ room - a → leb c (room - a - b) ≡ leb (a + (b + c)) room
-  room-for-third h l =
+  pub room_for_third : a ≤ room → b ≤ room - a → leb c (room - a - b) ≡ leb (a + (b + c)) room
+  room_for_third h l =
       by_test (leb c (room - a - b)) (λ t. t ∙ sym (le-leb (a + (b + c)) room (omega (arith, leb-true c (room - a - b) t))))
       (λ t. t ∙ sym (lt-leb (a + (b + c)) room (omega (arith, leb-false c (room - a - b) t))))
 
@@ -57,34 +57,34 @@ open_array asked (field.Below limit) t = absurd (false≢true t)
 open_array asked field.Bool t = absurd (false≢true t)
 
 module _ (asked : Bool) (f : Field) (a : ℕ) where
-  pub own-long : length (head_of asked f a) + length (break_of asked f) ≡ own_length asked f a
-  own-long =
+  pub own_long : length (head_of asked f a) + length (break_of asked f) ≡ own_length asked f a
+  own_long =
       by_test (headless f) (λ t. rw (t, headless_not_open asked f t))
-      (λ t. by_test (open_in asked f) (λ u. rw (t, u)) (λ u. rw (t, u) (omega (arith, shortest-length (major_of f) a))))
+      (λ t. by_test (open_in asked f) (λ u. rw (t, u)) (λ u. rw (t, u) (omega (arith, shortest_length (major_of f) a))))
 
   -- put at a place of the buffer: no head; the byte; the shortest head
   module _ (buf : List ℕ) (at : ℕ) where
-    pub no-head : headless f ≡ true → Put buf at (head_of asked f a) at buf
-    no-head t = rw t (omega arith, refl)
+    pub no_head : headless f ≡ true → Put buf at (head_of asked f a) at buf
+    no_head t = rw t (omega arith, refl)
 
     module _ (t : headless f ≡ false) where
-      pub open-head : open_in asked f ≡ true → head_of asked f a ≡ 0x9f ∷ []
-      open-head u = rw (t, u) (ap (λ (b : ℕ). b ∷ []) (open_array asked f u))
+      pub open_head : open_in asked f ≡ true → head_of asked f a ≡ 0x9f ∷ []
+      open_head u = rw (t, u) (ap (λ (b : ℕ). b ∷ []) (open_array asked f u))
 
-      pub short-head : open_in asked f ≡ false → head_of asked f a ≡ shortest (major_of f) a
-      short-head u = rw (t, u)
+      pub short_head : open_in asked f ≡ false → head_of asked f a ≡ shortest (major_of f) a
+      short_head u = rw (t, u)
 
     pub no_break : open_in asked f ≡ false → Put buf at (break_of asked f) at buf
     no_break u = rw u (omega arith, refl)
 
-    pub a-break : open_in asked f ≡ true → break_of asked f ≡ Break ∷ []
-    a-break u = rw u
+    pub a_break : open_in asked f ≡ true → break_of asked f ≡ Break ∷ []
+    a_break u = rw u
 
 -- the shortest head, by its length
 pub head_there : (buf : List ℕ) (at v : ℕ) {m k q : ℕ} {after : List ℕ} → m ≡ k → q ≡ at + length_of v → after ≡ sets buf at (shortest m v)
     → Put buf at (shortest k v) q after
 head_there buf at v {m} {k} em eq ea =
-    (eq ∙ ap (λ (n : ℕ). at + n) (sym (shortest-length k v)), ea ∙ ap (λ (m : ℕ). sets buf at (shortest m v)) em)
+    (eq ∙ ap (λ (n : ℕ). at + n) (sym (shortest_length k v)), ea ∙ ap (λ (m : ℕ). sets buf at (shortest m v)) em)
 
 -- ---- a run, if the field has one
 
@@ -95,11 +95,11 @@ pub no_tail : (f : Field) (xs buf : List ℕ) (at : ℕ) → numeric f ≡ true 
 no_tail f xs buf at t = rw t (omega arith, refl)
 
 module _ (f : Field) (first second : List ℕ) (r : ℕ) (t : numeric f ≡ false) where
-  pub tail-first : r ≡ 0 → tail_of f (run_at first second r) ≡ first
-  tail-first z = rw (t, eq-eqb r 0 z)
+  pub tail_first : r ≡ 0 → tail_of f (run_at first second r) ≡ first
+  tail_first z = rw (t, eq-eqb r 0 z)
 
-  pub tail-second : (r ≡ 0 → ⊥) → tail_of f (run_at first second r) ≡ second
-  tail-second z = rw (t, ne_eqb r 0 z)
+  pub tail_second : (r ≡ 0 → ⊥) → tail_of f (run_at first second r) ≡ second
+  tail_second z = rw (t, ne_eqb r 0 z)
 
 pub tail_there : (buf : List ℕ) (at : ℕ) (xs : List ℕ) {ys after : List ℕ} {q : ℕ} → ys ≡ xs → Put buf at xs q after → Put buf at ys q after
 tail_there buf at xs e (eq, ea) = (eq ∙ ap (λ (l : List ℕ). at + length l) (sym e), ea ∙ ap (sets buf at) (sym e))
@@ -118,39 +118,39 @@ both_there buf at xs ys {b} {q} {half} {after} (eb, eh) (eq, ea) = (
 -- ---- a field
 
 module _ (asked : Bool) (f : Field) (a : ℕ) (xs : List ℕ) where
-  pub piece-parts : length (piece_of asked f a xs) ≡ length (head_of asked f a) + (length (tail_of f xs) + length (break_of asked f))
+  pub piece_parts : length (piece_of asked f a xs) ≡ length (head_of asked f a) + (length (tail_of f xs) + length (break_of asked f))
   unfolding piece_of
-  piece-parts =
+  piece_parts =
       length-append (head_of asked f a) (tail_of f xs ++ break_of asked f)
       ∙ ap (λ (n : ℕ). length (head_of asked f a) + n) (length-append (tail_of f xs) (break_of asked f))
 
-  pub piece-long : length (piece_of asked f a xs) ≡ own_length asked f a + length (tail_of f xs)
-  piece-long = omega (arith, piece-parts, own-long asked f a)
+  pub piece_long : length (piece_of asked f a xs) ≡ own_length asked f a + length (tail_of f xs)
+  piece_long = omega (arith, piece_parts, own_long asked f a)
 
-  pub piece-there : (buf : List ℕ) (at : ℕ) {b e q : ℕ} {half most after : List ℕ} → Put buf at (head_of asked f a) b half
+  pub piece_there : (buf : List ℕ) (at : ℕ) {b e q : ℕ} {half most after : List ℕ} → Put buf at (head_of asked f a) b half
       → Put half b (tail_of f xs) e most → Put most e (break_of asked f) q after → Put buf at (piece_of asked f a xs) q after
   unfolding piece_of
-  piece-there buf at {b} {half = half} h t k =
+  piece_there buf at {b} {half = half} h t k =
       both_there buf at (head_of asked f a) (tail_of f xs ++ break_of asked f) h (both_there half b (tail_of f xs) (break_of asked f) t k)
 
 -- ---- one field after the other
 
 module _ (asked : Bool) (fs : List Field) (args : List ℕ) (i : ℕ) where
-  pub heads-on : {f : Field} → i < length fs → f ≡ get_or fs i field.Item
+  pub heads_on : {f : Field} → i < length fs → f ≡ get_or fs i field.Item
       → heads_of asked (drop i fs) args i ≡ own_length asked f (get_or args i 0) + heads_of asked (drop (i + 1) fs) args (i + 1)
   unfolding heads_of
-  heads-on h e = ap (λ (l : List Field). heads_of asked l args i) (field_next fs i h e)
+  heads_on h e = ap (λ (l : List Field). heads_of asked l args i) (field_next fs i h e)
 
-  pub heads-end : i ≡ length fs → heads_of asked (drop i fs) args i ≡ 0
+  pub heads_end : i ≡ length fs → heads_of asked (drop i fs) args i ≡ 0
   unfolding heads_of
-  heads-end e = ap (λ (l : List Field). heads_of asked l args i) (field-none fs i e)
+  heads_end e = ap (λ (l : List Field). heads_of asked l args i) (field-none fs i e)
 
   module _ (first second : List ℕ) (r : ℕ) where
-    pub body-on : {f : Field} → i < length fs → f ≡ get_or fs i field.Item
+    pub body_on : {f : Field} → i < length fs → f ≡ get_or fs i field.Item
         → body_of asked first second (drop i fs) args i r
         ≡ piece_of asked f (get_or args i 0) (run_at first second r) ++ body_of asked first second (drop (i + 1) fs) args (i + 1) (run_after f r)
     unfolding body_of
-    body-on h e = ap (λ (l : List Field). body_of asked first second l args i r) (field_next fs i h e)
+    body_on h e = ap (λ (l : List Field). body_of asked first second l args i r) (field_next fs i h e)
 
     pub body_end : i ≡ length fs → body_of asked first second (drop i fs) args i r ≡ []
     unfolding body_of
@@ -158,8 +158,8 @@ module _ (asked : Bool) (fs : List Field) (args : List ℕ) (i : ℕ) where
 
 -- what is left to be put, behind what was put
 module _ (buf : List ℕ) (at : ℕ) (piece rest : List ℕ) {all : List ℕ} (e : all ≡ piece ++ rest) where
-  pub put-long : length all ≡ length piece + length rest
-  put-long = ap length e ∙ length-append piece rest
+  pub put_long : length all ≡ length piece + length rest
+  put_long = ap length e ∙ length-append piece rest
 
   pub put_on : {q : ℕ} {after : List ℕ} → q ≡ at + length piece → after ≡ sets buf at piece → sets after q rest ≡ sets buf at all
   put_on {q} {after} eq ea =
@@ -177,8 +177,8 @@ whole_long asked first second fs kind args =
       arith,
       length-append (shortest array (length fs + 1)) (shortest 0 kind ++ body),
       length-append (shortest 0 kind) body,
-      shortest-length array (length fs + 1),
-      shortest-length 0 kind,
+      shortest_length array (length fs + 1),
+      shortest_length 0 kind,
     )
 
 -- array, kind and fields put one behind the other
@@ -186,6 +186,6 @@ pub whole_there : (buf body : List ℕ) (k kind : ℕ) {a b : ℕ} {one two thre
     → (b ≡ a + length_of kind) × (two ≡ sets one a (shortest 0 kind)) → three ≡ sets two b body
     → three ≡ sets buf 0 (shortest array k ++ (shortest 0 kind ++ body))
 whole_there buf body k kind {a} {b} {one} {two} (ea, e1) (eb, e2) e3 =
-    let la : a ≡ 0 + length (shortest array k) = omega (arith, shortest-length array k) in
-    let lb : b ≡ a + length (shortest 0 kind) = omega (arith, shortest-length 0 kind) in
+    let la : a ≡ 0 + length (shortest array k) = omega (arith, shortest_length array k) in
+    let lb : b ≡ a + length (shortest 0 kind) = omega (arith, shortest_length 0 kind) in
     e3 ∙ put_on one a (shortest 0 kind) body refl lb e2 ∙ put_on buf 0 (shortest array k) (shortest 0 kind ++ body) refl la e1

@@ -23,8 +23,8 @@ cuts l [] ys = refl
 cuts l (b ∷ xs) ys = rw (cuts (byte l b).listing xs ys, append_assoc)
 
 -- counts in 64 bits, one after the other
-pub plus-plus : (n j k : ℕ) → plus (plus n j) k ≡ plus n (j + k)
-plus-plus n j k = mod-add-mod (n + j) (2 ^ 64) k ∙ rw (add_assoc n j k)
+pub plus_plus : (n j k : ℕ) → plus (plus n j) k ≡ plus n (j + k)
+plus_plus n j k = mod-add-mod (n + j) (2 ^ 64) k ∙ rw (add_assoc n j k)
 
 pub fed_one : (l : Listing) (b : ℕ) → fed l (b ∷ []) ≡ byte l b
 unfolding fed
@@ -33,24 +33,24 @@ fed_one l b = rw append-nil
 -- ---- the ways out of a header byte
 
 module _ (l : Listing) (b : ℕ) (h : Header) (e : h ≡ added l.header b) where
-  pub head-whole : leb header_length h.count ≡ true → head_byte l b ≡ after l h (decoded h.bytes).len 1
+  pub head_whole : leb header_length h.count ≡ true → head_byte l b ≡ after l h (decoded h.bytes).len 1
   unfolding head_byte
-  head-whole t = rw (← e, t)
+  head_whole t = rw (← e, t)
 
-  pub head-part : leb header_length h.count ≡ false → head_byte l b ≡ going l h 0 1
+  pub head_part : leb header_length h.count ≡ false → head_byte l b ≡ going l h 0 1
   unfolding head_byte
-  head-part t = rw (← e, t)
+  head_part t = rw (← e, t)
 
 -- ---- a payload
 
 abbrev shorter : Listing → Listing
 shorter l = record { header = l.header; rest = l.rest - 1; segments = l.segments; bytes = plus l.bytes 1 }
 
-after-shorter : (l : Listing) (k : ℕ) → after (shorter l) l.header (l.rest - 1 - k) k ≡ after l l.header (l.rest - suc k) (suc k)
+after_shorter : (l : Listing) (k : ℕ) → after (shorter l) l.header (l.rest - 1 - k) k ≡ after l l.header (l.rest - suc k) (suc k)
 unfolding after
-after-shorter l k =
+after_shorter l k =
     let e : l.rest - 1 - k ≡ l.rest - suc k = omega arith in
-    let p : plus (plus l.bytes 1) k ≡ plus l.bytes (suc k) = plus-plus l.bytes 1 k ∙ ap (plus l.bytes) (omega arith) in
+    let p : plus (plus l.bytes 1) k ≡ plus l.bytes (suc k) = plus_plus l.bytes 1 k ∙ ap (plus l.bytes) (omega arith) in
     rw (e, p)
 
 -- a payload byte
@@ -65,13 +65,13 @@ paid_more l b h =
     ∙ ap (λ (t : Bool). cond t (going l l.header (l.rest - 1) 1) (ending l l.header 1)) (lt-ltb 0 (l.rest - 1) (omega arith))
 
 -- some payload bytes, as many as are to come at the most
-pub fed-payload : (l : Listing) (xs : List ℕ) → 0 < length xs → length xs ≤ l.rest
+pub fed_payload : (l : Listing) (xs : List ℕ) → 0 < length xs → length xs ≤ l.rest
     → fed l xs ≡ after l l.header (l.rest - length xs) (length xs)
 unfolding fed
-fed-payload l [] some few = absurd (omega arith)
-fed-payload l (b ∷ []) some few = fed_one l b ∙ paid l b (omega arith)
-fed-payload l (b ∷ c ∷ xs) some few =
-    next ∙ fed-payload (shorter l) (c ∷ xs) (omega arith) (omega arith) ∙ after-shorter l (length (c ∷ xs))
+fed_payload l [] some few = absurd (omega arith)
+fed_payload l (b ∷ []) some few = fed_one l b ∙ paid l b (omega arith)
+fed_payload l (b ∷ c ∷ xs) some few =
+    next ∙ fed_payload (shorter l) (c ∷ xs) (omega arith) (omega arith) ∙ after_shorter l (length (c ∷ xs))
   where
     next : fed l (b ∷ c ∷ xs) ≡ fed (shorter l) (c ∷ xs)
     next = rw (paid_more l b (omega arith))
@@ -92,7 +92,7 @@ stepped_payload l bs r some more u e =
     let n : length (take k bs) ≡ k = length-take-le k bs (omega arith) in
     record {
       used = rw (lt-ltb 0 l.rest some) u;
-      comes = e ∙ sym (ap (λ (j : ℕ). fed l (take j bs)) u ∙ fed-payload l (take k bs) (omega arith) (omega arith) ∙ rw n);
+      comes = e ∙ sym (ap (λ (j : ℕ). fed l (take j bs)) u ∙ fed_payload l (take k bs) (omega arith) (omega arith) ∙ rw n);
     }
 
 -- in a header
@@ -140,10 +140,10 @@ here hs s x = record { header = part hs; rest = 0; segments = s % 2 ^ 64; bytes 
 further : (x k : ℕ) → plus (x % 2 ^ 64) k ≡ (x + k) % 2 ^ 64
 further x k = mod-add-mod x (2 ^ 64) k
 
-byte-part : (hs : List ℕ) (s x b : ℕ) → suc (length hs) < header_length
+byte_part : (hs : List ℕ) (s x b : ℕ) → suc (length hs) < header_length
     → byte (here hs s x) b ≡ record { listing = here (hs ++ (b ∷ [])) s (x + 1); lines = [] }
 unfolding byte head_byte
-byte-part hs s x b h =
+byte_part hs s x b h =
     let l : length (hs ++ (b ∷ [])) ≡ suc (length hs) = length-append hs (b ∷ []) ∙ omega arith in
     rw (add_part hs b (omega arith), lt-leb header_length (length (hs ++ (b ∷ []))) (omega arith), further x 1)
 
@@ -155,30 +155,30 @@ gather hs [] s x h = rw (append-nil, add-zero)
 gather hs (b ∷ xs) s x h =
     let l : length (hs ++ (b ∷ [])) ≡ suc (length hs) = length-append hs (b ∷ []) ∙ omega arith in
     let e : x + 1 + length xs ≡ x + suc (length xs) = omega arith in
-    rw (byte-part hs s x b (omega arith), gather (hs ++ (b ∷ [])) xs s (x + 1) (omega arith), append_assoc hs (b ∷ []) xs, e)
+    rw (byte_part hs s x b (omega arith), gather (hs ++ (b ∷ [])) xs s (x + 1) (omega arith), append_assoc hs (b ∷ []) xs, e)
 
 -- the whole header h, with what it says
 abbrev full : List ℕ → Header
 full h = record { bytes = h; count = header_length }
 
-byte-whole : (hs : List ℕ) (s x b : ℕ) → suc (length hs) ≡ header_length
+byte_whole : (hs : List ℕ) (s x b : ℕ) → suc (length hs) ≡ header_length
     → byte (here hs s x) b ≡ after (here hs s x) (full (hs ++ (b ∷ []))) (decoded (hs ++ (b ∷ []))).len 1
 unfolding byte head_byte
-byte-whole hs s x b h =
+byte_whole hs s x b h =
     let l : length (hs ++ (b ∷ [])) ≡ header_length = length-append hs (b ∷ []) ∙ omega arith in
     let n : header_length - length (hs ++ (b ∷ [])) ≡ 0 = omega arith in
     rw (add_part hs b (omega arith), n, append-nil, l)
 
 -- a step's way on counts its bytes, wherever the header's bytes are held
-after-here : (hs : List ℕ) (s x k j n : ℕ) (h : Header) → after (here hs s (x + k)) h n j ≡ after (here [] s x) h n (k + j)
+after_here : (hs : List ℕ) (s x k j n : ℕ) (h : Header) → after (here hs s (x + k)) h n j ≡ after (here [] s x) h n (k + j)
 unfolding after
-after-here hs s x k j n h = rw (further (x + k) j, further x (k + j), add_assoc)
+after_here hs s x k j n h = rw (further (x + k) j, further x (k + j), add_assoc)
 
 last_byte : (h : List ℕ) → length h ≡ header_length → h ≡ take 7 h ++ (get_or h 7 0 ∷ [])
 last_byte h e = sym (take_all 8 h (omega arith)) ∙ take-suc h 7 0 (omega arith)
 
-fed-header : (h : List ℕ) (s x : ℕ) → length h ≡ header_length → fed (here [] s x) h ≡ after (here [] s x) (full h) (decoded h).len header_length
-fed-header h s x e =
+fed_header : (h : List ℕ) (s x : ℕ) → length h ≡ header_length → fed (here [] s x) h ≡ after (here [] s x) (full h) (decoded h).len header_length
+fed_header h s x e =
     let hs = take 7 h in
     let b = get_or h 7 0 in
     let n : length hs ≡ 7 = length-take-le 7 h (omega arith) in
@@ -186,41 +186,41 @@ fed-header h s x e =
     gather [] hs s x (omega arith) ∙ ap {B = Listed} (λ (k : ℕ). record { listing = here hs s (x + k); lines = [] }) n in
     rw (last_byte h e)
     (cuts (here [] s x) hs (b ∷ [])
-    ∙ rw q (fed_one (here hs s (x + 7)) b ∙ byte-whole hs s (x + 7) b (omega arith) ∙ after-here hs s x 7 1 (decoded (hs ++ (b ∷ []))).len (full (hs ++ (b ∷ [])))))
+    ∙ rw q (fed_one (here hs s (x + 7)) b ∙ byte_whole hs s (x + 7) b (omega arith) ∙ after_here hs s x 7 1 (decoded (hs ++ (b ∷ []))).len (full (hs ++ (b ∷ [])))))
 
 -- the header h is in, and n payload bytes are to come
 abbrev opened : List ℕ → ℕ → ℕ → Listing
 opened h s x = record { header = full h; rest = (decoded h).len; segments = s % 2 ^ 64; bytes = (x + header_length) % 2 ^ 64 }
 
 -- a header and some bytes after it
-fed-after : (h p : List ℕ) (s x : ℕ) → length h ≡ header_length → 0 < (decoded h).len → fed (here [] s x) (h ++ p) ≡ fed (opened h s x) p
+fed_after : (h p : List ℕ) (s x : ℕ) → length h ≡ header_length → 0 < (decoded h).len → fed (here [] s x) (h ++ p) ≡ fed (opened h s x) p
 unfolding after
-fed-after h p s x e some =
+fed_after h p s x e some =
     let q : fed (here [] s x) h ≡ record { listing = opened h s x; lines = [] } =
-    fed-header h s x e ∙ rw (lt-ltb 0 (decoded h).len some, further x header_length) in
+    fed_header h s x e ∙ rw (lt-ltb 0 (decoded h).len some, further x header_length) in
     cuts (here [] s x) h p ∙ rw q
 
 -- what a whole segment comes to
 abbrev Ends : List ℕ → List ℕ → ℕ → ℕ → Type 0
 Ends h p s x = fed (here [] s x) (h ++ p) ≡ record { listing = here [] (s + 1) (x + length (h ++ p)); lines = decoded h ∷ [] }
 
-fed-none : (h : List ℕ) (s x : ℕ) → length h ≡ header_length → (decoded h).len ≡ 0 → Ends h [] s x
+fed_none : (h : List ℕ) (s x : ℕ) → length h ≡ header_length → (decoded h).len ≡ 0 → Ends h [] s x
 unfolding after
-fed-none h s x e z =
+fed_none h s x e z =
     rw (append-nil h, e)
-    (fed-header h s x e ∙ rw (le-ltb 0 (decoded h).len (omega arith), further x header_length, further s 1))
+    (fed_header h s x e ∙ rw (le-ltb 0 (decoded h).len (omega arith), further x header_length, further s 1))
 
-fed-some : (h p : List ℕ) (s x : ℕ) → length h ≡ header_length → length p ≡ (decoded h).len → 0 < (decoded h).len → Ends h p s x
+fed_some : (h p : List ℕ) (s x : ℕ) → length h ≡ header_length → length p ≡ (decoded h).len → 0 < (decoded h).len → Ends h p s x
 unfolding after
-fed-some h p s x e n some =
+fed_some h p s x e n some =
     let z : (decoded h).len - length p ≡ 0 = omega arith in
     let l : x + header_length + length p ≡ x + length (h ++ p) = omega (arith, length-append h p) in
-    fed-after h p s x e some ∙ fed-payload (opened h s x) p (omega arith) (omega arith)
+    fed_after h p s x e some ∙ fed_payload (opened h s x) p (omega arith) (omega arith)
     ∙ rw (z, further s 1, further (x + header_length) (length p), l)
 
 fed_segment : (h p : List ℕ) (s x : ℕ) → length h ≡ header_length → length p ≡ (decoded h).len → Ends h p s x
-fed_segment h [] s x e n = fed-none h s x e (sym n)
-fed_segment h (b ∷ p) s x e n = fed-some h (b ∷ p) s x e n (omega arith)
+fed_segment h [] s x e n = fed_none h s x e (sym n)
+fed_segment h (b ∷ p) s x e n = fed_some h (b ∷ p) s x e n (omega arith)
 
 -- a payload of which n bytes are there, and not all
 abbrev within : List ℕ → ℕ → ℕ → ℕ → Listed
@@ -230,12 +230,12 @@ within h s x n =
       lines = [];
     }
 
-fed-within : (h p : List ℕ) (s x : ℕ) → length p < (decoded h).len → fed (opened h s x) p ≡ within h s x (length p)
+fed_within : (h p : List ℕ) (s x : ℕ) → length p < (decoded h).len → fed (opened h s x) p ≡ within h s x (length p)
 unfolding fed after
-fed-within h [] s x few = rw (add-zero, sub-zero)
-fed-within h (b ∷ p) s x few =
+fed_within h [] s x few = rw (add-zero, sub-zero)
+fed_within h (b ∷ p) s x few =
     let n = length (b ∷ p) in
-    fed-payload (opened h s x) (b ∷ p) (omega arith) (omega arith)
+    fed_payload (opened h s x) (b ∷ p) (omega arith) (omega arith)
     ∙ rw (lt-ltb 0 ((decoded h).len - n) (omega arith), further (x + header_length) n)
 
 -- ---- T17
@@ -253,7 +253,7 @@ lists_from s x (in_header {bs} h) =
 lists_from s x (in_payload h p e few) =
     let l : length (h ++ p) ≡ header_length + length p = length-append h p ∙ rw e in
     let q : x + header_length + length p ≡ x + length (h ++ p) = omega arith in
-    rw (fed-after h p s x e (omega arith) ∙ fed-within h p s x few)
+    rw (fed_after h p s x e (omega arith) ∙ fed_within h p s x few)
     (record { lines = refl; ending = sym (ne_eqb (length (h ++ p)) 0 (λ z. omega arith)); segments = rw add-zero; bytes = rw q })
 lists_from s x (whole h p {bs} {left} {cs} e n d) =
     let f = lists_from (s + 1) (x + length (h ++ p)) d in

@@ -12,7 +12,7 @@ use Rattle.looking.specs.Looking.{Told}
 use Rattle.looking.specs.contracts.look.{ended}
 use Rattle.looking.proofs.look.Reads.{Pre, Post}
 use Rattle.looking.specs.contracts.part as part
-use Rattle.looking.proofs.part.Reads as part_Says
+use Rattle.looking.proofs.part.Reads as part_says
 use Rattle.looking.specs.contracts.meet as meet
 use Rattle.looking.proofs.meet.Reads as meet_says
 use Rattle.looking.proofs.PartLaws.{one_part}
@@ -32,7 +32,7 @@ OneMemory t Pre Post ref =
     → Post lives a r (at_exit t lives a after) → Post lives a q (at_exit t lives a after')
     → Pre lives a × ((ref lives r).ref_ptr ≡ (ref lives q).ref_ptr) × ((ref lives r).now ≡ (ref lives q).now)
 
-pub once_part : OneMemory part.ended part_Says.Pre part_Says.Post (λ lives r. r)
+pub once_part : OneMemory part.ended part_says.Pre part_says.Post (λ lives r. r)
 once_part lives a r q after after' e f =
     let (store, (scratch, (place, (len, _)))) = a in let (memory, bytes) = one_part place len store scratch r q e f in (tt, memory, bytes)
 

@@ -10,8 +10,8 @@ use lib.Seq.{sets, length-sets}
 use borrow.Author.Tests.{le-leb, lt-leb}
 use denote.Ref.{Bor}
 use Rattle.ring.specs.Ring.{base_of, run}
-use Rattle.ring.proofs.Runs.{run-sets}
-use Rattle.ring.proofs.Stores.{stream_straight, stream-length}
+use Rattle.ring.proofs.Runs.{run_sets}
+use Rattle.ring.proofs.Stores.{stream_straight, stream_length}
 use Rattle.messages.specs.declared.Message.{Message}
 use Rattle.connection.specs.declared.Connection.{Connection}
 use Rattle.connection.specs.Parts.{first_held}
@@ -75,10 +75,10 @@ module _ (c : Connection) (i : ℕ) (before : List ℕ) (store scratch r : Bor (
   part_by (joins n m next k w l e) f =
       let g = rw (← e) at f in
       let xs = first_held c store.now i n in
-      let long : length xs ≡ n = stream-length store.now (base_of c.settings.receive i) (get_or c.settings.receive i 0) (get_or c.receiving.starts i 0) n in
+      let long : length xs ≡ n = stream_length store.now (base_of c.settings.receive i) (get_or c.settings.receive i 0) (get_or c.receiving.starts i 0) n in
       let size : length scratch.now ≡ length before = ap length g.after ∙ length-sets before 0 xs in
       let (memory, bytes) = cut-had scratch 0 n r (omega arith) g.there in
-      let front : run (sets before 0 xs) 0 n ≡ xs = ap (λ (k : ℕ). run (sets before 0 xs) 0 k) (sym long) ∙ run-sets before 0 xs (omega arith) in
+      let front : run (sets before 0 xs) 0 n ≡ xs = ap (λ (k : ℕ). run (sets before 0 xs) 0 k) (sym long) ∙ run_sets before 0 xs (omega arith) in
       rw (← e) (record { message = λ z. bytes ∙ ap (λ (l : List ℕ). run l 0 n) g.after ∙ front; memory = λ z. at_front w memory; none = λ q. absurd (q refl) })
 
 pub part_shown : PartShown

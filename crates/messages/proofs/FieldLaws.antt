@@ -41,19 +41,19 @@ use Rattle.elements.specs.Matching.{Break, array, in_message}
 use Rattle.messages.specs.Matching.{begun, with_number, with_place}
 use Rattle.elements.specs.Reading.{on_end, unsigned_at, opens_at, item_end, part_of}
 use Rattle.messages.specs.Reading.{failed, read, behind, with_part, fields_of, counted, numbered_of, count_from, message_of}
-use Rattle.elements.proofs.ElementLaws.{Numbers, Openings, unsigned-sound, opens-sound, forward, item-found, item-then, none_at, ahead, no_items, first-item, number-item, item-array, array-elements, item-no-break, Parts, part_sound, field-item}
-use Rattle.elements.proofs.Steps.{number-then, number-not, opening-then, opening-not, end-then, end-not}
-use Rattle.messages.proofs.Theorem.{whole_item, open-count}
+use Rattle.elements.proofs.ElementLaws.{Numbers, Openings, unsigned_sound, opens_sound, forward, item_found, item_then, none_at, ahead, no_items, first_item, number_item, item_array, array_elements, item_no_break, Parts, part_sound, field_item}
+use Rattle.elements.proofs.Steps.{number_then, number_not, opening_then, opening_not, end_then, end_not}
+use Rattle.messages.proofs.Theorem.{whole_item, open_count}
 
 -- a message with a number more, or a place more
-pub number-said : (m : Message) (v : ℕ) {l : List ℕ} → l ≡ set m.numbers m.count v
+pub number_said : (m : Message) (v : ℕ) {l : List ℕ} → l ≡ set m.numbers m.count v
     → record { kind = m.kind; numbers = l; count = m.count + 1; places = m.places; parts = m.parts } ≡ with_number m v
-number-said m v e =
+number_said m v e =
     ap (λ (l : List ℕ). record { kind = m.kind; numbers = l; count = m.count + 1; places = m.places; parts = m.parts }) e
 
-pub place-said : (m : Message) (a s : ℕ) {k l : List ℕ} → k ≡ set m.places (m.parts * 2) a → l ≡ set k (m.parts * 2 + 1) s
+pub place_said : (m : Message) (a s : ℕ) {k l : List ℕ} → k ≡ set m.places (m.parts * 2) a → l ≡ set k (m.parts * 2 + 1) s
     → record { kind = m.kind; numbers = m.numbers; count = m.count; places = l; parts = m.parts + 1 } ≡ with_place m a s
-place-said m a s e f =
+place_said m a s e f =
     ap (λ (l : List ℕ). record { kind = m.kind; numbers = m.numbers; count = m.count; places = l; parts = m.parts + 1 })
     (f ∙ ap (λ (k : List ℕ). set k (m.parts * 2 + 1) s) e)
 
@@ -66,12 +66,12 @@ with_count m part.Wrong i h l = (omega arith, omega arith)
 module _ (bs : List ℕ) where
   -- ---- what is left of the fields
 
-  left-more : (fs : List Field) (i p : ℕ) (m : Message) → i < length fs
+  left_more : (fs : List Field) (i p : ℕ) (m : Message) → i < length fs
       → fields_of bs (drop i fs) (i + 1) p m
       ≡ on_end (failed (WrongField (i + 1))) (behind (part_of bs (get_or fs i field.Item) p))
       (λ q. fields_of bs (drop (i + 1) fs) (i + 1 + 1) q (with_part m (part_of bs (get_or fs i field.Item) p)))
   unfolding fields_of
-  left-more fs i p m h =
+  left_more fs i p m h =
       ap (λ (l : List Field). fields_of bs l (i + 1) p m)
       (drop-cons fs i field.Item h ∙ ap (λ (n : ℕ). get_or fs i field.Item ∷ drop n fs) (sym (add-one i)))
 
@@ -82,15 +82,15 @@ module _ (bs : List ℕ) where
 
     pub one_more : {q : ℕ} → e ≡ At q → fields_of bs (drop (i + 1) fs) (i + 1 + 1) q (with_part m w) ≡ fields_of bs (drop i fs) (i + 1) p m
     one_more {q} at =
-        end-then (failed (WrongField (i + 1))) (λ q. fields_of bs (drop (i + 1) fs) (i + 1 + 1) q (with_part m (part_of bs (get_or fs i field.Item) p)))
+        end_then (failed (WrongField (i + 1))) (λ q. fields_of bs (drop (i + 1) fs) (i + 1 + 1) q (with_part m (part_of bs (get_or fs i field.Item) p)))
         (ends ∙ ap behind same) at (ap (λ (x : Part). fields_of bs (drop (i + 1) fs) (i + 1 + 1) q (with_part m x)) same)
-        ∙ sym (left-more fs i p m h)
+        ∙ sym (left_more fs i p m h)
 
-    pub one-wrong : e ≡ Nowhere → failed (WrongField (i + 1)) ≡ fields_of bs (drop i fs) (i + 1) p m
-    one-wrong not =
-        end-not (failed (WrongField (i + 1))) (λ q. fields_of bs (drop (i + 1) fs) (i + 1 + 1) q (with_part m (part_of bs (get_or fs i field.Item) p)))
+    pub one_wrong : e ≡ Nowhere → failed (WrongField (i + 1)) ≡ fields_of bs (drop i fs) (i + 1) p m
+    one_wrong not =
+        end_not (failed (WrongField (i + 1))) (λ q. fields_of bs (drop (i + 1) fs) (i + 1 + 1) q (with_part m (part_of bs (get_or fs i field.Item) p)))
         (ends ∙ ap behind same) not
-        ∙ sym (left-more fs i p m h)
+        ∙ sym (left_more fs i p m h)
 
   pub none_left : (fs : List Field) (i p : ℕ) (m : Message) → i ≡ length fs → read m ≡ fields_of bs (drop i fs) (i + 1) p m
   unfolding fields_of
@@ -99,8 +99,8 @@ module _ (bs : List ℕ) where
   -- ---- what is left of the array
 
   -- behind an item of k + 1 stand k
-  items-after : {d k p q n : ℕ} → 0 < k → ItemsAt bs d k p n → ItemAt bs d p q → ItemsAt bs d (k - 1) q n
-  items-after {d} {k} {p} {q} {n} h s i = of k h s.reads
+  items_after : {d k p q n : ℕ} → 0 < k → ItemsAt bs d k p n → ItemAt bs d p q → ItemsAt bs d (k - 1) q n
+  items_after {d} {k} {p} {q} {n} h s i = of k h s.reads
     where
       of : (k : ℕ) → 0 < k → Reads d (Items k) (drop p bs) (drop n bs) → ItemsAt bs d (k - 1) q n
       of zero h r = absurd (omega arith)
@@ -112,80 +112,80 @@ module _ (bs : List ℕ) where
           (record { forward = forward bs i.inside s.inside r'; inside = s.inside; reads = r' })
 
   -- and behind i of k items the rest
-  items-behind : {d : ℕ} (i : ℕ) {k p r n : ℕ} → i ≤ k → ItemsAt bs d i p r → ItemsAt bs d k p n → ItemsAt bs d (k - i) r n
-  items-behind {d} zero {k} {p} {r} {n} h s t =
+  items_behind : {d : ℕ} (i : ℕ) {k p r n : ℕ} → i ≤ k → ItemsAt bs d i p r → ItemsAt bs d k p n → ItemsAt bs d (k - i) r n
+  items_behind {d} zero {k} {p} {r} {n} h s t =
       let z : k ≡ k - 0 = omega arith in
       subst (λ (j : ℕ). ItemsAt bs d j r n) z (subst (λ (q : ℕ). ItemsAt bs d k q n) (no_items bs s) t)
-  items-behind {d} (suc i) {k} {r = r} {n = n} h s t =
-      let f = first-item bs s in
+  items_behind {d} (suc i) {k} {r = r} {n = n} h s t =
+      let f = first_item bs s in
       let z : k - 1 - i ≡ k - suc i = omega arith in
-      subst (λ (j : ℕ). ItemsAt bs d j r n) z (items-behind i (omega arith) f.2 (items-after (omega arith) t f.1))
+      subst (λ (j : ℕ). ItemsAt bs d j r n) z (items_behind i (omega arith) f.2 (items_after (omega arith) t f.1))
 
   -- one item more
-  pub then-item : {d : ℕ} (k : ℕ) {p q r : ℕ} → ItemsAt bs d k p q → ItemAt bs d q r → ItemsAt bs d (suc k) p r
-  then-item {d} zero {p} {r = r} s i = subst⁻¹ (λ (q : ℕ). ItemsAt bs d 1 q r) (no_items bs s) (item-then bs i (none_at bs i.inside))
-  then-item (suc k) s i = let f = first-item bs s in item-then bs f.1 (then-item k f.2 i)
+  pub then_item : {d : ℕ} (k : ℕ) {p q r : ℕ} → ItemsAt bs d k p q → ItemAt bs d q r → ItemsAt bs d (suc k) p r
+  then_item {d} zero {p} {r = r} s i = subst⁻¹ (λ (q : ℕ). ItemsAt bs d 1 q r) (no_items bs s) (item_then bs i (none_at bs i.inside))
+  then_item (suc k) s i = let f = first_item bs s in item_then bs f.1 (then_item k f.2 i)
 
   -- a field that is found is an item of the array
-  pub part-item : (f : Field) (p : ℕ) {q : ℕ} {w : Part} {e : End} → w ≡ part_of bs f p → e ≡ behind w → e ≡ At q → ItemAt bs in_message p q
-  part-item f p {q} {w} found ends at = of w (subst (Parts bs (λ x r. FieldAt bs f p x r)) (sym found) (part_sound bs f p)) (sym ends ∙ at)
+  pub part_item : (f : Field) (p : ℕ) {q : ℕ} {w : Part} {e : End} → w ≡ part_of bs f p → e ≡ behind w → e ≡ At q → ItemAt bs in_message p q
+  part_item f p {q} {w} found ends at = of w (subst (Parts bs (λ x r. FieldAt bs f p x r)) (sym found) (part_sound bs f p)) (sym ends ∙ at)
     where
       of : (w : Part) → Parts bs (λ x r. FieldAt bs f p x r) w → behind w ≡ At q → ItemAt bs in_message p q
-      of (part.Number v r) s e = let g : r ≡ q = cc in subst (λ (n : ℕ). ItemAt bs in_message p n) g (field-item bs s)
-      of (part.Place a l r) s e = let g : r ≡ q = cc in subst (λ (n : ℕ). ItemAt bs in_message p n) g (field-item bs s)
+      of (part.Number v r) s e = let g : r ≡ q = cc in subst (λ (n : ℕ). ItemAt bs in_message p n) g (field_item bs s)
+      of (part.Place a l r) s e = let g : r ≡ q = cc in subst (λ (n : ℕ). ItemAt bs in_message p n) g (field_item bs s)
       of part.Wrong s e = absurd (let z : ◌≡◌ {A = ℕ} 0 1 = cc in omega arith)
 
   -- the last of k items ends where they end, and that is known of it alone
-  pub last-ends : {d p q n : ℕ} (i k : ℕ) → i + 1 ≡ k → ItemsAt bs d i p q → ItemsAt bs d k p n → item_end bs d q ≡ At n
-  last-ends {d} {p} {q} {n} i k e s t =
+  pub last_ends : {d p q n : ℕ} (i k : ℕ) → i + 1 ≡ k → ItemsAt bs d i p q → ItemsAt bs d k p n → item_end bs d q ≡ At n
+  last_ends {d} {p} {q} {n} i k e s t =
       let z : k - i ≡ 1 = omega arith in
-      let f = first-item bs (subst (λ (j : ℕ). ItemsAt bs d j q n) z (items-behind i (omega arith) s t)) in
-      item-found bs (subst (λ (r : ℕ). ItemAt bs d q r) (no_items bs f.2) f.1)
+      let f = first_item bs (subst (λ (j : ℕ). ItemsAt bs d j q n) z (items_behind i (omega arith) s t)) in
+      item_found bs (subst (λ (r : ℕ). ItemAt bs d q r) (no_items bs f.2) f.1)
 
   nowhere : {q : ℕ} → Nowhere ≡ At q → ⊥
   nowhere {q} e = let y : ◌≡◌ {A = ℕ} 0 1 = cc in omega arith
 
-  pub known-end : {q : ℕ} (t : Bool) {e end : End} → e ≡ cond t end Nowhere → e ≡ At q → (t ≡ true) × (end ≡ At q)
-  known-end true f g = (refl, sym f ∙ g)
-  known-end false f g = absurd (nowhere (sym f ∙ g))
+  pub known_end : {q : ℕ} (t : Bool) {e end : End} → e ≡ cond t end Nowhere → e ≡ At q → (t ≡ true) × (end ≡ At q)
+  known_end true f g = (refl, sym f ∙ g)
+  known_end false f g = absurd (nowhere (sym f ∙ g))
 
   -- ---- the phases
 
-  kind-is : (a : ℕ) {kind b : ℕ} {n : Number} → n ≡ unsigned_at bs a → n ≡ Is kind b → UnsignedAt bs a kind b
-  kind-is a e f = subst (Numbers (λ v q. UnsignedAt bs a v q)) (sym e ∙ f) (unsigned-sound bs a)
+  kind_is : (a : ℕ) {kind b : ℕ} {n : Number} → n ≡ unsigned_at bs a → n ≡ Is kind b → UnsignedAt bs a kind b
+  kind_is a e f = subst (Numbers (λ v q. UnsignedAt bs a v q)) (sym e ∙ f) (unsigned_sound bs a)
 
   -- an array, whose first element is its kind
   module _ {x : Extent} {a kind b : ℕ} (g : Begins bs x a kind b) where
-    array-opens : Opens bs array 0 x a
-    array-opens = subst (Openings (λ x a. Opens bs array 0 x a)) g.1 (opens-sound bs array 0)
+    array_opens : Opens bs array 0 x a
+    array_opens = subst (Openings (λ x a. Opens bs array 0 x a)) g.1 (opens_sound bs array 0)
 
-    pub kind-item : ItemAt bs in_message a b
-    kind-item = number-item bs (kind-is a refl g.2)
+    pub kind_item : ItemAt bs in_message a b
+    kind_item = number_item bs (kind_is a refl g.2)
 
   -- of definite length, it has one element less behind its kind, up to the end
-  definite-left : {k a kind b : ℕ} → Begins bs (Counted k) a kind b → ItemsAt bs in_message (k - 1) b (length bs)
-  definite-left {k} {a} g =
-      let s = item-array bs (array-opens g) (whole_item bs g.0) in items-after (some_left k s) s (kind-item g)
+  definite_left : {k a kind b : ℕ} → Begins bs (Counted k) a kind b → ItemsAt bs in_message (k - 1) b (length bs)
+  definite_left {k} {a} g =
+      let s = item_array bs (array_opens g) (whole_item bs g.0) in items_after (some_left k s) s (kind_item g)
     where
       some_left : (k : ℕ) → ItemsAt bs in_message k a (length bs) → 0 < k
-      some_left zero s = absurd (omega (arith, no_items bs s, ahead bs (kind-item g), (kind-item g).inside))
+      some_left zero s = absurd (omega (arith, no_items bs s, ahead bs (kind_item g), (kind_item g).inside))
       some_left (suc k) s = omega arith
 
   -- of indefinite length, it has as many elements as are behind, and as stand from there up to its break
-  count-behind : {k a kind b r : ℕ} → Begins bs Open a kind b → ItemsAt bs in_message k a r → count_from bs Open a ≡ k + count_from bs Open r
-  count-behind {k} {a} {r = r} g s =
-      let f = array-elements bs Open (array-opens g) (whole_item bs g.0) in
+  count_behind : {k a kind b r : ℕ} → Begins bs Open a kind b → ItemsAt bs in_message k a r → count_from bs Open a ≡ k + count_from bs Open r
+  count_behind {k} {a} {r = r} g s =
+      let f = array_elements bs Open (array_opens g) (whole_item bs g.0) in
       let few : k ≤ f.0 = at_most f.0 f.2 f.3 in
-      let c = open-count bs s.inside (items-behind k few s f.2) f.3 in
-      let all = open-count bs (omega (arith, s.forward, s.inside)) f.2 f.3 in
+      let c = open_count bs s.inside (items_behind k few s f.2) f.3 in
+      let all = open_count bs (omega (arith, s.forward, s.inside)) f.2 f.3 in
       omega (arith, few, c, all)
     where
       at_most : (n : ℕ) {q : ℕ} → ItemsAt bs in_message n a q → get_or bs q 0 ≡ Break → k ≤ n
       at_most n {q} t c = elim (dec_lt n k) [
         | yes y ↦
             let z : k - n ≡ suc (k - n - 1) = omega arith in
-            let h = first-item bs (subst (λ (j : ℕ). ItemsAt bs in_message j q r) z (items-behind n (omega arith) t s)) in
-            absurd (item-no-break bs h.1 c)
+            let h = first_item bs (subst (λ (j : ℕ). ItemsAt bs in_message j q r) z (items_behind n (omega arith) t s)) in
+            absurd (item_no_break bs h.1 c)
         | no y ↦ omega arith
       ]
 
@@ -194,63 +194,63 @@ module _ (bs : List ℕ) where
       → has_count bs x (c + 1) left r ≡ eqb (count_from bs x a) (c + 1)
   told (Counted k) g s = refl
   told Open {a} {c = c} {left = left} {r = r} g s =
-      let all : count_from bs Open a ≡ suc (c - left) + count_from bs Open r = count-behind g (item-then bs (kind-item g) s.1) in
+      let all : count_from bs Open a ≡ suc (c - left) + count_from bs Open r = count_behind g (item_then bs (kind_item g) s.1) in
       elim (ℕ_discrete (count_from bs Open r) left) [
         | yes y ↦ eq-eqb (count_from bs Open r) left y ∙ sym (eq-eqb (count_from bs Open a) (c + 1) (omega (arith, all, y, s.0)))
         | no y ↦ ne_eqb (count_from bs Open r) left y ∙ sym (ne_eqb (count_from bs Open a) (c + 1) (λ e. y (omega (arith, all, e, s.0))))
       ]
-  told Rest g s = absurd (array-opens g)
+  told Rest g s = absurd (array_opens g)
 
   -- and where its head tells it, its last element ends where the bytes end
-  last-told : (x : Extent) {a kind b c q : ℕ} → Begins bs x a kind b → last_end x (c + 1) (length bs) ≡ At q → ItemsAt bs in_message c b q
-  last-told (Counted k) {b = b} {c = c} {q = q} g e =
-      let f = known-end (eqb k (c + 1)) refl e in
+  last_told : (x : Extent) {a kind b c q : ℕ} → Begins bs x a kind b → last_end x (c + 1) (length bs) ≡ At q → ItemsAt bs in_message c b q
+  last_told (Counted k) {b = b} {c = c} {q = q} g e =
+      let f = known_end (eqb k (c + 1)) refl e in
       let z : k - 1 ≡ c = omega (arith, eqb-true k (c + 1) f.0) in
       let y : length bs ≡ q = cc f.1 in
-      subst (λ (j : ℕ). ItemsAt bs in_message j b q) z (subst (λ (m : ℕ). ItemsAt bs in_message (k - 1) b m) y (definite-left g))
-  last-told Open g e = absurd (nowhere e)
-  last-told Rest g e = absurd (nowhere e)
+      subst (λ (j : ℕ). ItemsAt bs in_message j b q) z (subst (λ (m : ℕ). ItemsAt bs in_message (k - 1) b m) y (definite_left g))
+  last_told Open g e = absurd (nowhere e)
+  last_told Rest g e = absurd (nowhere e)
 
   -- the same, where the code has the number of fields, k
   module _ (x : Extent) {a kind b k c : ℕ} (is : k ≡ c) (g : Begins bs x a kind b) where
-    pub count-told : {left r : ℕ} {t : Bool} → t ≡ has_count bs x (k + 1) left r → Stopped bs c b left r → t ≡ eqb (count_from bs x a) (c + 1)
-    count-told {left} {r} e s = e ∙ ap (λ (k : ℕ). has_count bs x (k + 1) left r) is ∙ told x g s
+    pub count_told : {left r : ℕ} {t : Bool} → t ≡ has_count bs x (k + 1) left r → Stopped bs c b left r → t ≡ eqb (count_from bs x a) (c + 1)
+    count_told {left} {r} e s = e ∙ ap (λ (k : ℕ). has_count bs x (k + 1) left r) is ∙ told x g s
 
-    pub last-known : {n q : ℕ} {e : End} → length bs ≡ n → e ≡ last_end x (k + 1) n → e ≡ At q → ItemsAt bs in_message c b q
-    last-known {n} long e f =
-        last-told x g (ap (last_end x (c + 1)) long ∙ ap (λ (k : ℕ). last_end x (k + 1) n) (sym is) ∙ sym e ∙ f)
+    pub last_known : {n q : ℕ} {e : End} → length bs ≡ n → e ≡ last_end x (k + 1) n → e ≡ At q → ItemsAt bs in_message c b q
+    last_known {n} long e f =
+        last_told x g (ap (last_end x (c + 1)) long ∙ ap (λ (k : ℕ). last_end x (k + 1) n) (sym is) ∙ sym e ∙ f)
 
-  pub message-array : (p : Protocol) {x : Extent} {a : ℕ} {n : Opening} {r : Answer} → verdict bs ≡ Whole (length bs) → n ≡ opens_at bs array 0
+  pub message_array : (p : Protocol) {x : Extent} {a : ℕ} {n : Opening} {r : Answer} → verdict bs ≡ Whole (length bs) → n ≡ opens_at bs array 0
       → n ≡ opening.At x a → r ≡ numbered_of p bs (count_from bs x a) a → r ≡ message_of p bs
   unfolding message_of
-  message-array p w e f g =
-      opening-then (failed NotArray) (λ x a. numbered_of p bs (count_from bs x a) a) e f g ∙ sym (rw (w, eq-eqb (length bs) (length bs) refl))
+  message_array p w e f g =
+      opening_then (failed NotArray) (λ x a. numbered_of p bs (count_from bs x a) a) e f g ∙ sym (rw (w, eq-eqb (length bs) (length bs) refl))
 
-  pub message-none : (p : Protocol) {n : Opening} → verdict bs ≡ Whole (length bs) → n ≡ opens_at bs array 0 → n ≡ opening.Not
+  pub message_none : (p : Protocol) {n : Opening} → verdict bs ≡ Whole (length bs) → n ≡ opens_at bs array 0 → n ≡ opening.Not
       → failed NotArray ≡ message_of p bs
   unfolding message_of
-  message-none p w e f =
-      opening-not (failed NotArray) (λ x a. numbered_of p bs (count_from bs x a) a) e f ∙ sym (rw (w, eq-eqb (length bs) (length bs) refl))
+  message_none p w e f =
+      opening_not (failed NotArray) (λ x a. numbered_of p bs (count_from bs x a) a) e f ∙ sym (rw (w, eq-eqb (length bs) (length bs) refl))
 
-  pub kind-named : (p : Protocol) (k a : ℕ) {kind b : ℕ} {n : Number} {r : Answer} → n ≡ unsigned_at bs a → n ≡ Is kind b
+  pub kind_named : (p : Protocol) (k a : ℕ) {kind b : ℕ} {n : Number} {r : Answer} → n ≡ unsigned_at bs a → n ≡ Is kind b
       → r ≡ counted bs k kind b (form_of p kind) → r ≡ numbered_of p bs k a
   unfolding numbered_of
-  kind-named p k a e f g = number-then (failed NotArray) (λ kind b. counted bs k kind b (form_of p kind)) e f g
+  kind_named p k a e f g = number_then (failed NotArray) (λ kind b. counted bs k kind b (form_of p kind)) e f g
 
-  pub kind-none : (p : Protocol) (k a : ℕ) {n : Number} → n ≡ unsigned_at bs a → n ≡ Not → failed NotArray ≡ numbered_of p bs k a
+  pub kind_none : (p : Protocol) (k a : ℕ) {n : Number} → n ≡ unsigned_at bs a → n ≡ Not → failed NotArray ≡ numbered_of p bs k a
   unfolding numbered_of
-  kind-none p k a e f = number-not (failed NotArray) (λ kind b. counted bs k kind b (form_of p kind)) e f
+  kind_none p k a e f = number_not (failed NotArray) (λ kind b. counted bs k kind b (form_of p kind)) e f
 
-  pub form-known : (p : Protocol) (k kind b : ℕ) {row : ℕ} {w : Listed} {r : Answer} → Finds p kind w → w ≡ Row row
+  pub form_known : (p : Protocol) (k kind b : ℕ) {row : ℕ} {w : Listed} {r : Answer} → Finds p kind w → w ≡ Row row
       → r ≡ counted bs k kind b (some (form_at row).fields) → r ≡ counted bs k kind b (form_of p kind)
-  form-known p k kind b h e g = g ∙ ap (counted bs k kind b) (sym (subst (Finds p kind) e h).1)
+  form_known p k kind b h e g = g ∙ ap (counted bs k kind b) (sym (subst (Finds p kind) e h).1)
 
-  pub form-unknown : (p : Protocol) (k kind b : ℕ) {w : Listed} → Finds p kind w → w ≡ Unknown → failed UnknownKind ≡ counted bs k kind b (form_of p kind)
-  form-unknown p k kind b h e = ap (counted bs k kind b) (sym (subst (Finds p kind) e h))
+  pub form_unknown : (p : Protocol) (k kind b : ℕ) {w : Listed} → Finds p kind w → w ≡ Unknown → failed UnknownKind ≡ counted bs k kind b (form_of p kind)
+  form_unknown p k kind b h e = ap (counted bs k kind b) (sym (subst (Finds p kind) e h))
 
   module _ (fs : List Field) (k kind b : ℕ) {t : Bool} (test : t ≡ eqb k (length fs + 1)) where
     pub count_right : {r : Answer} → t ≡ true → r ≡ fields_of bs fs 1 b (begun kind) → r ≡ counted bs k kind b (some fs)
     count_right e g = g ∙ sym (rw (sym test ∙ e))
 
-    pub count-wrong : t ≡ false → failed WrongCount ≡ counted bs k kind b (some fs)
-    count-wrong e = sym (rw (sym test ∙ e))
+    pub count_wrong : t ≡ false → failed WrongCount ≡ counted bs k kind b (some fs)
+    count_wrong e = sym (rw (sym test ∙ e))

@@ -91,9 +91,9 @@ module _ (i : ℕ) (h : i < form_count) where
 
 -- the search along the forms
 module _ (k : ℕ) where
-  pub each-form : (f : Form) (fs : List Form) → form_in k (f ∷ fs) ≡ cond (eqb f.kind k) (some f.fields) (form_in k fs)
+  pub each_form : (f : Form) (fs : List Form) → form_in k (f ∷ fs) ≡ cond (eqb f.kind k) (some f.fields) (form_in k fs)
   unfolding form_in
-  each-form f fs = refl
+  each_form f fs = refl
 
   abbrev pub finding : Search Form (Option (List Field))
-  finding = record { past = form 0 []; test = λ f. eqb f.kind k; said = λ f. some f.fields; along = form_in k; each = each-form }
+  finding = record { past = form 0 []; test = λ f. eqb f.kind k; said = λ f. some f.fields; along = form_in k; each = each_form }

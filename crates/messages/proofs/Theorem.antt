@@ -41,12 +41,12 @@ use Rattle.messages.specs.Matching.{begun, with_number, with_place}
 use Rattle.elements.specs.Reading.{on_end, unsigned_at, opens_at, elements_of, part_of}
 use Rattle.messages.specs.Reading.{failed, read, behind, with_part, fields_of, counted, wholly, numbered_of, count_from, message_of}
 use Rattle.messages.specs.Besides.Theorem.{Says, ReadsForms, OneMatch, MessageIsItem}
-use Rattle.elements.proofs.ElementLaws.{number_cases, opening_cases, unsigned-sound, opens-sound, unsigned-found, opens-found, opens-within, number-item, array-elements, items-elements, elements-found, list-item, none_at, item-then, Parts, part_sound, got, part-found, field-item}
+use Rattle.elements.proofs.ElementLaws.{number_cases, opening_cases, unsigned_sound, opens_sound, unsigned_found, opens_found, opens_within, number_item, array_elements, items_elements, elements_found, list_item, none_at, item_then, Parts, part_sound, got, part_found, field_item}
 
 module _ (bs : List ℕ) where
-  fields-items : {fs : List Field} {p q : ℕ} {xs : List Value} → p ≤ length bs → FieldsAt bs fs p xs q → ItemsAt bs in_message (length fs) p q
-  fields-items h no_field = none_at bs h
-  fields-items h (a_field x r) = let i = field-item bs x in item-then bs i (fields-items i.inside r)
+  fields_items : {fs : List Field} {p q : ℕ} {xs : List Value} → p ≤ length bs → FieldsAt bs fs p xs q → ItemsAt bs in_message (length fs) p q
+  fields_items h no_field = none_at bs h
+  fields_items h (a_field x r) = let i = field_item bs x in item_then bs i (fields_items i.inside r)
 
   -- ---- the fields
 
@@ -54,48 +54,48 @@ module _ (bs : List ℕ) where
   abbrev further : Part → List Field → ℕ → Message → Answer
   further w fs i m = on_end (failed (WrongField i)) (behind w) (λ q. fields_of bs fs (i + 1) q (with_part m w))
 
-  further-got : (x : Value) (q : ℕ) (fs : List Field) (i : ℕ) (m : Message) → further (got bs x q) fs i m ≡ fields_of bs fs (i + 1) q (saying m x)
-  further-got (number v) q fs i m = refl
-  further-got (place a l) q fs i m = refl
+  further_got : (x : Value) (q : ℕ) (fs : List Field) (i : ℕ) (m : Message) → further (got bs x q) fs i m ≡ fields_of bs fs (i + 1) q (saying m x)
+  further_got (number v) q fs i m = refl
+  further_got (place a l) q fs i m = refl
 
-  fields-found : {fs : List Field} {p q : ℕ} {xs : List Value} (i : ℕ) (m : Message) → FieldsAt bs fs p xs q → fields_of bs fs i p m ≡ read (said_all m xs)
+  fields_found : {fs : List Field} {p q : ℕ} {xs : List Value} (i : ℕ) (m : Message) → FieldsAt bs fs p xs q → fields_of bs fs i p m ≡ read (said_all m xs)
   unfolding fields_of said_all
-  fields-found i m no_field = refl
-  fields-found i m (a_field {fs = fs} {q = q} {x = x} f r) =
-      ap (λ (w : Part). further w fs i m) (part-found bs f) ∙ further-got x q fs i m ∙ fields-found (i + 1) (saying m x) r
+  fields_found i m no_field = refl
+  fields_found i m (a_field {fs = fs} {q = q} {x = x} f r) =
+      ap (λ (w : Part). further w fs i m) (part_found bs f) ∙ further_got x q fs i m ∙ fields_found (i + 1) (saying m x) r
 
   abbrev Found : List Field → ℕ → Message → Message → Type 0
   Found fs p m n = (xs : List Value) × (q : ℕ) × FieldsAt bs fs p xs q × (n ≡ said_all m xs)
 
-  field-sound : (f : Field) (fs : List Field) (i p : ℕ) (m n : Message) (w : Part) → Parts bs (λ x q. FieldAt bs f p x q) w
+  field_sound : (f : Field) (fs : List Field) (i p : ℕ) (m n : Message) (w : Part) → Parts bs (λ x q. FieldAt bs f p x q) w
       → ((q : ℕ) (o : Message) → fields_of bs fs (i + 1) q o ≡ read n → Found fs q o n)
       → further w fs i m ≡ read n → Found (f ∷ fs) p m n
   unfolding said_all
-  field-sound f fs i p m n (part.Number v q) s go e =
+  field_sound f fs i p m n (part.Number v q) s go e =
       let r = go q (with_number m v) e in (number v ∷ r.0, r.1, a_field s r.2, r.3)
-  field-sound f fs i p m n (part.Place a l q) s go e =
+  field_sound f fs i p m n (part.Place a l q) s go e =
       let r = go q (with_place m a l) e in (place a l ∷ r.0, r.1, a_field s r.2, r.3)
-  field-sound f fs i p m n part.Wrong s go e = absurd (let z : WrongField i ≡ Read = ap (λ (a : Answer). a.reading) e in let y : ◌≡◌ {A = ℕ} 0 1 = cc in omega arith)
+  field_sound f fs i p m n part.Wrong s go e = absurd (let z : WrongField i ≡ Read = ap (λ (a : Answer). a.reading) e in let y : ◌≡◌ {A = ℕ} 0 1 = cc in omega arith)
 
-  fields-sound : (fs : List Field) (i p : ℕ) (m n : Message) → fields_of bs fs i p m ≡ read n → Found fs p m n
+  fields_sound : (fs : List Field) (i p : ℕ) (m n : Message) → fields_of bs fs i p m ≡ read n → Found fs p m n
   unfolding fields_of said_all
-  fields-sound [] i p m n e = ([], p, no_field, ap (λ (a : Answer). a.message) (sym e))
-  fields-sound (f ∷ fs) i p m n e =
-      field-sound f fs i p m n (part_of bs f p) (part_sound bs f p) (λ q o g. fields-sound fs (i + 1) q o n g) e
+  fields_sound [] i p m n e = ([], p, no_field, ap (λ (a : Answer). a.message) (sym e))
+  fields_sound (f ∷ fs) i p m n e =
+      field_sound f fs i p m n (part_of bs f p) (part_sound bs f p) (λ q o g. fields_sound fs (i + 1) q o n g) e
 
   -- ---- the message
 
-  wholly-true : (v : Verdict) (n : ℕ) → wholly v n ≡ true → v ≡ Whole n
-  wholly-true (Whole q) n t = ap Whole (eqb-true q n t)
-  wholly-true (Bad q) n t = absurd (let z : ◌≡◌ {A = ℕ} 0 1 = cc in omega arith)
-  wholly-true Incomplete n t = absurd (let z : ◌≡◌ {A = ℕ} 0 1 = cc in omega arith)
+  wholly_true : (v : Verdict) (n : ℕ) → wholly v n ≡ true → v ≡ Whole n
+  wholly_true (Whole q) n t = ap Whole (eqb-true q n t)
+  wholly_true (Bad q) n t = absurd (let z : ◌≡◌ {A = ℕ} 0 1 = cc in omega arith)
+  wholly_true Incomplete n t = absurd (let z : ◌≡◌ {A = ℕ} 0 1 = cc in omega arith)
 
   -- bytes that are wholly one item are the item from the first place to the last
   pub whole_item : verdict bs ≡ Whole (length bs) → ItemAt bs nesting 0 (length bs)
   whole_item e = record { forward = omega arith; inside = omega arith; reads = whole_reads bs 0 (length bs) nesting One e }
 
-  item-whole : ItemAt bs nesting 0 (length bs) → verdict bs ≡ Whole (length bs)
-  item-whole s = reads_whole bs 0 (length bs) nesting One (omega arith) (omega arith) s.reads
+  item_whole : ItemAt bs nesting 0 (length bs) → verdict bs ≡ Whole (length bs)
+  item_whole s = reads_whole bs 0 (length bs) nesting One (omega arith) (omega arith) s.reads
 
   -- two readings of the same items end at the same place
   same_end : {d k p q r : ℕ} → ItemsAt bs d k p q → ItemsAt bs d k p r → q ≡ r
@@ -108,44 +108,44 @@ module _ (bs : List ℕ) where
       → ItemsAt bs in_message (length fs + 1) a q
   elements {fs} {a} {b} {q} u r =
       let e : suc (length fs) ≡ length fs + 1 = omega arith in
-      let n = number-item bs u in
-      subst (λ (k : ℕ). ItemsAt bs in_message k a q) e (item-then bs n (fields-items n.inside r))
+      let n = number_item bs u in
+      subst (λ (k : ℕ). ItemsAt bs in_message k a q) e (item_then bs n (fields_items n.inside r))
 
   -- an array's count, by what is in it
-  pub open-count : {a k q : ℕ} → a ≤ length bs → ItemsAt bs in_message k a q → get_or bs q 0 ≡ Break → count_from bs Open a ≡ k
-  open-count {a} {k} {q} h s c =
+  pub open_count : {a k q : ℕ} → a ≤ length bs → ItemsAt bs in_message k a q → get_or bs q 0 ≡ Break → count_from bs Open a ≡ k
+  open_count {a} {k} {q} h s c =
       let found : elements_of bs in_message element.Item Open a ≡ Is k q =
-      elements-found bs in_message element.Item Open h (items-elements bs k 0 s) c in
+      elements_found bs in_message element.Item Open h (items_elements bs k 0 s) c in
       rw found
 
   count_is : (x : Extent) {a k q : ℕ} → Opens bs array 0 x a → ItemsAt bs in_message k a q → Closes bs x k q → count_from bs x a ≡ k
   count_is (Counted n) o s c = sym c
-  count_is Open o s c = open-count (opens-within bs array 0 Open (omega arith) o).1 s c
+  count_is Open o s c = open_count (opens_within bs array 0 Open (omega arith) o).1 s c
   count_is Rest o s c = absurd o
 
   failing : {r : Reading} {n : Message} → failed r ≡ read n → r ≡ Read
   failing e = ap (λ (a : Answer). a.reading) e
 
   module _ (p : Protocol) where
-    pub matches-item : {kind : ℕ} {xs : List Value} → Matches p bs kind xs → ItemAt bs nesting 0 (length bs)
-    matches-item m =
+    pub matches_item : {kind : ℕ} {xs : List Value} → Matches p bs kind xs → ItemAt bs nesting 0 (length bs)
+    matches_item m =
         let k : ℕ = length m.fields + 1 in
         let z : k ≡ 1 * k = omega arith in
         subst (λ (q : ℕ). ItemAt bs nesting 0 q) m.whole
-        (list-item bs element.Item m.extent k m.opens
+        (list_item bs element.Item m.extent k m.opens
         (subst (λ (n : ℕ). ItemsAt bs in_message n m.first m.last) z (elements m.named m.matched)) m.closes)
 
-    counted-sound : (x : Extent) (kind a b : ℕ) (n : Message) (w : Option (List Field)) → form_of p kind ≡ w → ItemAt bs nesting 0 (length bs)
+    counted_sound : (x : Extent) (kind a b : ℕ) (n : Message) (w : Option (List Field)) → form_of p kind ≡ w → ItemAt bs nesting 0 (length bs)
         → Opens bs array 0 x a → UnsignedAt bs a kind b → counted bs (count_from bs x a) kind b w ≡ read n → Says p bs n
-    counted-sound x kind a b n none f i o u = λ e. absurd (let z : UnknownKind ≡ Read = failing e in let y : ◌≡◌ {A = ℕ} 0 1 = cc in omega arith)
-    counted-sound x kind a b n (some fs) f i o u =
+    counted_sound x kind a b n none f i o u = λ e. absurd (let z : UnknownKind ≡ Read = failing e in let y : ◌≡◌ {A = ℕ} 0 1 = cc in omega arith)
+    counted_sound x kind a b n (some fs) f i o u =
         cond_cases (λ (y : Answer). y ≡ read n → Says p bs n) (eqb (count_from bs x a) (length fs + 1))
-        (λ t e. of (eqb-true (count_from bs x a) (length fs + 1) t) (fields-sound fs 1 b (begun kind) n e))
+        (λ t e. of (eqb-true (count_from bs x a) (length fs + 1) t) (fields_sound fs 1 b (begun kind) n e))
         (λ _ e. absurd (let z : WrongCount ≡ Read = failing e in let y : ◌≡◌ {A = ℕ} 0 1 = cc in omega arith))
       where
         of : count_from bs x a ≡ length fs + 1 → Found fs b (begun kind) n → Says p bs n
         of c (xs, q, r, e) =
-            let g = array-elements bs x o i in
+            let g = array_elements bs x o i in
             let k : g.0 ≡ length fs + 1 = sym (count_is x o g.2 g.3) ∙ c in
             let end : g.1 ≡ q = same_end (subst (λ (k : ℕ). ItemsAt bs in_message k a g.1) k g.2) (elements u r) in (
               kind,
@@ -173,11 +173,11 @@ module _ (bs : List ℕ) where
         let not-array : P (failed NotArray) = λ e. absurd (let z : NotArray ≡ Read = failing e in let y : ◌≡◌ {A = ℕ} 0 1 = cc in omega arith) in
         cond_cases P (wholly (verdict bs) (length bs))
         (λ t.
-        let i : ItemAt bs nesting 0 (length bs) = whole_item (wholly-true (verdict bs) (length bs) t) in
-        opening_cases P (λ x a. numbered_of p bs (count_from bs x a) a) (opens_at bs array 0) (opens-sound bs array 0) not-array
+        let i : ItemAt bs nesting 0 (length bs) = whole_item (wholly_true (verdict bs) (length bs) t) in
+        opening_cases P (λ x a. numbered_of p bs (count_from bs x a) a) (opens_at bs array 0) (opens_sound bs array 0) not-array
         (λ x a o.
-        number_cases P (λ kind b. counted bs (count_from bs x a) kind b (form_of p kind)) (unsigned_at bs a) (unsigned-sound bs a) not-array
-        (λ kind b u. counted-sound x kind a b n (form_of p kind) refl i o u)))
+        number_cases P (λ kind b. counted bs (count_from bs x a) kind b (form_of p kind)) (unsigned_at bs a) (unsigned_sound bs a) not-array
+        (λ kind b u. counted_sound x kind a b n (form_of p kind) refl i o u)))
         (λ _. not-array)
 
     found : {kind : ℕ} {xs : List Value} → Matches p bs kind xs → message_of p bs ≡ read (message_from kind xs)
@@ -185,15 +185,15 @@ module _ (bs : List ℕ) where
     found {kind} {xs} m =
         let n : ℕ = length m.fields + 1 in
         rw (
-          item-whole (matches-item m),
+          item_whole (matches_item m),
           eq-eqb (length bs) (length bs) refl,
-          opens-found bs element.Item 0 m.extent m.opens,
+          opens_found bs element.Item 0 m.extent m.opens,
           count_is m.extent m.opens (elements m.named m.matched) m.closes,
-          unsigned-found bs m.first m.named,
+          unsigned_found bs m.first m.named,
           m.form,
           eq-eqb n n refl,
         )
-        (fields-found 1 (begun kind) m.matched)
+        (fields_found 1 (begun kind) m.matched)
 
   -- ---- one match
 
@@ -203,26 +203,26 @@ module _ (bs : List ℕ) where
   got_same (place a l) (number v) q r e = absurd (let z : ◌≡◌ {A = ℕ} 0 1 = cc in omega arith)
   got_same (place a l) (place b k) q r e = (cc, cc)
 
-  fields-one : {fs : List Field} {p q r : ℕ} {xs ys : List Value} → FieldsAt bs fs p xs q → FieldsAt bs fs p ys r → xs ≡ ys
-  fields-one no_field no_field = refl
-  fields-one (a_field {fs = fs} {q = q} {x = x} f s) (a_field {q = q'} {r = r} {x = y} {xs = ys} g t) =
-      let e = got_same x y q q' (sym (part-found bs f) ∙ part-found bs g) in
-      cc (fields-one s (subst⁻¹ (λ (k : ℕ). FieldsAt bs fs k ys r) e.1 t), e.0)
+  fields_one : {fs : List Field} {p q r : ℕ} {xs ys : List Value} → FieldsAt bs fs p xs q → FieldsAt bs fs p ys r → xs ≡ ys
+  fields_one no_field no_field = refl
+  fields_one (a_field {fs = fs} {q = q} {x = x} f s) (a_field {q = q'} {r = r} {x = y} {xs = ys} g t) =
+      let e = got_same x y q q' (sym (part_found bs f) ∙ part_found bs g) in
+      cc (fields_one s (subst⁻¹ (λ (k : ℕ). FieldsAt bs fs k ys r) e.1 t), e.0)
 
 pub reads_forms : ReadsForms
 reads_forms p bs m = (sound bs p m, λ (kind, xs, w, e). found bs p w ∙ ap read (sym e))
 
 pub message_is_item : MessageIsItem
-message_is_item p bs kind xs m = rw drop-length at (matches-item bs p m).reads
+message_is_item p bs kind xs m = rw drop-length at (matches_item bs p m).reads
 
 pub one_match : OneMatch
 one_match p bs kind other xs ys m n =
     let o : opening.At m.extent m.first ≡ opening.At n.extent n.first =
-    sym (opens-found bs element.Item 0 m.extent m.opens) ∙ opens-found bs element.Item 0 n.extent n.opens in
+    sym (opens_found bs element.Item 0 m.extent m.opens) ∙ opens_found bs element.Item 0 n.extent n.opens in
     let a : m.first ≡ n.first = cc in
     let u : head.Definite 0 kind m.second ≡ head.Definite 0 other n.second = sym m.named ∙ ap (head_at bs) a ∙ n.named in
     let k : kind ≡ other = cc in
     let b : n.second ≡ m.second = cc in
     let f : some n.fields ≡ some m.fields = sym n.form ∙ ap (form_of p) (sym k) ∙ m.form in
     let g : n.fields ≡ m.fields = cc in
-    (k, fields-one bs m.matched (subst (λ (fs : List Field). FieldsAt bs fs m.second ys n.last) g (subst (λ (q : ℕ). FieldsAt bs n.fields q ys n.last) b n.matched)))
+    (k, fields_one bs m.matched (subst (λ (fs : List Field). FieldsAt bs fs m.second ys n.last) g (subst (λ (q : ℕ). FieldsAt bs n.fields q ys n.last) b n.matched)))

@@ -3,7 +3,7 @@
 // The table is that of document 01 and of K1: what is found is the form of this kind, and none is found exactly if the protocol has none.
 ghost use Rattle.std.specs.Prelude.{◌≡◌, ◌+◌, ◌<◌, ◌≤◌, length, get_or};
 ghost use Rattle.elements.specs.declared.Field.TheVariants.{Item};
-ghost use Rattle.rows.specs.Inside.{firstIn, countIn};
+ghost use Rattle.rows.specs.Inside.{first_in, count_in};
 ghost use Rattle.messages.specs.Forms.{forms};
 ghost use Rattle.messages.specs.Inside.{form_count, form_at, most_fields, kind_in, count_of, mark_in, field_of, Finds};
 
@@ -103,13 +103,13 @@ const START: [u8; PROTOCOLS] = [0, 3, 11, 17, 23, 26, 30];
 const COUNT: [u8; PROTOCOLS] = [3, 8, 6, 6, 3, 4, 10];
 
 fn first(p: Protocol) -> usize
-    ensures { result ≡ firstIn forms p }
+    ensures { result ≡ first_in forms p }
 {
     number_of(START, p)
 }
 
 fn count(p: Protocol) -> usize
-    ensures { result ≡ countIn forms p }
+    ensures { result ≡ count_in forms p }
 {
     number_of(COUNT, p)
 }

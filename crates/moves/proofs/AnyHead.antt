@@ -25,11 +25,11 @@ use Rattle.moves.specs.declared.Level.{Level}
 use Rattle.moves.specs.Inside.Levels.{frame_of, tell, Good}
 use Rattle.moves.specs.Inside.Frames.{kept, spent, Holds, begins, breakable, room_for, may_begin}
 use Rattle.moves.specs.Inside.Moves.{Stays, Downs, Skips, Stops, Leaves, Asked, Doubles}
-use Rattle.moves.proofs.Tell.{tell_none, tell-one, tell-content, tell-string, tell-argument, tell-cut, tell-high, tell-low}
-use Rattle.moves.proofs.Tell.{tell-no-second, number_more}
-use Rattle.moves.proofs.Frames.{NoBreak, tell-into, tell-refused, tell-broken, tell_out, level_holds, level_unspent, may_short, may_not_short}
-use Rattle.moves.proofs.Frames.{may_long, may_not_long, chunk_simple, chunk_indefinite, never_break, never_reserved, item-simple}
-use Rattle.moves.proofs.Frames.{item-indefinite, indefinite-some, indefinite-none}
+use Rattle.moves.proofs.Tell.{tell_none, tell_one, tell_content, tell_string, tell_argument, tell_cut, tell_high, tell_low}
+use Rattle.moves.proofs.Tell.{tell_no_second, number_more}
+use Rattle.moves.proofs.Frames.{NoBreak, tell_into, tell_refused, tell_broken, tell_out, level_holds, level_unspent, may_short, may_not_short}
+use Rattle.moves.proofs.Frames.{may_long, may_not_long, chunk_simple, chunk_indefinite, never_break, never_reserved, item_simple}
+use Rattle.moves.proofs.Frames.{item_indefinite, indefinite_some, indefinite_none}
 
 -- A byte that is there stays where it is when more come.
 pub here : (xs ys : List ℕ) (at : ℕ) → at < length xs → {i : Initial} → initial (get_or xs at 0) ≡ i → initial (get_or (xs ++ ys) at 0) ≡ i
@@ -44,71 +44,71 @@ module _ (zs : List ℕ) (at h d : ℕ) (f : Frame) (fs : Stack) (l : at < lengt
       → tell zs at h (push d f fs) ≡ tell zs (at + 1) h (push (d - 1) g (push d (kept f) fs))
   later i g e p q =
       let z : h + alone i ≡ h = omega arith in
-      tell-into zs at h d f fs l holds unspent i g e p ∙ ap (λ (n : ℕ). tell zs (at + 1) n (push (d - 1) g (push d (kept f) fs))) z
+      tell_into zs at h d f fs l holds unspent i g e p ∙ ap (λ (n : ℕ). tell zs (at + 1) n (push (d - 1) g (push d (kept f) fs))) z
 
-  pub long-head : (m : Major) (j : ℕ) → initial (get_or zs at 0) ≡ Long m j → begins f d (Long m j) ≡ some (Argument m 0 j) → j < length zs - (at + 1)
+  pub long_head : (m : Major) (j : ℕ) → initial (get_or zs at 0) ≡ Long m j → begins f d (Long m j) ≡ some (Argument m 0 j) → j < length zs - (at + 1)
       → tell zs at h (push d f fs)
       ≡ tell zs (at + 1 + (j + 1)) (h + 1) (push (d - 1) (content m (number (run zs (at + 1) (j + 1)))) (push d (kept f) fs))
-  long-head m j e p q = later (Long m j) (Argument m 0 j) e p refl ∙ tell-argument zs (at + 1) h j 0 (d - 1) m (push d (kept f) fs) q
+  long_head m j e p q = later (Long m j) (Argument m 0 j) e p refl ∙ tell_argument zs (at + 1) h j 0 (d - 1) m (push d (kept f) fs) q
 
 -- the argument lies in the bytes that are there
-pub number-here : (xs ys : List ℕ) (p j : ℕ) → p + j ≤ length xs → number (run (xs ++ ys) p j) ≡ number (run xs p j)
-number-here xs ys p j h =
+pub number_here : (xs ys : List ℕ) (p j : ℕ) → p + j ≤ length xs → number (run (xs ++ ys) p j) ≡ number (run xs p j)
+number_here xs ys p j h =
     ap (λ (bs : List ℕ). number (take j bs)) (drop-append-le p xs ys (omega arith)) ∙ number_more j (drop p xs) ys (omega (arith, length-drop p xs))
 
 module _ (xs : List ℕ) (at k c d : ℕ) (l : at < length xs) (s : 0 < k + c) where
   -- a head in one byte
-  pub asked-short : (m : Major) (v : ℕ) → initial (get_or xs at 0) ≡ Short m v → may_begin k d m ≡ true → Asked xs at k c d (content m v) (at + 1)
-  asked-short m v e p ys fs h =
-      tell-into (xs ++ ys) at h (nesting - d) (frame_of k c) fs (longer xs ys at l) (level_holds k c) (level_unspent k c s) (Short m v)
+  pub asked_short : (m : Major) (v : ℕ) → initial (get_or xs at 0) ≡ Short m v → may_begin k d m ≡ true → Asked xs at k c d (content m v) (at + 1)
+  asked_short m v e p ys fs h =
+      tell_into (xs ++ ys) at h (nesting - d) (frame_of k c) fs (longer xs ys at l) (level_holds k c) (level_unspent k c s) (Short m v)
       (content m v) (here xs ys at l e) (may_short k c d m v p)
 
   -- a head with its argument
-  pub asked-long : (m : Major) (j : ℕ) → initial (get_or xs at 0) ≡ Long m j → may_begin k d m ≡ true → j < length xs - (at + 1)
+  pub asked_long : (m : Major) (j : ℕ) → initial (get_or xs at 0) ≡ Long m j → may_begin k d m ≡ true → j < length xs - (at + 1)
       → Asked xs at k c d (content m (number (run xs (at + 1) (j + 1)))) (at + 1 + (j + 1))
-  asked-long m j e p q ys fs h =
-      long-head (xs ++ ys) at h (nesting - d) (frame_of k c) fs (longer xs ys at l) (level_holds k c) (level_unspent k c s) m j
+  asked_long m j e p q ys fs h =
+      long_head (xs ++ ys) at h (nesting - d) (frame_of k c) fs (longer xs ys at l) (level_holds k c) (level_unspent k c s) m j
       (here xs ys at l e) (may_long k c d m j p) (omega (arith, length-append xs ys))
       ∙ ap (λ (v : ℕ). tell (xs ++ ys) (at + 1 + (j + 1)) (h + 1) (push (nesting - d - 1) (content m v) (push (nesting - d) (kept (frame_of k c)) fs)))
-      (number-here xs ys (at + 1) (j + 1) (omega arith))
+      (number_here xs ys (at + 1) (j + 1) (omega arith))
 
-  pub cut-long : (m : Major) (j : ℕ) → initial (get_or xs at 0) ≡ Long m j → may_begin k d m ≡ true → length xs - (at + 1) ≤ j
+  pub cut_long : (m : Major) (j : ℕ) → initial (get_or xs at 0) ≡ Long m j → may_begin k d m ≡ true → length xs - (at + 1) ≤ j
       → Stops xs at k c d Incomplete
-  cut-long m j e p q fs h =
+  cut_long m j e p q fs h =
       later xs at h (nesting - d) (frame_of k c) fs l (level_holds k c) (level_unspent k c s) (Long m j) (Argument m 0 j) e (may_long k c d m j p) refl
-      ∙ tell-cut xs (at + 1) h j 0 (nesting - d - 1) m (push (nesting - d) (kept (frame_of k c)) fs) q
+      ∙ tell_cut xs (at + 1) h j 0 (nesting - d - 1) m (push (nesting - d) (kept (frame_of k c)) fs) q
 
   -- a first byte that may not stand here
   refused : (i : Initial) → initial (get_or xs at 0) ≡ i → begins (frame_of k c) (nesting - d) i ≡ none → NoBreak i (frame_of k c)
       → Stops xs at k c d (Bad at)
-  refused i e p q fs h = tell-refused xs at h (nesting - d) (frame_of k c) fs l (level_holds k c) (level_unspent k c s) i e p q
+  refused i e p q fs h = tell_refused xs at h (nesting - d) (frame_of k c) fs l (level_holds k c) (level_unspent k c s) i e p q
 
   pub no_short : (m : Major) (v : ℕ) → initial (get_or xs at 0) ≡ Short m v → may_begin k d m ≡ false → Stops xs at k c d (Bad at)
   no_short m v e p = refused (Short m v) e (may_not_short k c d m v p) tt
 
-  pub no-long : (m : Major) (j : ℕ) → initial (get_or xs at 0) ≡ Long m j → may_begin k d m ≡ false → Stops xs at k c d (Bad at)
-  no-long m j e p = refused (Long m j) e (may_not_long k c d m j p) tt
+  pub no_long : (m : Major) (j : ℕ) → initial (get_or xs at 0) ≡ Long m j → may_begin k d m ≡ false → Stops xs at k c d (Bad at)
+  no_long m j e p = refused (Long m j) e (may_not_long k c d m j p) tt
 
   pub no_chunk : (m : Major) → initial (get_or xs at 0) ≡ Indefinite m → 4 ≤ k → Stops xs at k c d (Bad at)
   no_chunk m e p = refused (Indefinite m) e (chunk_indefinite k c (nesting - d) m p) tt
 
   pub no_room : (m : Major) → initial (get_or xs at 0) ≡ Indefinite m → k < 4 → room_for m d ≡ false → Stops xs at k c d (Bad at)
-  no_room m e h p = refused (Indefinite m) e (item-indefinite k c (nesting - d) m h ∙ indefinite-none m d p) tt
+  no_room m e h p = refused (Indefinite m) e (item_indefinite k c (nesting - d) m h ∙ indefinite_none m d p) tt
 
   -- no number and no tag has an indefinite length
   pub no_number : initial (get_or xs at 0) ≡ Indefinite Number → k < 4 → Stops xs at k c d (Bad at)
   unfolding indefinite
-  no_number e h = refused (Indefinite Number) e (item-indefinite k c (nesting - d) Number h) tt
+  no_number e h = refused (Indefinite Number) e (item_indefinite k c (nesting - d) Number h) tt
 
-  pub no-tag : initial (get_or xs at 0) ≡ Indefinite Tag → k < 4 → Stops xs at k c d (Bad at)
+  pub no_tag : initial (get_or xs at 0) ≡ Indefinite Tag → k < 4 → Stops xs at k c d (Bad at)
   unfolding indefinite
-  no-tag e h = refused (Indefinite Tag) e (item-indefinite k c (nesting - d) Tag h) tt
+  no_tag e h = refused (Indefinite Tag) e (item_indefinite k c (nesting - d) Tag h) tt
 
-  pub no-simple : initial (get_or xs at 0) ≡ Simple → 4 ≤ k → Stops xs at k c d (Bad at)
-  no-simple e p = refused Simple e (chunk_simple k c (nesting - d) p) tt
+  pub no_simple : initial (get_or xs at 0) ≡ Simple → 4 ≤ k → Stops xs at k c d (Bad at)
+  no_simple e p = refused Simple e (chunk_simple k c (nesting - d) p) tt
 
-  pub no-reserved : initial (get_or xs at 0) ≡ Reserved → Stops xs at k c d (Bad at)
-  no-reserved e = refused Reserved e (never_reserved k c (nesting - d)) tt
+  pub no_reserved : initial (get_or xs at 0) ≡ Reserved → Stops xs at k c d (Bad at)
+  no_reserved e = refused Reserved e (never_reserved k c (nesting - d)) tt
 
   pub no_end : initial (get_or xs at 0) ≡ Break → breakable (frame_of k c) ≡ false → Stops xs at k c d (Bad at)
   no_end e p = refused Break e (never_break k c (nesting - d)) p
@@ -121,7 +121,7 @@ module _ (xs : List ℕ) (at k c d : ℕ) (l : at < length xs) (s : 0 < k + c) w
         inside = omega arith;
         good = record { tall = g.tall; low = λ a b. absurd (omega arith); none = λ a. refl };
         same = λ ys fs h.
-            tell-broken (xs ++ ys) at h (nesting - d) (frame_of k c) fs (longer xs ys at l) (level_holds k c) (level_unspent k c s)
+            tell_broken (xs ++ ys) at h (nesting - d) (frame_of k c) fs (longer xs ys at l) (level_holds k c) (level_unspent k c s)
             (here xs ys at l e) p
             ∙ sym (tell_none (xs ++ ys) (at + 1) (h + 1) (nesting - d) fs);
       }
@@ -132,26 +132,26 @@ module _ (xs : List ℕ) (at k c d : ℕ) (l : at < length xs) (s : 0 < k + c) w
       ≡ tell (xs ++ ys) (at + 1) h (push (nesting - d - 1) Second (push (nesting - d) (kept (frame_of k c)) fs))
   second e p ys fs h =
       later (xs ++ ys) at h (nesting - d) (frame_of k c) fs (longer xs ys at l) (level_holds k c) (level_unspent k c s) Simple Second
-      (here xs ys at l e) (item-simple k c (nesting - d) p) refl
+      (here xs ys at l e) (item_simple k c (nesting - d) p) refl
 
-  second-here : initial (get_or xs at 0) ≡ Simple → k < 4 → (fs : Stack) (h : ℕ)
+  second_here : initial (get_or xs at 0) ≡ Simple → k < 4 → (fs : Stack) (h : ℕ)
       → tell xs at h (push (nesting - d) (frame_of k c) fs)
       ≡ tell xs (at + 1) h (push (nesting - d - 1) Second (push (nesting - d) (kept (frame_of k c)) fs))
-  second-here e p fs h =
-      later xs at h (nesting - d) (frame_of k c) fs l (level_holds k c) (level_unspent k c s) Simple Second e (item-simple k c (nesting - d) p) refl
+  second_here e p fs h =
+      later xs at h (nesting - d) (frame_of k c) fs l (level_holds k c) (level_unspent k c s) Simple Second e (item_simple k c (nesting - d) p) refl
 
-  pub simple-cut : initial (get_or xs at 0) ≡ Simple → k < 4 → length xs ≡ at + 1 → Stops xs at k c d Incomplete
-  simple-cut e p q fs h =
-      second-here e p fs h ∙ tell-no-second xs (at + 1) h (nesting - d - 1) (push (nesting - d) (kept (frame_of k c)) fs) (omega arith)
+  pub simple_cut : initial (get_or xs at 0) ≡ Simple → k < 4 → length xs ≡ at + 1 → Stops xs at k c d Incomplete
+  simple_cut e p q fs h =
+      second_here e p fs h ∙ tell_no_second xs (at + 1) h (nesting - d - 1) (push (nesting - d) (kept (frame_of k c)) fs) (omega arith)
 
-  pub simple-low : initial (get_or xs at 0) ≡ Simple → k < 4 → at + 1 < length xs → get_or xs (at + 1) 0 < 32 → Stops xs at k c d (Bad (at + 1))
-  simple-low e p q b fs h =
-      second-here e p fs h ∙ tell-low xs (at + 1) h (nesting - d - 1) (push (nesting - d) (kept (frame_of k c)) fs) q b
+  pub simple_low : initial (get_or xs at 0) ≡ Simple → k < 4 → at + 1 < length xs → get_or xs (at + 1) 0 < 32 → Stops xs at k c d (Bad (at + 1))
+  simple_low e p q b fs h =
+      second_here e p fs h ∙ tell_low xs (at + 1) h (nesting - d - 1) (push (nesting - d) (kept (frame_of k c)) fs) q b
 
   -- What is left of the level, as a level.
   module _ (o : Level) (e : Leaves k c o) (g : Good k c d) where
-    left-good : Good o.kind o.count d
-    left-good =
+    left_good : Good o.kind o.count d
+    left_good =
         record {
           tall = g.tall;
           low = λ a b. let q = e.low a in g.low q.0 q.1;
@@ -162,45 +162,45 @@ module _ (xs : List ℕ) (at k c d : ℕ) (l : at < length xs) (s : 0 < k + c) w
         → tell zs p h (a (push (nesting - d) (kept (frame_of k c)) fs)) ≡ tell zs p h (a (push (nesting - d) (frame_of o.kind o.count) fs))
     left zs p h a fs = ap (λ (f : Frame). tell zs p h (a (push (nesting - d) f fs))) (sym e.frame)
 
-    pub simple-high : initial (get_or xs at 0) ≡ Simple → k < 4 → at + 1 < length xs → 32 ≤ get_or xs (at + 1) 0 → Stays xs at k c d (at + 2) o
-    simple-high i p q b =
+    pub simple_high : initial (get_or xs at 0) ≡ Simple → k < 4 → at + 1 < length xs → 32 ≤ get_or xs (at + 1) 0 → Stays xs at k c d (at + 2) o
+    simple_high i p q b =
         record {
           on = omega arith;
           inside = omega arith;
-          good = left-good;
+          good = left_good;
           same = λ ys fs h.
               let z : at + 1 + 1 ≡ at + 2 = omega arith in
               let x : 32 ≤ get_or (xs ++ ys) (at + 1) 0 = rw (get_or-append xs ys 0 (at + 1) q) b in
               second i p ys fs h
-              ∙ tell-high (xs ++ ys) (at + 1) h (nesting - d - 1) (push (nesting - d) (kept (frame_of k c)) fs) (longer xs ys (at + 1) q) x
+              ∙ tell_high (xs ++ ys) (at + 1) h (nesting - d - 1) (push (nesting - d) (kept (frame_of k c)) fs) (longer xs ys (at + 1) q) x
               ∙ ap (λ (n : ℕ). tell (xs ++ ys) n (h + 1) (push (nesting - d) (kept (frame_of k c)) fs)) z
               ∙ left (xs ++ ys) (at + 2) (h + 1) (λ gs. gs) fs;
         }
 
     -- what is asked for after a head: bytes that are there, bytes that are not all there, a level
-    pub string-there : (p v : ℕ) → at < p → p ≤ length xs → v ≤ length xs - p → Asked xs at k c d (Content v) p → Stays xs at k c d (p + v) o
-    string-there p v a b q t =
+    pub string_there : (p v : ℕ) → at < p → p ≤ length xs → v ≤ length xs - p → Asked xs at k c d (Content v) p → Stays xs at k c d (p + v) o
+    string_there p v a b q t =
         record {
           on = omega arith;
           inside = omega arith;
-          good = left-good;
+          good = left_good;
           same = λ ys fs h.
               t ys fs h
-              ∙ tell-string (xs ++ ys) p (h + 1) v (nesting - d - 1) (push (nesting - d) (kept (frame_of k c)) fs) (omega (arith, length-append xs ys))
+              ∙ tell_string (xs ++ ys) p (h + 1) v (nesting - d - 1) (push (nesting - d) (kept (frame_of k c)) fs) (omega (arith, length-append xs ys))
               ∙ left (xs ++ ys) (p + v) (h + 1) (λ gs. gs) fs;
         }
 
-    pub string-cut : (p v w : ℕ) → p ≤ length xs → length xs - p < v → w ≡ v - (length xs - p)
+    pub string_cut : (p v w : ℕ) → p ≤ length xs → length xs - p < v → w ≡ v - (length xs - p)
         → Asked xs at k c d (Content v) p → Skips xs at k c d w o
-    string-cut p v w b q z t =
+    string_cut p v w b q z t =
         record {
           on = l;
           some = omega arith;
-          good = left-good;
+          good = left_good;
           same = λ ys fs h.
               let y : p + (length xs - p) ≡ length xs = omega arith in
               t ys fs h
-              ∙ tell-content (xs ++ ys) p (h + 1) (length xs - p) v (nesting - d - 1) 0 (push (nesting - d) (kept (frame_of k c)) fs) (omega arith)
+              ∙ tell_content (xs ++ ys) p (h + 1) (length xs - p) v (nesting - d - 1) 0 (push (nesting - d) (kept (frame_of k c)) fs) (omega arith)
               (omega (arith, length-append xs ys))
               ∙ ap₂ (λ (n m : ℕ). tell (xs ++ ys) n (h + 1) (push 0 (Content m) (push (nesting - d) (kept (frame_of k c)) fs))) y (sym z)
               ∙ left (xs ++ ys) (length xs) (h + 1) (λ gs. push 0 (Content w) gs) fs;
@@ -233,21 +233,21 @@ module _ (xs : List ℕ) (at k c d : ℕ) (l : at < length xs) (s : 0 < k + c) w
         goes_down (at + 1) a i (omega arith) (omega arith) hk (omega arith) gi
         (λ zs h fs. ap (λ (f : Frame). tell zs (at + 1) h (push (nesting - d - 1) f fs)) z)
         (λ ys fs h.
-        tell-into (xs ++ ys) at h (nesting - d) (frame_of k c) fs (longer xs ys at l) (level_holds k c) (level_unspent k c s) (Indefinite m) a
-        (here xs ys at l e') (item-indefinite k c (nesting - d) m hk ∙ indefinite-some m d r a q))
+        tell_into (xs ++ ys) at h (nesting - d) (frame_of k c) fs (longer xs ys at l) (level_holds k c) (level_unspent k c s) (Indefinite m) a
+        (here xs ys at l e') (item_indefinite k c (nesting - d) m hk ∙ indefinite_some m d r a q))
 
-    pub open-bytes : initial (get_or xs at 0) ≡ Indefinite Bytes → k < 4 → room_for Bytes d ≡ true
+    pub open_bytes : initial (get_or xs at 0) ≡ Indefinite Bytes → k < 4 → room_for Bytes d ≡ true
         → Downs xs at k c d (at + 1) o (record { kind = 4; count = 0 })
     unfolding indefinite
-    open-bytes i hk r =
+    open_bytes i hk r =
         let z = g.low hk s in
         opens Bytes (Chunks false) (record { kind = 4; count = 0 }) i hk r refl refl
         (record { tall = omega arith; low = λ a b. absurd (omega arith); none = λ a. refl })
 
-    pub open-text : initial (get_or xs at 0) ≡ Indefinite Text → k < 4 → room_for Text d ≡ true
+    pub open_text : initial (get_or xs at 0) ≡ Indefinite Text → k < 4 → room_for Text d ≡ true
         → Downs xs at k c d (at + 1) o (record { kind = 5; count = 0 })
     unfolding indefinite
-    open-text i hk r =
+    open_text i hk r =
         let z = g.low hk s in
         opens Text (Chunks true) (record { kind = 5; count = 0 }) i hk r refl refl
         (record { tall = omega arith; low = λ a b. absurd (omega arith); none = λ a. refl })
@@ -285,29 +285,29 @@ deep_good k c d h l = record { tall = omega arith; low = λ a b. omega arith; no
 
 -- What follows a head, by its major type.
 module _ (xs : List ℕ) (at k c d : ℕ) (p : ℕ) (o : Level) (b : at < p) (q : p ≤ length xs) (s : 0 < k + c) (e : Leaves k c o) (g : Good k c d) where
-  pub follow-number : (v : ℕ) → Asked xs at k c d (content Number v) p → Stays xs at k c d p o
-  follow-number v t =
+  pub follow_number : (v : ℕ) → Asked xs at k c d (content Number v) p → Stays xs at k c d p o
+  follow_number v t =
       let z : p + 0 ≡ p = omega arith in
-      subst (λ (n : ℕ). Stays xs at k c d n o) z (string-there xs at k c d (omega arith) s o e g p 0 b q (omega arith) t)
+      subst (λ (n : ℕ). Stays xs at k c d n o) z (string_there xs at k c d (omega arith) s o e g p 0 b q (omega arith) t)
 
-  pub follow-array : (v : ℕ) → may_begin k d Array ≡ true → Asked xs at k c d (content Array v) p → Downs xs at k c d p o (record { kind = 0; count = v })
-  follow-array v r t =
+  pub follow_array : (v : ℕ) → may_begin k d Array ≡ true → Asked xs at k c d (content Array v) p → Downs xs at k c d p o (record { kind = 0; count = v })
+  follow_array v r t =
       let y = deep_room k d r in
       let y₁ = y.1 in
       goes_down xs at k c d (omega arith) s o e g p (Items v) (record { kind = 0; count = v }) b q y.0 (omega arith)
       (deep_good 0 v d (omega arith) y₁)
       (λ zs h fs. refl) t
 
-  pub follow-map : (v : ℕ) (i : Level) → Doubles v i → may_begin k d Map ≡ true → Asked xs at k c d (content Map v) p → Downs xs at k c d p o i
-  follow-map v i w r t =
+  pub follow_map : (v : ℕ) (i : Level) → Doubles v i → may_begin k d Map ≡ true → Asked xs at k c d (content Map v) p → Downs xs at k c d p o i
+  follow_map v i w r t =
       let y = deep_room k d r in
       let y₁ = y.1 in
       goes_down xs at k c d (omega arith) s o e g p (Items (v * 2)) i b q y.0 (omega arith) (deep_good i.kind i.count d w.items y₁)
       (λ zs h fs. ap (λ (f : Frame). tell zs p h (push (nesting - d - 1) f fs)) (sym w.frame)) t
 
-  pub follow-tag : (v : ℕ) → may_begin k d Tag ≡ true → Asked xs at k c d (content Tag v) p → Downs xs at k c d p o (record { kind = 0; count = 1 })
-  follow-tag v r t =
+  pub follow_tag : (v : ℕ) → may_begin k d Tag ≡ true → Asked xs at k c d (content Tag v) p → Downs xs at k c d p o (record { kind = 0; count = 1 })
+  follow_tag v r t =
       let y = deep_room k d r in
       let y₁ = y.1 in
       goes_down xs at k c d (omega arith) s o e g p One (record { kind = 0; count = 1 }) b q y.0 (omega arith) (deep_good 0 1 d (omega arith) y₁)
-      (λ zs h fs. tell-one zs p h (nesting - d - 1) fs) t
+      (λ zs h fs. tell_one zs p h (nesting - d - 1) fs) t

@@ -20,11 +20,11 @@ use Rattle.item.specs.Grammar.{enter, enter_chunk, nesting}
 use Rattle.item.specs.Verdict.{Stack, push, into, or_break, step, met}
 use Rattle.item.specs.Besides.Verdict.{alone, tally}
 use Rattle.item.proofs.Derivative.{no_break, no_break_chunk}
-use Rattle.item.proofs.Heads.{into-some}
+use Rattle.item.proofs.Heads.{into_some}
 use Rattle.moves.specs.Inside.Levels.{frame_of, tell}
 use Rattle.moves.specs.Inside.Frames.{kept, spent, Holds, begins, breakable, Wants, room_for, chunk_of, may_begin}
 use Rattle.moves.specs.Inside.Moves.{Leaves, Doubles}
-use Rattle.moves.proofs.Tell.{tell-step, tell-bad, tell-end}
+use Rattle.moves.proofs.Tell.{tell_step, tell_bad, tell_end}
 
 -- A frame that holds items and is not spent is not met, and a head's first byte counts if it is alone.
 unmet : (f : Frame) (d : ℕ) (fs : Stack) → Holds f → spent f ≡ false → met (push d f fs) ≡ false
@@ -53,23 +53,23 @@ tally_head (Content n) d fs b h p = absurd h
 tally_head Second d fs b h p = absurd h
 tally_head (Argument m v k) d fs b h p = absurd h
 
-step-into : (f : Frame) (d : ℕ) (fs : Stack) (b : ℕ) (g : Frame) → Holds f → spent f ≡ false → begins f d (initial b) ≡ some g
+step_into : (f : Frame) (d : ℕ) (fs : Stack) (b : ℕ) (g : Frame) → Holds f → spent f ≡ false → begins f d (initial b) ≡ some g
     → step (push d f fs) b ≡ some (push (d - 1) g (push d (kept f) fs))
 unfolding step
-step-into One d fs b g h p e = into-some d (enter d (initial b)) g (push d (Items zero) fs) e
-step-into (Items zero) d fs b g h p e = absurd (false≢true (sym p))
-step-into (Items (suc n)) d fs b g h p e = into-some d (enter d (initial b)) g (push d (Items n) fs) e
-step-into Elements d fs b g h p e =
-    no_break (initial b) d fs (into d (enter d (initial b)) (push d Elements fs)) e ∙ into-some d (enter d (initial b)) g (push d Elements fs) e
-step-into Pairs d fs b g h p e =
-    no_break (initial b) d fs (into d (enter d (initial b)) (push d Value fs)) e ∙ into-some d (enter d (initial b)) g (push d Value fs) e
-step-into Value d fs b g h p e = into-some d (enter d (initial b)) g (push d Pairs fs) e
-step-into (Chunks t) d fs b g h p e =
+step_into One d fs b g h p e = into_some d (enter d (initial b)) g (push d (Items zero) fs) e
+step_into (Items zero) d fs b g h p e = absurd (false≢true (sym p))
+step_into (Items (suc n)) d fs b g h p e = into_some d (enter d (initial b)) g (push d (Items n) fs) e
+step_into Elements d fs b g h p e =
+    no_break (initial b) d fs (into d (enter d (initial b)) (push d Elements fs)) e ∙ into_some d (enter d (initial b)) g (push d Elements fs) e
+step_into Pairs d fs b g h p e =
+    no_break (initial b) d fs (into d (enter d (initial b)) (push d Value fs)) e ∙ into_some d (enter d (initial b)) g (push d Value fs) e
+step_into Value d fs b g h p e = into_some d (enter d (initial b)) g (push d Pairs fs) e
+step_into (Chunks t) d fs b g h p e =
     no_break_chunk (initial b) t fs (into d (enter_chunk t (initial b)) (push d (Chunks t) fs)) e
-    ∙ into-some d (enter_chunk t (initial b)) g (push d (Chunks t) fs) e
-step-into (Content n) d fs b g h p e = absurd h
-step-into Second d fs b g h p e = absurd h
-step-into (Argument m v k) d fs b g h p e = absurd h
+    ∙ into_some d (enter_chunk t (initial b)) g (push d (Chunks t) fs) e
+step_into (Content n) d fs b g h p e = absurd h
+step_into Second d fs b g h p e = absurd h
+step_into (Argument m v k) d fs b g h p e = absurd h
 
 -- nothing that may begin there, and no break that may come there
 no_way : (d : ℕ) (o : Option Frame) (fs : Stack) → o ≡ none → into d o fs ≡ none
@@ -125,38 +125,38 @@ step_break (Argument m v k) d fs b t e = absurd (false≢true t)
 
 -- The first byte of a head at a place.
 module _ (zs : List ℕ) (at h d : ℕ) (f : Frame) (fs : Stack) (l : at < length zs) (holds : Holds f) (unspent : spent f ≡ false) where
-  pub tell-into : (i : Initial) (g : Frame) → initial (get_or zs at 0) ≡ i → begins f d i ≡ some g
+  pub tell_into : (i : Initial) (g : Frame) → initial (get_or zs at 0) ≡ i → begins f d i ≡ some g
       → tell zs at h (push d f fs) ≡ tell zs (at + 1) (h + alone i) (push (d - 1) g (push d (kept f) fs))
-  tell-into i g e p =
-      tell-step zs at h (push d f fs) (push (d - 1) g (push d (kept f) fs)) l (unmet f d fs holds unspent)
-      (step-into f d fs (get_or zs at 0) g holds unspent (ap (begins f d) e ∙ p))
+  tell_into i g e p =
+      tell_step zs at h (push d f fs) (push (d - 1) g (push d (kept f) fs)) l (unmet f d fs holds unspent)
+      (step_into f d fs (get_or zs at 0) g holds unspent (ap (begins f d) e ∙ p))
       ∙ ap (λ (t : ℕ). tell zs (at + 1) (h + t) (push (d - 1) g (push d (kept f) fs)))
       (tally_head f d fs (get_or zs at 0) holds unspent ∙ ap alone e)
 
-  pub tell-refused : (i : Initial) → initial (get_or zs at 0) ≡ i → begins f d i ≡ none → NoBreak i f → tell zs at h (push d f fs) ≡ (Bad at, h)
-  tell-refused i e p q =
-      tell-bad zs at h (push d f fs) l (unmet f d fs holds unspent)
+  pub tell_refused : (i : Initial) → initial (get_or zs at 0) ≡ i → begins f d i ≡ none → NoBreak i f → tell zs at h (push d f fs) ≡ (Bad at, h)
+  tell_refused i e p q =
+      tell_bad zs at h (push d f fs) l (unmet f d fs holds unspent)
       (step-none f d fs (get_or zs at 0) holds unspent (ap (begins f d) e ∙ p) (subst⁻¹ (λ (j : Initial). NoBreak j f) e q))
 
-  pub tell-broken : initial (get_or zs at 0) ≡ Break → breakable f ≡ true → tell zs at h (push d f fs) ≡ tell zs (at + 1) (h + 1) fs
-  tell-broken e p =
-      tell-step zs at h (push d f fs) fs l (unmet f d fs holds unspent) (step_break f d fs (get_or zs at 0) p e)
+  pub tell_broken : initial (get_or zs at 0) ≡ Break → breakable f ≡ true → tell zs at h (push d f fs) ≡ tell zs (at + 1) (h + 1) fs
+  tell_broken e p =
+      tell_step zs at h (push d f fs) fs l (unmet f d fs holds unspent) (step_break f d fs (get_or zs at 0) p e)
       ∙ ap (λ (t : ℕ). tell zs (at + 1) (h + t) fs) (tally_head f d fs (get_or zs at 0) holds unspent ∙ ap alone e)
 
 pub tell_out : (zs : List ℕ) (at h d : ℕ) (f : Frame) (fs : Stack) → length zs ≤ at → Holds f → spent f ≡ false
     → tell zs at h (push d f fs) ≡ (Incomplete, h)
-tell_out zs at h d f fs l holds unspent = tell-end zs at h (push d f fs) l (unmet f d fs holds unspent)
+tell_out zs at h d f fs l holds unspent = tell_end zs at h (push d f fs) l (unmet f d fs holds unspent)
 
 -- What a level stands for.
-holds-cond : (t : Bool) → Holds (cond t Pairs Value)
-holds-cond true = tt
-holds-cond false = tt
+holds_cond : (t : Bool) → Holds (cond t Pairs Value)
+holds_cond true = tt
+holds_cond false = tt
 
 pub level_holds : (k c : ℕ) → Holds (frame_of k c)
 level_holds zero c = tt
 level_holds (suc zero) c = tt
 level_holds (suc (suc zero)) c = tt
-level_holds (suc (suc (suc zero))) c = holds-cond (eqb (c % 2) 0)
+level_holds (suc (suc (suc zero))) c = holds_cond (eqb (c % 2) 0)
 level_holds (suc (suc (suc (suc zero)))) c = tt
 level_holds (suc (suc (suc (suc (suc k))))) c = tt
 
@@ -164,28 +164,28 @@ items_spent : (n : ℕ) → eqb n 0 ≡ spent (Items n)
 items_spent zero = refl
 items_spent (suc n) = eqb-suc-zero n
 
-spent-cond : (t : Bool) → spent (cond t Pairs Value) ≡ false
-spent-cond true = refl
-spent-cond false = refl
+spent_cond : (t : Bool) → spent (cond t Pairs Value) ≡ false
+spent_cond true = refl
+spent_cond false = refl
 
 pub level_unspent : (k c : ℕ) → 0 < k + c → spent (frame_of k c) ≡ false
 level_unspent zero c h = sym (items_spent c) ∙ ne_eqb c 0 (λ (e : c ≡ 0). omega arith)
 level_unspent (suc zero) c h =
     sym (items_spent (c + 2 ^ 64)) ∙ ne_eqb (c + 2 ^ 64) 0 (λ (e : c + 2 ^ 64 ≡ 0). omega arith)
 level_unspent (suc (suc zero)) c h = refl
-level_unspent (suc (suc (suc zero))) c h = spent-cond (eqb (c % 2) 0)
+level_unspent (suc (suc (suc zero))) c h = spent_cond (eqb (c % 2) 0)
 level_unspent (suc (suc (suc (suc zero)))) c h = refl
 level_unspent (suc (suc (suc (suc (suc k))))) c h = refl
 
-begins-cond : (t : Bool) (d : ℕ) (i : Initial) → begins (cond t Pairs Value) d i ≡ enter d i
-begins-cond true d i = refl
-begins-cond false d i = refl
+begins_cond : (t : Bool) (d : ℕ) (i : Initial) → begins (cond t Pairs Value) d i ≡ enter d i
+begins_cond true d i = refl
+begins_cond false d i = refl
 
 pub level_items : (k c : ℕ) → k < 4 → (d : ℕ) (i : Initial) → begins (frame_of k c) d i ≡ enter d i
 level_items zero c h d i = refl
 level_items (suc zero) c h d i = refl
 level_items (suc (suc zero)) c h d i = refl
-level_items (suc (suc (suc zero))) c h d i = begins-cond (eqb (c % 2) 0) d i
+level_items (suc (suc (suc zero))) c h d i = begins_cond (eqb (c % 2) 0) d i
 level_items (suc (suc (suc (suc k)))) c h d i = absurd (omega arith)
 
 pub level_wants : (k c : ℕ) → k < 4 → 0 < k + c → Wants (frame_of k c)
@@ -287,8 +287,8 @@ pub doubles_huge : (v : ℕ) → 2 ^ 63 ≤ v → Doubles v (record { kind = 1; 
 doubles_huge v h = record { frame = ap Items (omega arith); items = omega arith }
 
 -- Within the nesting there is room, or there is none.
-within-some : (d : ℕ) (g : Frame) → ltb d nesting ≡ true → within (nesting - d) g ≡ some g
-within-some d g p =
+within_some : (d : ℕ) (g : Frame) → ltb d nesting ≡ true → within (nesting - d) g ≡ some g
+within_some d g p =
     let h : d < nesting = ltb-true d nesting p in let e : nesting - d ≡ suc (nesting - 1 - d) = omega arith in ap (λ (n : ℕ). within n g) e
 
 within_none : (d : ℕ) (g : Frame) → ltb d nesting ≡ false → within (nesting - d) g ≡ none
@@ -299,9 +299,9 @@ unfolding nest
 room_some Number d g p = refl
 room_some Bytes d g p = refl
 room_some Text d g p = refl
-room_some Array d g p = within-some d g p
-room_some Map d g p = within-some d g p
-room_some Tag d g p = within-some d g p
+room_some Array d g p = within_some d g p
+room_some Map d g p = within_some d g p
+room_some Tag d g p = within_some d g p
 
 room_none : (m : Major) (d : ℕ) (g : Frame) → room_for m d ≡ false → nest m (nesting - d) g ≡ none
 unfolding nest
@@ -406,28 +406,28 @@ unfolding enter enter_chunk
 never_reserved k c d = none_of k c d Reserved (λ t. refl) refl
 
 -- a simple value, and an indefinite length, among items
-pub item-simple : (k c d : ℕ) → k < 4 → begins (frame_of k c) d Simple ≡ some Second
+pub item_simple : (k c d : ℕ) → k < 4 → begins (frame_of k c) d Simple ≡ some Second
 unfolding enter
-item-simple k c d h = level_items k c h d Simple
+item_simple k c d h = level_items k c h d Simple
 
-pub item-indefinite : (k c d : ℕ) (m : Major) → k < 4 → begins (frame_of k c) d (Indefinite m) ≡ indefinite m d
+pub item_indefinite : (k c d : ℕ) (m : Major) → k < 4 → begins (frame_of k c) d (Indefinite m) ≡ indefinite m d
 unfolding enter
-item-indefinite k c d m h = level_items k c h d (Indefinite m)
+item_indefinite k c d m h = level_items k c h d (Indefinite m)
 
-pub indefinite-some : (m : Major) (d : ℕ) → room_for m d ≡ true → (g : Frame) → indefinite m 1 ≡ some g → indefinite m (nesting - d) ≡ some g
+pub indefinite_some : (m : Major) (d : ℕ) → room_for m d ≡ true → (g : Frame) → indefinite m 1 ≡ some g → indefinite m (nesting - d) ≡ some g
 unfolding indefinite
-indefinite-some Number d p g e = e
-indefinite-some Bytes d p g e = e
-indefinite-some Text d p g e = e
-indefinite-some Array d p g e = within-some d Elements p ∙ e
-indefinite-some Map d p g e = within-some d Pairs p ∙ e
-indefinite-some Tag d p g e = e
+indefinite_some Number d p g e = e
+indefinite_some Bytes d p g e = e
+indefinite_some Text d p g e = e
+indefinite_some Array d p g e = within_some d Elements p ∙ e
+indefinite_some Map d p g e = within_some d Pairs p ∙ e
+indefinite_some Tag d p g e = e
 
-pub indefinite-none : (m : Major) (d : ℕ) → room_for m d ≡ false → indefinite m (nesting - d) ≡ none
+pub indefinite_none : (m : Major) (d : ℕ) → room_for m d ≡ false → indefinite m (nesting - d) ≡ none
 unfolding indefinite
-indefinite-none Number d p = refl
-indefinite-none Bytes d p = absurd (false≢true (sym p))
-indefinite-none Text d p = absurd (false≢true (sym p))
-indefinite-none Array d p = within_none d Elements p
-indefinite-none Map d p = within_none d Pairs p
-indefinite-none Tag d p = refl
+indefinite_none Number d p = refl
+indefinite_none Bytes d p = absurd (false≢true (sym p))
+indefinite_none Text d p = absurd (false≢true (sym p))
+indefinite_none Array d p = within_none d Elements p
+indefinite_none Map d p = within_none d Pairs p
+indefinite_none Tag d p = refl

@@ -87,8 +87,8 @@ pub exactly : Exactly
 exactly s n m k = let (j, w) = when s n m in exactly_when (When s n m) (answered s n m w) w (answered s n m)
 
 -- with 0, settings in range and stores as long as they say
-pub opens-done : (s : Settings) (n m : ℕ) → (open_of s n m).number ≡ 0 → Opens s n m
-opens-done s n m q = of ((exactly s n m 0).0 q) refl
+pub opens_done : (s : Settings) (n m : ℕ) → (open_of s n m).number ≡ 0 → Opens s n m
+opens_done s n m q = of ((exactly s n m 0).0 q) refl
   where
     of : {k : ℕ} → When s n m k → k ≡ 0 → Opens s n m
     of (out_of_range unfit) z = absurd (omega arith)
@@ -102,7 +102,7 @@ opening =
     record {
       zeros = λ s n m q. let unfit : Opens s n m → ⊥ = λ o. q (rw (passes s n m o)) in rw (fails s n m unfit);
       opened = λ s n m q.
-          let o = opens-done s n m q in
+          let o = opens_done s n m q in
           rw (passes s n m o) (fresh_ranged s o.0);
       refused = refl;
     }

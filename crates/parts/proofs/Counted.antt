@@ -12,22 +12,22 @@ use Rattle.elements.specs.declared.Number.TheVariants.{Is, Not}
 use Rattle.elements.specs.Besides.Matching.{ElementsAt}
 use Rattle.elements.specs.Matching.{in_list}
 use Rattle.elements.specs.Reading.{elements_of}
-use Rattle.elements.proofs.ElementLaws.{Numbers, elements-sound, elements-found, elements-on}
+use Rattle.elements.proofs.ElementLaws.{Numbers, elements_sound, elements_found, elements_on}
 use Rattle.parts.specs.Counting.{many, count_of}
 use Rattle.parts.specs.Besides.Theorem.{Counts}
 use Rattle.parts.proofs.Counting.{Found}
 
 -- what is counted stands there, and there are no more elements than bytes
 pub counted : (e : Element) (run : List ℕ) → Found (λ k. ElementsAt run in_list e 0 k 0 (length run) × (k ≤ length run)) (count_of e run)
-counted e run = of (elements_of run in_list e Rest 0) (elements-sound run in_list e Rest 0)
+counted e run = of (elements_of run in_list e Rest 0) (elements_sound run in_list e Rest 0)
   where
     of : (n : Number) → Numbers (λ k q. ElementsAt run in_list e 0 k 0 q × (q ≡ length run)) n
         → Found (λ k. ElementsAt run in_list e 0 k 0 (length run) × (k ≤ length run)) (many n)
-    of (Is k q) (s, c) = let t = subst (λ (q : ℕ). ElementsAt run in_list e 0 k 0 q) c s in (t, omega (arith, elements-on run t))
+    of (Is k q) (s, c) = let t = subst (λ (q : ℕ). ElementsAt run in_list e 0 k 0 q) c s in (t, omega (arith, elements_on run t))
     of Not s = tt
 
 pub counts : Counts
 counts e run k = (
   λ c. (subst (Found (λ k. ElementsAt run in_list e 0 k 0 (length run) × (k ≤ length run))) c (counted e run)).0,
-  λ s. ap many (elements-found run in_list e Rest (omega arith) s refl),
+  λ s. ap many (elements_found run in_list e Rest (omega arith) s refl),
 )

@@ -49,18 +49,18 @@ module _ (ns : List ℕ) (runs : ℕ) (first second : List ℕ) (fs : List Field
         ap (λ (l : List Field). planned ns runs first second l i n r args) (field_next fs i h is)
         ∙ ap (λ (o : Option ℕ). on_some o (those (number_after f n) (run_after f r))) (sym found)
 
-    pub plan-on : {v n' r' : ℕ} → a ≡ Is v → n' ≡ number_after f n → r' ≡ run_after f r → those n' r' v ≡ these
-    plan-on {v} {n'} {r'} e en er =
+    pub plan_on : {v n' r' : ℕ} → a ≡ Is v → n' ≡ number_after f n → r' ≡ run_after f r → those n' r' v ≡ these
+    plan_on {v} {n'} {r'} e en er =
         ap (λ (k : ℕ). those k r' v) en
         ∙ ap (λ (k : ℕ). those (number_after f n) k v) er
         ∙ sym (one_more ∙ ap (λ (x : Argument). on_some (argued x) (those (number_after f n) (run_after f r))) e)
 
-    pub plan-stop : a ≡ Wrong → none ≡ these
-    plan-stop e = sym (one_more ∙ ap (λ (x : Argument). on_some (argued x) (those (number_after f n) (run_after f r))) e)
+    pub plan_stop : a ≡ Wrong → none ≡ these
+    plan_stop e = sym (one_more ∙ ap (λ (x : Argument). on_some (argued x) (those (number_after f n) (run_after f r))) e)
 
-  pub plan-end : {t : Bool} {x : Option (List ℕ)} → i ≡ length fs → t ≡ (eqb n (length ns) && eqb r runs) → x ≡ cond t (some args) none → x ≡ these
+  pub plan_end : {t : Bool} {x : Option (List ℕ)} → i ≡ length fs → t ≡ (eqb n (length ns) && eqb r runs) → x ≡ cond t (some args) none → x ≡ these
   unfolding planned
-  plan-end e used given =
+  plan_end e used given =
       given
       ∙ ap (λ (t : Bool). cond t (some args) none) used
       ∙ ap (λ (l : List Field). planned ns runs first second l i n r args) (sym (field-none fs i e))

@@ -18,11 +18,11 @@ use Rattle.parts.specs.Counting.{many, count_of}
 use Rattle.parts.specs.Inside.{run_argument}
 
 module _ (run : List ℕ) where
-  pub item-here : (d at : ℕ) {e : End} → e ≡ item_end (around run 0 (length run)) d at → e ≡ item_end run d at
-  item-here d at e = e ∙ ap (λ (bs : List ℕ). item_end bs d at) (around_all run)
+  pub item_here : (d at : ℕ) {e : End} → e ≡ item_end (around run 0 (length run)) d at → e ≡ item_end run d at
+  item_here d at e = e ∙ ap (λ (bs : List ℕ). item_end bs d at) (around_all run)
 
-  pub count-here : (e : Element) {n m : Number} → n ≡ elements_of (around run 0 (length run)) in_list e Rest 0 → n ≡ m → many m ≡ count_of e run
-  count-here e f g = ap many (sym g ∙ f) ∙ ap (λ (bs : List ℕ). many (elements_of bs in_list e Rest 0)) (around_all run)
+  pub count_here : (e : Element) {n m : Number} → n ≡ elements_of (around run 0 (length run)) in_list e Rest 0 → n ≡ m → many m ≡ count_of e run
+  count_here e f g = ap many (sym g ∙ f) ∙ ap (λ (bs : List ℕ). many (elements_of bs in_list e Rest 0)) (around_all run)
 
   -- a field by its kind
   pub run_by : {f g : Field} {r : Option ℕ} → f ≡ g → r ≡ run_argument g run → r ≡ run_argument f run

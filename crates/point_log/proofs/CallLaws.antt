@@ -113,11 +113,11 @@ module _ (run : List Point) (n : ℕ) where
 
 module _ (run : List Point) where
   -- above the last: all are at or below it, and the last of them is not at the slot itself
-  above-by : (n x : ℕ) {A : Type 0} (good bad : A)
+  above_by : (n x : ℕ) {A : Type 0} (good bad : A)
       → let k = upto_of (slots_of run) n x in cond (ltb k n) bad (cond (at_slot (place_at run k) x) bad good) ≡ cond (above (slots_of run) n x) good bad
   unfolding upto_of above
-  above-by zero x good bad = refl
-  above-by (suc n) x good bad =
+  above_by zero x good bad = refl
+  above_by (suc n) x good bad =
       let last = get_or (slots_of run) n 0 in
       let e : last ≡ (get_or run n empty).slot = slots_at run n in
       by_test (leb last x)
@@ -141,7 +141,7 @@ module _ (run : List Point) where
     grows (Block p) =
         let f = at run (upto_of (slots_of run) n p.slot) in
         let number : growth_to (length run) n p f ≡ cond (above (slots_of run) n p.slot) (cond (ltb n (length run)) 0 32) 30 =
-        above-by n p.slot (cond (ltb n (length run)) 0 32) 30 in
+        above_by n p.slot (cond (ltb n (length run)) 0 32) 30 in
         ap (grown (Block p)) number
         ∙ by_test (above (slots_of run) n p.slot) (λ t. by_test (ltb n (length run)) (λ w. rw (t, w)) (λ w. rw (t, w))) (λ t. rw t)
 
@@ -171,13 +171,13 @@ room len n r f e =
 
 module _ (run : List Point) (n : ℕ) (item : List ℕ) {x g : ℕ} {r : Read} {f : Found} (e : r ≡ point_of item) (w : x ≡ slot_of r.place) (found : f ≡ find_of run n x)
     (k : g ≡ growth_of (length run) n r f) where
-  is-grown : grown run n r.place g ≡ add_of run n item
-  is-grown = adds run n item refl e (found ∙ ap (find_of run n) w) k
+  is_grown : grown run n r.place g ≡ add_of run n item
+  is_grown = adds run n item refl e (found ∙ ap (find_of run n) w) k
 
-  pub add-put : g ≡ 0 → told (done_by g n) (set run n (point_in r.place)) ≡ add_of run n item
-  add-put z = ap (λ (t : Bool). told (cond t (done 0 (n + 1)) (done g n)) (set run n (point_in r.place))) (eq-eqb g 0 z)
-      ∙ sym (ap (λ (t : Bool). cond t (told (done 0 (n + 1)) (set run n (point_in r.place))) (told (done g n) run)) (eq-eqb g 0 z)) ∙ is-grown
+  pub add_put : g ≡ 0 → told (done_by g n) (set run n (point_in r.place)) ≡ add_of run n item
+  add_put z = ap (λ (t : Bool). told (cond t (done 0 (n + 1)) (done g n)) (set run n (point_in r.place))) (eq-eqb g 0 z)
+      ∙ sym (ap (λ (t : Bool). cond t (told (done 0 (n + 1)) (set run n (point_in r.place))) (told (done g n) run)) (eq-eqb g 0 z)) ∙ is_grown
 
   pub add_same : g ≢ 0 → told (done_by g n) run ≡ add_of run n item
   add_same z = ap (λ (t : Bool). told (cond t (done 0 (n + 1)) (done g n)) run) (ne_eqb g 0 z)
-      ∙ sym (ap (λ (t : Bool). cond t (told (done 0 (n + 1)) (set run n (point_in r.place))) (told (done g n) run)) (ne_eqb g 0 z)) ∙ is-grown
+      ∙ sym (ap (λ (t : Bool). cond t (told (done 0 (n + 1)) (set run n (point_in r.place))) (told (done g n) run)) (ne_eqb g 0 z)) ∙ is_grown

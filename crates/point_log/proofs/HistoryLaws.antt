@@ -24,7 +24,7 @@ use Rattle.point_log.specs.Inside.{Rising}
 use Rattle.point_log.specs.Besides.Numbers.{slot_at, WhenBack, back_out, back_none, not_logged, to_origin, to_block}
 use Rattle.point_log.specs.Besides.History.{Call, adds, backs, appended, up_to_point, cut_back, says, Log, answer, after, after_all, history, content, fresh, History}
 use Rattle.point_log.proofs.RecordLaws.{slots_at, slots_set}
-use Rattle.point_log.proofs.NumberLaws.{same_is, is_same, count_is, counted, spelled, back_by, back-when, back-goes, kept_back, Leaves, stays, grows, add_leaves}
+use Rattle.point_log.proofs.NumberLaws.{same_is, is_same, count_is, counted, spelled, back_by, back_when, back_goes, kept_back, Leaves, stays, grows, add_leaves}
 
 -- a log in range
 record Good (l : Log) : Type 0 where
@@ -117,14 +117,14 @@ step_add l item g = go (add_leaves l.run l.count item).1
         }
 
 step_back : (l : Log) (item : List ℕ) → Good l → Stepped l (backs item) (after l (backs item))
-step_back l item g = go (back-when l.run l.count item).1
+step_back l item g = go (back_when l.run l.count item).1
   where
     n : ℕ
     n = l.count
 
     refused : {k : ℕ} → WhenBack l.run l.count item k → k ≢ 0 → Stepped l (backs item) (after l (backs item))
     refused w z =
-        unchanged l (backs item) g (λ y. z (sym (back-goes l.run l.count item w) ∙ y))
+        unchanged l (backs item) g (λ y. z (sym (back_goes l.run l.count item w) ∙ y))
         (ap (λ (k : ℕ). record { run = l.run; count = k }) (kept_back l.run l.count item w z))
 
     cut : (place : Place) (k : ℕ) → (point_of item).place ≡ place → back_of l.run l.count item ≡ done 0 k → k ≤ l.count → take k l.run ≡ cut_back place (content l)

@@ -92,23 +92,23 @@ counted run (suc n) p l e =
 -- ---- find
 
 module _ (run : List Point) (n : ℕ) where
-  find-ok : (slot : ℕ) → InRange run n → find_of run n slot ≡ at run (upto_of (slots_of run) n slot)
+  find_ok : (slot : ℕ) → InRange run n → find_of run n slot ≡ at run (upto_of (slots_of run) n slot)
   unfolding find_of
-  find-ok slot r = rw (range_in_lem run n r)
+  find_ok slot r = rw (range_in_lem run n r)
 
-  find-out-of : (slot : ℕ) → (InRange run n → ⊥) → find_of run n slot ≡ lost
+  find_out_of : (slot : ℕ) → (InRange run n → ⊥) → find_of run n slot ≡ lost
   unfolding find_of
-  find-out-of slot never = rw (range_out run n never)
+  find_out_of slot never = rw (range_out run n never)
 
-  find-goes : (slot : ℕ) {k : ℕ} → WhenFind run n k → (find_of run n slot).number ≡ k
-  find-goes slot (find_outside never) = ap (λ (f : Found). f.number) (find-out-of slot never)
-  find-goes slot (find_inside r) = ap (λ (f : Found). f.number) (find-ok slot r)
+  find_goes : (slot : ℕ) {k : ℕ} → WhenFind run n k → (find_of run n slot).number ≡ k
+  find_goes slot (find_outside never) = ap (λ (f : Found). f.number) (find_out_of slot never)
+  find_goes slot (find_inside r) = ap (λ (f : Found). f.number) (find_ok slot r)
 
-  find-when : (k : ℕ) × WhenFind run n k
-  find-when = by_test (in_range run n) (λ t. (0, find_inside (is_in_range run n t))) (λ t. (23, find_outside (out_range run n t)))
+  find_when : (k : ℕ) × WhenFind run n k
+  find_when = by_test (in_range run n) (λ t. (0, find_inside (is_in_range run n t))) (λ t. (23, find_outside (out_range run n t)))
 
-  finds-last : (slot : ℕ) → InRange run n → Finds run n slot (at run (upto_of (slots_of run) n slot))
-  finds-last slot r =
+  finds_last : (slot : ℕ) → InRange run n → Finds run n slot (at run (upto_of (slots_of run) n slot))
+  finds_last slot r =
       record {
         inside = upto_within (slots_of run) n slot;
         place = refl;
@@ -122,13 +122,13 @@ module _ (run : List Point) (n : ℕ) (item : List ℕ) where
   pub spelled : {place : Place} → Spells item place → point_of item ≡ read place 0
   spelled {place} s = ((readings item).point_reads place).1 s
 
-  back-out-of : (InRange run n → ⊥) → back_of run n item ≡ done 23 n
+  back_out_of : (InRange run n → ⊥) → back_of run n item ≡ done 23 n
   unfolding back_of
-  back-out-of never = rw (range_out run n never)
+  back_out_of never = rw (range_out run n never)
 
-  back-bad : InRange run n → (point_of item).number ≡ 29 → back_of run n item ≡ done 29 n
+  back_bad : InRange run n → (point_of item).number ≡ 29 → back_of run n item ≡ done 29 n
   unfolding back_of
-  back-bad r e = rw (range_in_lem run n r, e)
+  back_bad r e = rw (range_in_lem run n r, e)
 
   pub back_by : {place : Place} → InRange run n → Spells item place → back_of run n item ≡ back_to run n place
   unfolding back_of
@@ -141,17 +141,17 @@ module _ (run : List Point) (n : ℕ) (item : List ℕ) where
       go (one place s e) = absurd (never place s)
       go (none f e) = ap (λ (r : Read). r.number) e
 
-  pub back-goes : {k : ℕ} → WhenBack run n item k → (back_of run n item).number ≡ k
-  back-goes (back_out never) = ap (λ (d : Done). d.number) (back-out-of never)
-  back-goes (back_none r never) = ap (λ (d : Done). d.number) (back-bad r (no_number never))
-  back-goes (not_logged {p = p} r s never) =
+  pub back_goes : {k : ℕ} → WhenBack run n item k → (back_of run n item).number ≡ k
+  back_goes (back_out never) = ap (λ (d : Done). d.number) (back_out_of never)
+  back_goes (back_none r never) = ap (λ (d : Done). d.number) (back_bad r (no_number never))
+  back_goes (not_logged {p = p} r s never) =
       ap (λ (d : Done). d.number) (back_by r s) ∙ by_test (eqb (count_to run n p) 0) (λ t. rw t)
       (λ t.
       let some = eqb-false (count_to run n p) 0 t in
       let (l, e) = count_is run n p (count_to run n p - 1) (omega arith) in
       absurd (never (record { i = count_to run n p - 1; inside = l; is = e })))
-  back-goes (to_origin r s) = ap (λ (d : Done). d.number) (back_by r s)
-  back-goes (to_block {p = p} r s l) = ap (λ (d : Done). d.number) (back_by r s) ∙ rw (ne_eqb (count_to run n p) 0 (counted run n p l))
+  back_goes (to_origin r s) = ap (λ (d : Done). d.number) (back_by r s)
+  back_goes (to_block {p = p} r s l) = ap (λ (d : Done). d.number) (back_by r s) ∙ rw (ne_eqb (count_to run n p) 0 (counted run n p l))
 
   abbrev pub SomeBack : Type 0
   SomeBack = (k : ℕ) × WhenBack run n item k
@@ -169,13 +169,13 @@ module _ (run : List Point) (n : ℕ) (item : List ℕ) where
   back_read r (one place s e) = back_some r place s
   back_read r (none never e) = (29, back_none r never)
 
-  pub back-when : SomeBack
-  back-when = by_test (in_range run n) (λ t. back_read (is_in_range run n t) (read_way item)) (λ t. (23, back_out (out_range run n t)))
+  pub back_when : SomeBack
+  back_when = by_test (in_range run n) (λ t. back_read (is_in_range run n t) (read_way item)) (λ t. (23, back_out (out_range run n t)))
 
   -- what it leaves, by the way it goes
   pub kept_back : {k : ℕ} → WhenBack run n item k → k ≢ 0 → (back_of run n item).count ≡ n
-  kept_back (back_out never) z = ap (λ (d : Done). d.count) (back-out-of never)
-  kept_back (back_none r never) z = ap (λ (d : Done). d.count) (back-bad r (no_number never))
+  kept_back (back_out never) z = ap (λ (d : Done). d.count) (back_out_of never)
+  kept_back (back_none r never) z = ap (λ (d : Done). d.count) (back_bad r (no_number never))
   kept_back (not_logged {p = p} r s never) z =
       ap (λ (d : Done). d.count) (back_by r s) ∙ by_test (eqb (count_to run n p) 0) (λ t. rw t)
       (λ t.
@@ -185,12 +185,12 @@ module _ (run : List Point) (n : ℕ) (item : List ℕ) where
   kept_back (to_origin r s) z = absurd (z refl)
   kept_back (to_block r s l) z = absurd (z refl)
 
-  ranged-back : {k : ℕ} → WhenBack run n item k → k ≡ 0 → InRange run n
-  ranged-back (back_out never) z = absurd (omega arith)
-  ranged-back (back_none r never) z = r
-  ranged-back (not_logged r s never) z = r
-  ranged-back (to_origin r s) z = r
-  ranged-back (to_block r s l) z = r
+  ranged_back : {k : ℕ} → WhenBack run n item k → k ≡ 0 → InRange run n
+  ranged_back (back_out never) z = absurd (omega arith)
+  ranged_back (back_none r never) z = r
+  ranged_back (not_logged r s never) z = r
+  ranged_back (to_origin r s) z = r
+  ranged_back (to_block r s l) z = r
 
   back_cut : (p : Point) → InRange run n → Spells item (Block p) → (back_of run n item).number ≡ 0
       → (0 < (back_of run n item).count) × ((back_of run n item).count ≤ n) × (get_or run ((back_of run n item).count - 1) empty ≡ p)
@@ -206,53 +206,53 @@ module _ (run : List Point) (n : ℕ) (item : List ℕ) where
 -- ---- add
 
 module _ (run : List Point) (n : ℕ) (item : List ℕ) where
-  add-out-of : (InRange run n → ⊥) → add_of run n item ≡ told (done 23 n) run
+  add_out_of : (InRange run n → ⊥) → add_of run n item ≡ told (done 23 n) run
   unfolding add_of
-  add-out-of never = rw (range_out run n never)
+  add_out_of never = rw (range_out run n never)
 
-  add-bad : InRange run n → (point_of item).number ≡ 29 → add_of run n item ≡ told (done 29 n) run
+  add_bad : InRange run n → (point_of item).number ≡ 29 → add_of run n item ≡ told (done 29 n) run
   unfolding add_of
-  add-bad r e = rw (range_in_lem run n r, e)
+  add_bad r e = rw (range_in_lem run n r, e)
 
-  add-by : {place : Place} → InRange run n → Spells item place → add_of run n item ≡ add_to run n place
+  add_by : {place : Place} → InRange run n → Spells item place → add_of run n item ≡ add_to run n place
   unfolding add_of
-  add-by r s = rw (range_in_lem run n r, spelled run n item s)
+  add_by r s = rw (range_in_lem run n r, spelled run n item s)
 
   -- above the last
-  above-is : (x : ℕ) → above (slots_of run) n x ≡ true → 0 < n → slot_at run (n - 1) < x
+  above_is : (x : ℕ) → above (slots_of run) n x ≡ true → 0 < n → slot_at run (n - 1) < x
   unfolding above
-  above-is x e l = go n e l
+  above_is x e l = go n e l
     where
       go : (m : ℕ) → above (slots_of run) m x ≡ true → 0 < m → slot_at run (m - 1) < x
       go zero f h = absurd (omega arith)
       go (suc m) f h = rw (sub-one (suc m)) (ltb-true (slot_at run m) x f)
 
-  is-above : (x : ℕ) → (0 < n → slot_at run (n - 1) < x) → above (slots_of run) n x ≡ true
+  is_above : (x : ℕ) → (0 < n → slot_at run (n - 1) < x) → above (slots_of run) n x ≡ true
   unfolding above
-  is-above x f = go n f
+  is_above x f = go n f
     where
       go : (m : ℕ) → (0 < m → slot_at run (m - 1) < x) → above (slots_of run) m x ≡ true
       go zero g = refl
       go (suc m) g = let h : slot_at run m < x = rw (sub-one (suc m)) at (g (omega arith)) in lt-ltb (slot_at run m) x h
 
-  not-above-is : (x : ℕ) → above (slots_of run) n x ≡ false → (0 < n) × (x ≤ slot_at run (n - 1))
+  not_above_is : (x : ℕ) → above (slots_of run) n x ≡ false → (0 < n) × (x ≤ slot_at run (n - 1))
   unfolding above
-  not-above-is x e = go n e
+  not_above_is x e = go n e
     where
       go : (m : ℕ) → above (slots_of run) m x ≡ false → (0 < m) × (x ≤ slot_at run (m - 1))
       go zero f = absurd (true≢false f)
       go (suc m) f = (omega arith, rw (sub-one (suc m)) (ltb-false (slot_at run m) x f))
 
-  add-not : {p : Point} → InRange run n → Spells item (Block p) → 0 < n → p.slot ≤ slot_at run (n - 1) → add_of run n item ≡ told (done 30 n) run
-  add-not {p} r s l h =
-      add-by r s ∙ by_test (above (slots_of run) n p.slot) (λ t. let g = above-is p.slot t l in absurd (omega arith)) (λ t. rw t)
+  add_not : {p : Point} → InRange run n → Spells item (Block p) → 0 < n → p.slot ≤ slot_at run (n - 1) → add_of run n item ≡ told (done 30 n) run
+  add_not {p} r s l h =
+      add_by r s ∙ by_test (above (slots_of run) n p.slot) (λ t. let g = above_is p.slot t l in absurd (omega arith)) (λ t. rw t)
 
-  add-full : {p : Point} → InRange run n → Spells item (Block p) → (0 < n → slot_at run (n - 1) < p.slot) → length run ≤ n → add_of run n item ≡ told (done 32 n) run
-  add-full {p} r s up h = add-by r s ∙ rw (is-above p.slot up, le-ltb n (length run) h)
+  add_full : {p : Point} → InRange run n → Spells item (Block p) → (0 < n → slot_at run (n - 1) < p.slot) → length run ≤ n → add_of run n item ≡ told (done 32 n) run
+  add_full {p} r s up h = add_by r s ∙ rw (is_above p.slot up, le-ltb n (length run) h)
 
   add_ok : {p : Point} → InRange run n → Spells item (Block p) → (0 < n → slot_at run (n - 1) < p.slot) → n < length run
       → add_of run n item ≡ told (done 0 (n + 1)) (set run n p)
-  add_ok {p} r s up h = add-by r s ∙ rw (is-above p.slot up, lt-ltb n (length run) h)
+  add_ok {p} r s up h = add_by r s ∙ rw (is_above p.slot up, lt-ltb n (length run) h)
 
   -- each "when", and what it leaves: nothing has changed, or the point is the last
   pub data Leaves : ℕ → Type 0 where
@@ -260,16 +260,16 @@ module _ (run : List Point) (n : ℕ) (item : List ℕ) where
     grows : (p : Point) → Spells item (Block p) → InRange run n → (0 < n → slot_at run (n - 1) < p.slot) → n < length run
         → add_of run n item ≡ told (done 0 (n + 1)) (set run n p) → Leaves 0
 
-  add-way : {k : ℕ} → WhenAdd run n item k → Leaves k
-  add-way (add_out never) = stays 23 (λ z. omega arith) (add-out-of never)
-  add-way (add_none r never) = stays 29 (λ z. omega arith) (add-bad r (no_number run n item never))
-  add-way (the_origin r s) = stays 30 (λ z. omega arith) (add-by r s)
-  add-way (not_above r s l h) = stays 30 (λ z. omega arith) (add-not r s l h)
-  add-way (full r s up e) = stays 32 (λ z. omega arith) (add-full r s up (omega arith))
-  add-way (added {p = p} r s up l) = grows p s r up l (add_ok r s up l)
+  add_way : {k : ℕ} → WhenAdd run n item k → Leaves k
+  add_way (add_out never) = stays 23 (λ z. omega arith) (add_out_of never)
+  add_way (add_none r never) = stays 29 (λ z. omega arith) (add_bad r (no_number run n item never))
+  add_way (the_origin r s) = stays 30 (λ z. omega arith) (add_by r s)
+  add_way (not_above r s l h) = stays 30 (λ z. omega arith) (add_not r s l h)
+  add_way (full r s up e) = stays 32 (λ z. omega arith) (add_full r s up (omega arith))
+  add_way (added {p = p} r s up l) = grows p s r up l (add_ok r s up l)
 
   add_goes : {k : ℕ} → WhenAdd run n item k → (add_of run n item).answer.number ≡ k
-  add_goes w = go (add-way w)
+  add_goes w = go (add_way w)
     where
       go : {k : ℕ} → Leaves k → (add_of run n item).answer.number ≡ k
       go (stays k z e) = ap (λ (t : Told). t.answer.number) e
@@ -278,25 +278,25 @@ module _ (run : List Point) (n : ℕ) (item : List ℕ) where
   abbrev SomeAdd : Type 0
   SomeAdd = (k : ℕ) × WhenAdd run n item k
 
-  add-some : InRange run n → (place : Place) → Spells item place → SomeAdd
-  add-some r Origin s = (30, the_origin r s)
-  add-some r (Block p) s =
+  add_some : InRange run n → (place : Place) → Spells item place → SomeAdd
+  add_some r Origin s = (30, the_origin r s)
+  add_some r (Block p) s =
       by_test (above (slots_of run) n p.slot)
       (λ t.
-      let up = above-is p.slot t in
+      let up = above_is p.slot t in
       by_test (ltb n (length run)) (λ w. (0, added r s up (ltb-true n (length run) w)))
       (λ w. let h = ltb-false n (length run) w in let g = r.within in (32, full r s up (omega arith))))
-      (λ t. let (l, h) = not-above-is p.slot t in (30, not_above r s l h))
+      (λ t. let (l, h) = not_above_is p.slot t in (30, not_above r s l h))
 
   add_read : InRange run n → ReadWay item → SomeAdd
-  add_read r (one place s e) = add-some r place s
+  add_read r (one place s e) = add_some r place s
   add_read r (none never e) = (29, add_none r never)
 
-  add-when : SomeAdd
-  add-when = by_test (in_range run n) (λ t. add_read (is_in_range run n t) (read_way item)) (λ t. (23, add_out (out_range run n t)))
+  add_when : SomeAdd
+  add_when = by_test (in_range run n) (λ t. add_read (is_in_range run n t) (read_way item)) (λ t. (23, add_out (out_range run n t)))
 
   pub add_leaves : (k : ℕ) × Leaves k
-  add_leaves = let (k, w) = add-when in (k, add-way w)
+  add_leaves = let (k, w) = add_when in (k, add_way w)
 
   leaves_by : {k : ℕ} → Leaves k → LeavesAdd run n item (add_of run n item)
   leaves_by (stays k z e) =
@@ -318,21 +318,21 @@ module _ (run : List Point) (n : ℕ) (item : List ℕ) where
 pub calls : AllCalls
 calls run n =
     record {
-      find_exactly = λ slot k. let (m, w) = find-when run n in exactly_when (WhenFind run n) (find-goes run n slot w) w (find-goes run n slot);
+      find_exactly = λ slot k. let (m, w) = find_when run n in exactly_when (WhenFind run n) (find_goes run n slot w) w (find_goes run n slot);
       find_lost = λ slot e. by_test (in_range run n)
-          (λ t. absurd (omega (arith, ap (λ (f : Found). f.number) (find-ok run n slot (is_in_range run n t)), e))) (λ t. find-out-of run n slot (out_range run n t));
+          (λ t. absurd (omega (arith, ap (λ (f : Found). f.number) (find_ok run n slot (is_in_range run n t)), e))) (λ t. find_out_of run n slot (out_range run n t));
       find_finds = λ slot e. by_test (in_range run n)
-          (λ t. let r = is_in_range run n t in subst (Finds run n slot) (sym (find-ok run n slot r)) (finds-last run n slot r))
-          (λ t. absurd (omega (arith, ap (λ (f : Found). f.number) (find-out-of run n slot (out_range run n t)), e)));
-      back_exactly = λ item k. let (m, w) = back-when run n item in exactly_when (WhenBack run n item) (back-goes run n item w) w (back-goes run n item);
+          (λ t. let r = is_in_range run n t in subst (Finds run n slot) (sym (find_ok run n slot r)) (finds_last run n slot r))
+          (λ t. absurd (omega (arith, ap (λ (f : Found). f.number) (find_out_of run n slot (out_range run n t)), e)));
+      back_exactly = λ item k. let (m, w) = back_when run n item in exactly_when (WhenBack run n item) (back_goes run n item w) w (back_goes run n item);
       back_leaves = λ item.
-          let (m, w) = back-when run n item in
-          let is = back-goes run n item w in
+          let (m, w) = back_when run n item in
+          let is = back_goes run n item w in
           record {
             kept = λ z. kept_back run n item w (λ y. z (is ∙ y));
-            emptied = λ z s. ap (λ (d : Done). d.count) (back_by run n item (ranged-back run n item w (sym is ∙ z)) s);
-            cut = λ z p s. back_cut run n item p (ranged-back run n item w (sym is ∙ z)) s z;
+            emptied = λ z s. ap (λ (d : Done). d.count) (back_by run n item (ranged_back run n item w (sym is ∙ z)) s);
+            cut = λ z p s. back_cut run n item p (ranged_back run n item w (sym is ∙ z)) s z;
           };
-      add_exactly = λ item k. let (m, w) = add-when run n item in exactly_when (WhenAdd run n item) (add_goes run n item w) w (add_goes run n item);
+      add_exactly = λ item k. let (m, w) = add_when run n item in exactly_when (WhenAdd run n item) (add_goes run n item w) w (add_goes run n item);
       add_leaves = λ item. leaves_by run n item (add_leaves run n item).1;
     }

@@ -65,21 +65,21 @@ between_start s n x =
     record { low_le = omega arith; high_le = omega arith; before = λ r k l. omega arith; from = λ r k l l'. omega arith }
 
 module _ {s : List ℕ} {n x low high : ℕ} (b : Between s n x low high) (m : ℕ) (lm : low ≤ m) (mh : m < high) where
-  below-mid : Rising s n → get_or s m 0 ≤ x → (k : ℕ) → (k ≡ m) ⊎ (k < m) → get_or s k 0 ≤ x
-  below-mid r t k (inl e) = omega (arith, ap (λ (j : ℕ). get_or s j 0) e)
-  below-mid r t k (inr l) = let mn : m < n = omega (arith, b.high_le) in omega (arith, r k m l mn)
+  below_mid : Rising s n → get_or s m 0 ≤ x → (k : ℕ) → (k ≡ m) ⊎ (k < m) → get_or s k 0 ≤ x
+  below_mid r t k (inl e) = omega (arith, ap (λ (j : ℕ). get_or s j 0) e)
+  below_mid r t k (inr l) = let mn : m < n = omega (arith, b.high_le) in omega (arith, r k m l mn)
 
-  above-mid : Rising s n → x < get_or s m 0 → (k : ℕ) → k < n → (m ≡ k) ⊎ (m < k) → x < get_or s k 0
-  above-mid r t k kn (inl e) = omega (arith, ap (λ (j : ℕ). get_or s j 0) e)
-  above-mid r t k kn (inr l) = omega (arith, r m k l kn)
+  above_mid : Rising s n → x < get_or s m 0 → (k : ℕ) → k < n → (m ≡ k) ⊎ (m < k) → x < get_or s k 0
+  above_mid r t k kn (inl e) = omega (arith, ap (λ (j : ℕ). get_or s j 0) e)
+  above_mid r t k kn (inr l) = omega (arith, r m k l kn)
 
-  pub between-up : get_or s m 0 ≤ x → Between s n x (m + 1) high
-  between-up t =
-      record { low_le = omega arith; high_le = b.high_le; before = λ r k l. below-mid r t k (eq-or-lt_of_le (omega arith)); from = b.from }
+  pub between_up : get_or s m 0 ≤ x → Between s n x (m + 1) high
+  between_up t =
+      record { low_le = omega arith; high_le = b.high_le; before = λ r k l. below_mid r t k (eq-or-lt_of_le (omega arith)); from = b.from }
 
-  pub between-down : x < get_or s m 0 → Between s n x low m
-  between-down t =
-      record { low_le = lm; high_le = omega (arith, b.high_le); before = b.before; from = λ r k l l'. above-mid r t k l' (eq-or-lt_of_le l) }
+  pub between_down : x < get_or s m 0 → Between s n x low m
+  between_down t =
+      record { low_le = lm; high_le = omega (arith, b.high_le); before = b.before; from = λ r k l l'. above_mid r t k l' (eq-or-lt_of_le l) }
 
 -- where the ends meet
 pub between_met : {s : List ℕ} {n x low high : ℕ} → Between s n x low high → high ≤ low → Between s n x low low

@@ -13,7 +13,7 @@ use Rattle.head.specs.Initial.{initial}
 use Rattle.head.specs.Read.{head_at, head_by}
 use Rattle.head.specs.declared.read.Head.{Head}
 use Rattle.head.specs.declared.read.Head.TheVariants.{Definite, Indefinite, Break, Short}
-use Rattle.head.proofs.ReadLaws.{moved, head-moved, head-longer}
+use Rattle.head.proofs.ReadLaws.{moved, head_moved, head_longer}
 use Rattle.points.specs.declared.Hash.{Hash}
 use Rattle.points.specs.declared.Place.{Place}
 use Rattle.points.specs.declared.Place.TheVariants.{Block}
@@ -31,9 +31,9 @@ module _ (w b h rest : List ℕ) (is : w ≡ b ++ (h ++ rest)) where
   placed x e whole =
       let n = length b in
       let long : length w ≡ n + length (h ++ rest) = ap length is ∙ length-append b (h ++ rest) in
-      ap (head_at w) (sym (add-zero n)) ∙ head-moved w n (omega arith) 0
+      ap (head_at w) (sym (add-zero n)) ∙ head_moved w n (omega arith) 0
       ∙ ap (λ (l : List ℕ). moved n (head_at l 0)) (ap (drop n) is ∙ drop-append_seam b (h ++ rest))
-      ∙ ap (moved n) (head-longer h rest 0 (λ s. whole (sym e ∙ s)) ∙ e)
+      ∙ ap (moved n) (head_longer h rest 0 (λ s. whole (sym e ∙ s)) ∙ e)
 
   head_in : (m v : ℕ) → HeadOf m v h → head_at w (length b) ≡ Definite m v (length b + length h)
   unfolding moved

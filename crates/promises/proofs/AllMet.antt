@@ -10,7 +10,7 @@ use lib.ListN as lists
 use lib.ListN.{length, replicate}
 use lib.Dec.{ltb}
 use borrow.Author.Tests.{ltb-true, eqb-false}
-use Rattle.base.proofs.NumberLaws.{bytes_append, octets-bytes, bytes_take, bytes_drop, bytes-zeros}
+use Rattle.base.proofs.NumberLaws.{bytes_append, octets_bytes, bytes_take, bytes_drop, bytes_zeros}
 use Rattle.base.specs.Below.{all_below}
 use Rattle.base.specs.Numbers.{Bytes, spelled, octets}
 use Rattle.ring.specs.Ring.{base_of, laid, stream}
@@ -98,7 +98,7 @@ fault = segment 0 9 []
 bytes_segment : (mode protocol : ℕ) (xs : List ℕ) → Bytes xs → Bytes (segment mode protocol xs)
 unfolding segment encoded
 bytes_segment mode protocol xs b =
-    bytes_append _ xs (bytes_append (octets 4 0) _ (octets-bytes 4 0) (bytes_append (octets 2 _) _ (octets-bytes 2 _) (octets-bytes 2 (length xs)))) b
+    bytes_append _ xs (bytes_append (octets 4 0) _ (octets_bytes 4 0) (bytes_append (octets 2 _) _ (octets_bytes 2 _) (octets_bytes 2 (length xs)))) b
 
 bytes_pieces : (protocol k : ℕ) (xs : List ℕ) → Bytes xs → Bytes (pieces protocol k xs)
 unfolding Bytes pieces
@@ -117,17 +117,17 @@ bytes-accept = omega arith
 
 bytes-message : Bytes message
 unfolding Bytes
-bytes-message = (omega arith, (omega arith, (omega arith, (omega arith, (omega arith, bytes-zeros 28)))))
+bytes-message = (omega arith, (omega arith, (omega arith, (omega arith, (omega arith, bytes_zeros 28)))))
 
 real_nexts : (k : ℕ) → AllReal (replicate k (next 0 buffer))
 unfolding AllReal
 real_nexts zero = tt
-real_nexts (suc k) = ((omega arith, bytes-zeros 12), real_nexts k)
+real_nexts (suc k) = ((omega arith, bytes_zeros 12), real_nexts k)
 
 real_dialler : AllReal (before ++ behind)
 unfolding AllReal
 real_dialler =
-    (bytes-propose, ((omega arith, bytes-zeros 12), (bytes_segment 1 0 accept bytes-accept, (tt, (bytes-message, real_nexts 9)))))
+    (bytes-propose, ((omega arith, bytes_zeros 12), (bytes_segment 1 0 accept bytes-accept, (tt, (bytes-message, real_nexts 9)))))
 
 real_accepter : (b : ℕ) → AllReal (answering b)
 unfolding AllReal

@@ -28,7 +28,7 @@ use Rattle.messages.proofs.Theorem.{reads_forms, message_is_item}
 use Rattle.build.specs.Besides.Theorem.{numbers_of, runs_of}
 use Rattle.build.specs.Building.{given}
 use Rattle.build.proofs.NumberLaws as build
-use Rattle.build.proofs.Few.{Few, form_few, runs-counted}
+use Rattle.build.proofs.Few.{Few, form_few, runs_counted}
 use Rattle.connection.specs.declared.Connection.{Connection}
 use Rattle.connection.specs.Parts.{first_held}
 use Rattle.range.specs.Besides.Ranges.{InReceive}
@@ -160,13 +160,13 @@ module _ (w : World) (i : ℕ) (bs : List ℕ) (m : Message) (next : ℕ) (asked
 
   module _ (scratch : List ℕ) (room : n ≤ length scratch) where
     -- what a look answers with the message at a place
-    abbrev answerAt : Place → ℕ × calls.Looked
-    answerAt p =
+    abbrev answer_at : Place → ℕ × calls.Looked
+    answer_at p =
         let s = looking.shown_at p (done n m) in
         (s.number, calls.looked (calls.said_by s) p (looking.joined p (first_held c store i n) scratch))
 
     -- which is bs
-    there : {p : Place} → At c store i scratch n p → (step w (calls.look i scratch)).answer ≡ answerAt p → ShownAs bs m w i scratch
+    there : {p : Place} → At c store i scratch n p → (step w (calls.look i scratch)).answer ≡ answer_at p → ShownAs bs m w i scratch
     there (in_store at e) so = record { place = Store at; answer = so; part = e ∙ bytes }
     there (in_scratch h) so =
         record {
@@ -198,7 +198,7 @@ built_arrives bundle i p bs b w j same k =
     let runs : given p.runs p.one p.two ≡ some (runs_of bs xs) = back.3 ∙ ap (λ (ys : List ℕ). some (runs_of ys xs)) b.front in
     let small : Few p.kind m.fields = form_few q p.kind m.form in
     let few : length (numbers_of xs) ≤ 3 = omega (arith, numbers_few xs, values_many m.matched, small.fields) in
-    let two : length (runs_of bs xs) ≤ 2 = omega (arith, runs-counted bs m.matched, small.runs) in
+    let two : length (runs_of bs xs) ≤ 2 = omega (arith, runs_counted bs m.matched, small.runs) in
     let says : Says q bs (message_from p.kind xs) = (p.kind, xs, m, refl) in
     let reads : message_of q bs ≡ read (message_from p.kind xs) = (reads_forms q bs (message_from p.kind xs)).1 says in
     let q-item : Item nesting bs = message_is_item q bs p.kind xs m in

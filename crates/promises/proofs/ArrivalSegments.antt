@@ -11,7 +11,7 @@ use lib.Dec.{eqb}
 use lib.ListN.{length, take, drop, length-append, length-drop, take-append-drop}
 use lib.Seq.{length-take-le, take_at, drop_at, take-append-le, drop-append-le}
 use Rattle.base.proofs.Conds.{by_test}
-use Rattle.ring.proofs.Stores.{stream-length}
+use Rattle.ring.proofs.Stores.{stream_length}
 use Rattle.wire.specs.declared.segment.Segment.{Segment}
 use Rattle.wire.specs.declared.instances.Party.{Party}
 use Rattle.wire.specs.declared.instances.Route.{Route}
@@ -47,7 +47,7 @@ pub record Made (us : Party) (bs : List ℕ) : Type 0 where
 made_of : (s : Settings) (w : World) (time : ℕ) (bs : List ℕ) → Segmented s w time bs → Made s.party bs
 made_of s w time bs k =
     let n : ℕ = min s.limit (waits w k.instance) in
-    let many : length (queue w k.instance) ≡ waits w k.instance = stream-length _ _ _ _ _ in
+    let many : length (queue w k.instance) ≡ waits w k.instance = stream_length _ _ _ _ _ in
     let told : length (payload bs) ≡ n = ap length k.carries ∙ length-take-le n (queue w k.instance) (omega arith) in
     record {
       instance = k.instance;

@@ -110,8 +110,8 @@ module _ (w : World) where
   c = w.connection
 
   -- the record and the receive store after bytes
-  abbrev fedWorld : Reception → World
-  fedWorld s = world (with_receiving c s.receiving s.gate) s.store w.send
+  abbrev fed_world : Reception → World
+  fed_world s = world (with_receiving c s.receiving s.gate) s.store w.send
 
   -- What each effect leaves. That the call can be made, `real`, is supposed only of the bytes of a header and of the time of a segment.
   pub data Leaves (real : Type 0) : Effect → World → Type 0 where
@@ -120,7 +120,7 @@ module _ (w : World) where
     shut : is_open c.gate ≡ false → Leaves real (came 20 []) w
     -- bytes were fed to an open one
     feeds : (xs : List ℕ) → is_open c.gate ≡ true → (real → Spelt (ends c w.receive xs).receiving.header)
-        → Leaves real (came (feeding.left (ends c w.receive xs).gate) (lists.take (uses c w.receive xs) xs)) (fedWorld (ends c w.receive xs))
+        → Leaves real (came (feeding.left (ends c w.receive xs).gate) (lists.take (uses c w.receive xs) xs)) (fed_world (ends c w.receive xs))
     -- an instance's bytes were at fault, which closes where no closing was
     faults : (n i : ℕ) → Leaves real (faulted n i) (world (with_gate c (closed_by c.gate (Of n i))) w.receive w.send)
     -- a message was dropped, which the first bytes held are
@@ -202,7 +202,7 @@ module _ (w : World) (g : Good w) where
       (record { places = refl; many = g.shaped.held; blank = g.blank; idle = g.idle })
 
   fed-shaped : (xs : List ℕ) → Spelt (ends w.connection w.receive xs).receiving.header
-      → Shaped (fedWorld w (ends w.connection w.receive xs)).connection
+      → Shaped (fed_world w (ends w.connection w.receive xs)).connection
   fed-shaped xs spelt =
       record {
         receive = g.shaped.receive;

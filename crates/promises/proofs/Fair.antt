@@ -14,13 +14,13 @@ use borrow.Author.Tests.{ne_eqb}
 use lib.ListN.{length, get_or, length-append, length-take, length-drop, get_or-append}
 use lib.ListN as list
 use lib.Seq.{get_or-drop, get_or-take}
-use Rattle.ring.proofs.Stores.{stream-length}
+use Rattle.ring.proofs.Stores.{stream_length}
 use Rattle.wire.specs.Instances.{instances}
 use Rattle.wire.proofs.InstanceLaws.{at_least}
 use Rattle.ready.specs.Ready.{turn_after}
 use Rattle.ready.specs.declared.Choice.{Choice}
 use Rattle.ready.specs.declared.Choice.TheVariants.{Instance, Nobody}
-use Rattle.ready.proofs.ReadyLaws.{nobody-waits}
+use Rattle.ready.proofs.ReadyLaws.{nobody_waits}
 use Rattle.connection.specs.declared.Settings.{Settings}
 use Rattle.connection.specs.declared.Talk.{Talk}
 use Rattle.connection.specs.Closings.{is_open}
@@ -44,7 +44,7 @@ use Rattle.promises.proofs.FairSent.{of_same, of_other, sent-now, sent-other, se
 
 -- as many bytes wait as the queue has
 waits-queue : (w : World) (i : ℕ) → length (queue w i) ≡ waits w i
-waits-queue w i = stream-length w.send _ _ (get_or w.connection.sending.starts i 0) (waits w i)
+waits-queue w i = stream_length w.send _ _ (get_or w.connection.sending.starts i 0) (waits w i)
 
 same-waits : (w w' : World) (i : ℕ) → queue w' i ≡ queue w i → waits w' i ≡ waits w i
 same-waits w w' i e = sym (waits-queue w' i) ∙ ap {A = List ℕ} length e ∙ waits-queue w i
@@ -141,8 +141,8 @@ module _ (s : Settings) (w w' : World) (i : ℕ) (some : 1 ≤ i) (inside : i < 
 
 -- a segment of i's own has the front of its queue
 module _ (s : Settings) (w w' : World) (i : ℕ) (bs : List ℕ) (q : Served s w w' i bs) where
-  own-long : length (payload bs) ≡ share s w i
-  own-long = ap {A = List ℕ} length q.front ∙ length-take (share s w i) (queue w i) ∙ omega (arith, waits-queue w i)
+  own_long : length (payload bs) ≡ share s w i
+  own_long = ap {A = List ℕ} length q.front ∙ length-take (share s w i) (queue w i) ∙ omega (arith, waits-queue w i)
 
   own-left : waits w' i ≡ waits w i - share s w i
   own-left =
@@ -152,7 +152,7 @@ module _ (s : Settings) (w w' : World) (i : ℕ) (bs : List ℕ) (q : Served s w
   own-now : (p : ℕ) (ss : List (List ℕ)) → p < waits w i → p < s.limit → Sent s.party i p (byte_at w i p) (bs ∷ ss)
   own-now p ss there lt =
       let within : p < share s w i = omega arith in
-      sent-now s.party i (byte_at w i p) bs ss p (of_same s.party i bs q.mode q.protocol) q.whole (rw own-long within)
+      sent-now s.party i (byte_at w i p) bs ss p (of_same s.party i bs q.mode q.protocol) q.whole (rw own_long within)
       (ap (λ (l : List ℕ). get_or l p 0) q.front ∙ get_or-take (share s w i) (queue w i) p 0 within)
 
 -- the rest of the segments has every byte of i that is due
@@ -202,7 +202,7 @@ module _ (s : Settings) (w w' : World) (i : ℕ) (some : 1 ≤ i) (inside : i < 
               let same : byte_at w' i (p - s.limit) ≡ byte_at w i p =
               ap (λ (l : List ℕ). get_or l (p - s.limit) 0) q.rest ∙ get_or-drop (share s w i) (queue w i) (p - s.limit) 0
               ∙ ap (λ (n : ℕ). get_or (queue w i) n 0) (omega arith) in
-              let long : length (payload bs) ≡ s.limit = own-long s w w' i bs q ∙ all in
+              let long : length (payload bs) ≡ s.limit = own_long s w w' i bs q ∙ all in
               sent-later s.party i (byte_at w i p) bs (list.take k ss) p (of_same s.party i bs q.mode q.protocol) (rw long (omega arith))
               (rw (long, ← same) (rest (p - s.limit) k (due-own p k (omega arith) D) h))
         ]
@@ -291,7 +291,7 @@ serves_always s w r =
         let ws = sending.counts w.connection in
         let t = (ranged w.connection r.ranged).turn in
         let n = sending.counts_long w.connection r.shaped in
-        absurd (omega (arith, (nobody-waits ws w.connection.sending.turn t.0 (omega (arith, t.1, n))).0 e i (omega (arith, n)), sending.counts_at w.connection i l))
+        absurd (omega (arith, (nobody_waits ws w.connection.sending.turn t.0 (omega (arith, t.1, n))).0 e i (omega (arith, n)), sending.counts_at w.connection i l))
 
 due : (s : Settings) (i : ℕ) → 1 ≤ i → i < instances s.party.bundle → (cs : List Call) (w : World) → AllReal cs → Sound s w
     → Rest s w i (segments (did w cs))

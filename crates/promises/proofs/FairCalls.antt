@@ -11,8 +11,8 @@ use lib.ListN.{length, drop}
 use lib.ListN as list
 use lib.Seq.{drop_at}
 use borrow.Author.Tests.{eq-eqb, ne_eqb}
-use Rattle.ring.proofs.Stores.{stream-length}
-use Rattle.ring.proofs.Streams.{queue-freed, queue-laid}
+use Rattle.ring.proofs.Stores.{stream_length}
+use Rattle.ring.proofs.Streams.{queue_freed, queue_laid}
 use Rattle.wire.specs.declared.segment.Segment.{Segment}
 use Rattle.wire.specs.Instances.{instances, protocol_of, mode_of}
 use Rattle.wire.proofs.InstanceLaws.{at_most}
@@ -89,13 +89,13 @@ module _ (s : Settings) (w : World) (k : Sound s w) where
     -- what goes of each queue
     goes : (i : ℕ) → queue w i ≡ cond (eqb j i) (sending.payload_of c w.send j) [] ++ queue left i
     goes =
-        queue-freed w.send caps c.sending.starts c.sending.waiting j n (omega (arith, one.within, r.shaped.send_starts, at_most c.settings.party.bundle))
+        queue_freed w.send caps c.sending.starts c.sending.waiting j n (omega (arith, one.within, r.shaped.send_starts, at_most c.settings.party.bundle))
         (omega (arith, one.within, r.shaped.waiting, at_most c.settings.party.bundle)) (omega arith)
 
     rest : queue left j ≡ drop n (queue w j)
     rest =
         let mine : queue w j ≡ sending.payload_of c w.send j ++ queue left j = rw (eq-eqb j j refl) at (goes j) in
-        sym (ap (drop n) mine ∙ drop_at (sending.payload_of c w.send j) (queue left j) n (stream-length w.send _ _ _ n))
+        sym (ap (drop n) mine ∙ drop_at (sending.payload_of c w.send j) (queue left j) n (stream_length w.send _ _ _ n))
 
     serving : Served s w left j bs
     serving =
@@ -103,7 +103,7 @@ module _ (s : Settings) (w : World) (k : Sound s w) where
           who = who;
           mode = ap (λ (h : Segment). h.mode) one.reads ∙ ap (λ (x : Settings). mode_of x.party j) r.settings;
           protocol = ap (λ (h : Segment). h.protocol) one.reads ∙ ap (λ (x : Settings). protocol_of x.party.bundle j) r.settings;
-          whole = ap (λ (h : Segment). h.len) one.reads ∙ sym (ap {A = List ℕ} length one.carries ∙ stream-length w.send _ _ _ n);
+          whole = ap (λ (h : Segment). h.len) one.reads ∙ sym (ap {A = List ℕ} length one.carries ∙ stream_length w.send _ _ _ n);
           front = one.first ∙ ap (λ (m : ℕ). list.take m (queue w j)) same-share;
           rest = rest ∙ ap (λ (m : ℕ). drop m (queue w j)) same-share;
           others = λ i ne. sym (rw (ne_eqb j i (λ e. ne (sym e))) at (goes i));
@@ -127,7 +127,7 @@ module _ (s : Settings) (w : World) (k : Sound s w) where
         turn = refl;
         grows = λ j h. (
           cond (eqb i j) xs [],
-          queue-laid w.send caps c.sending.starts c.sending.waiting i (instances c.settings.party.bundle) xs
+          queue_laid w.send caps c.sending.starts c.sending.waiting i (instances c.settings.party.bundle) xs
               (r.send ∙ ap send_length (sym r.settings)) (send_some (good r)) q.within (omega (arith, q.within, r.shaped.waiting, at_most c.settings.party.bundle)) room j
               (rw r.settings h),
         );

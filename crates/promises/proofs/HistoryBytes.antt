@@ -11,7 +11,7 @@ use lib.Dec.{eqb, leb}
 use lib.ListN.{length, get_or, take, length-set, length-append}
 use Rattle.base.proofs.Conds.{by_test, cond_cases}
 use Rattle.ring.specs.Ring.{base_of, stream}
-use Rattle.ring.proofs.Streams.{queue-laid}
+use Rattle.ring.proofs.Streams.{queue_laid}
 use Rattle.wire.specs.declared.segment.Header.{Header}
 use Rattle.wire.specs.declared.instances.Party.{Party}
 use Rattle.wire.specs.declared.instances.Route.{Route}
@@ -19,13 +19,13 @@ use Rattle.wire.specs.declared.instances.Route.TheVariants.{Unknown, Wrong, To}
 use Rattle.wire.specs.Segments.{header_length, empty, added, decoded, Carried, Divided, in_header, in_payload}
 use Rattle.wire.specs.Instances.{instances, most, route_of}
 use Rattle.wire.proofs.InstanceLaws.{at_most}
-use Rattle.wire.proofs.SegmentLaws.{part, add_part, part-whole, divided_on, divided_whole}
+use Rattle.wire.proofs.SegmentLaws.{part, add_part, part_whole, divided_on, divided_whole}
 use Rattle.connection.specs.declared.Receiving.{Receiving}
 use Rattle.connection.specs.Closings.{is_open}
 use Rattle.admitting.specs.declared.Admission.{Admission}
 use Rattle.feeding.specs.Feeding.{Reception, admitted, admission, settled, headed, kept, step, fed, used}
-use Rattle.feeding.proofs.Bytes.{step-headed, step_kept, fed-closed}
-use Rattle.feeding.proofs.Keeping.{Kept, kept-fed}
+use Rattle.feeding.proofs.Bytes.{step_headed, step_kept, fed_closed}
+use Rattle.feeding.proofs.Keeping.{Kept, kept_fed}
 use Rattle.promises.specs.History.{payload_for, received_in}
 use Rattle.promises.proofs.HistoryLayout.{none-for, for-append, received-head, received-in, received-whole}
 
@@ -55,8 +55,8 @@ module _ (us : Party) (bs : List ℕ) (b : ℕ) (cs : List Carried) (left : List
   H = left ++ (b ∷ [])
 
   -- a header that is not whole with it
-  head-part : length H < header_length → Divided (bs ++ (b ∷ [])) cs H
-  head-part h = rw append-nil at (divided_on (b ∷ []) d (in_header h))
+  head_part : length H < header_length → Divided (bs ++ (b ∷ [])) cs H
+  head_part h = rw append-nil at (divided_on (b ∷ []) d (in_header h))
 
   head-part-for : (i : ℕ) → length H ≤ header_length → received_in us i cs H ≡ received_in us i cs left
   head-part-for i h =
@@ -67,8 +67,8 @@ module _ (us : Party) (bs : List ℕ) (b : ℕ) (cs : List Carried) (left : List
     short = omega (arith, length-append left (b ∷ []))
 
     -- a header that is whole with it, of an empty payload
-    head-none : (decoded H).len ≡ 0 → Divided (bs ++ (b ∷ [])) (cs ++ (record { header = decoded H; payload = [] } ∷ [])) []
-    head-none z = divided_on (b ∷ []) d (rw append-nil at (divided_whole H [] whole (sym z)))
+    head_none : (decoded H).len ≡ 0 → Divided (bs ++ (b ∷ [])) (cs ++ (record { header = decoded H; payload = [] } ∷ [])) []
+    head_none z = divided_on (b ∷ []) d (rw append-nil at (divided_whole H [] whole (sym z)))
 
     head-none-for : (i : ℕ) → received_in us i (cs ++ (record { header = decoded H; payload = [] } ∷ [])) [] ≡ received_in us i cs left
     head-none-for i = received-whole us i cs H [] ∙ rw (none-for us i (decoded H), append-nil) (sym (received-head us i cs left short))
@@ -126,7 +126,7 @@ module _ (us : Party) (caps : List ℕ) (dropped : ℕ → List ℕ) (some : (i 
         record {
           carried = t.carried ++ (record { header = decoded new; payload = [] } ∷ []);
           left = [];
-          divided = head-none us bs b t.carried t.left t.divided eight z;
+          divided = head_none us bs b t.carried t.left t.divided eight z;
           received = λ i l. head-none-for us bs b t.carried t.left t.divided eight i ∙ t.received i l ∙ rw (e, f, g);
           reading = none z;
           many = rw g t.many;
@@ -169,13 +169,13 @@ module _ (us : Party) (caps : List ℕ) (dropped : ℕ → List ℕ) (some : (i 
       (cond_cases (Tied us caps dropped (bs ++ (b ∷ []))) (leb header_length (length new))
       (λ q.
       let eight : length new ≡ header_length = omega (arith, leb-true header_length (length new) q) in
-      rw (part-whole new eight) (tied-settled bs b s t short eight o (route_of us (decoded new).protocol (decoded new).mode) refl))
+      rw (part_whole new eight) (tied-settled bs b s t short eight o (route_of us (decoded new).protocol (decoded new).mode) refl))
       (λ q.
       let less : length new < header_length = leb-false header_length (length new) q in
       record {
         carried = t.carried;
         left = new;
-        divided = head-part us bs b t.carried t.left t.divided less;
+        divided = head_part us bs b t.carried t.left t.divided less;
         received = λ i l. head-part-for us bs b t.carried t.left t.divided i (omega arith) ∙ t.received i l;
         reading = λ y. in_head z less refl;
         many = t.many;
@@ -187,7 +187,7 @@ module _ (us : Party) (caps : List ℕ) (dropped : ℕ → List ℕ) (some : (i 
       → (i : ℕ) → i < instances us.bundle → held_in caps (kept caps s (b ∷ [])) i ≡ held_in caps s i ++ cond (eqb s.receiving.instance i) (b ∷ []) []
   unfolding kept
   held_more b s many areas inside room i l =
-      queue-laid s.store caps s.receiving.starts s.receiving.held s.receiving.instance (instances us.bundle) (b ∷ []) areas some
+      queue_laid s.store caps s.receiving.starts s.receiving.held s.receiving.instance (instances us.bundle) (b ∷ []) areas some
       inside (omega (arith, at_most us.bundle)) (omega arith) i l
 
   -- a byte of a payload
@@ -243,7 +243,7 @@ module _ (us : Party) (caps : List ℕ) (dropped : ℕ → List ℕ) (some : (i 
   tied-read : (bs : List ℕ) (b : ℕ) (s : Reception) (starts : List ℕ) (n : ℕ) (t : Tied us caps dropped bs s) → is_open s.gate ≡ true
       → Kept us.bundle caps starts n s → n ≡ base_of caps (instances us.bundle) → Reading us s.receiving t.left → Tied us caps dropped (bs ++ (b ∷ [])) (step us caps s b)
   tied-read bs b s starts n t o k long (in_head z short e) =
-      rw (step-headed us caps s b o z) (tied-headed bs b s t o z short e)
+      rw (step_headed us caps s b o z) (tied-headed bs b s t o z short e)
   tied-read bs b s starts n t o k long (in_pay h p e eight more m z to) =
       let (none, inside, fit) = k.under_way more in
       rw (step_kept us caps s b o more) (tied-kept bs b s t (k.long ∙ long) inside (omega (arith, fit)) h p e eight more m z to)
@@ -257,7 +257,7 @@ module _ (us : Party) (caps : List ℕ) (dropped : ℕ → List ℕ) (some : (i 
       by_test (is_open s.gate)
       (λ o.
       let t' : Tied us caps dropped (bs ++ (x ∷ [])) (step us caps s x) = tied-read bs x s starts n t o k long (t.reading o) in
-      let k' : Kept us.bundle caps starts n (step us caps s x) = kept-fed us caps starts n s (x ∷ []) k in
+      let k' : Kept us.bundle caps starts n (step us caps s x) = kept_fed us caps starts n s (x ∷ []) k in
       rw (o, ← append_assoc bs (x ∷ []) (take (used us caps (step us caps s x) xs) xs))
       (tied-fed xs (bs ++ (x ∷ [])) (step us caps s x) starts n t' k' long))
-      (λ o. rw (o, append-nil, fed-closed us caps s (x ∷ xs) o) t)
+      (λ o. rw (o, append-nil, fed_closed us caps s (x ∷ xs) o) t)

@@ -16,7 +16,7 @@ use Rattle.wire.specs.declared.instances.Party.{Party}
 use Rattle.wire.specs.declared.instances.Route.{Route}
 use Rattle.wire.specs.Segments.{header_length, added, decoded}
 use Rattle.wire.specs.Instances.{instances, route_of}
-use Rattle.wire.proofs.SegmentLaws.{part, add_part, part-whole, divided_ends}
+use Rattle.wire.proofs.SegmentLaws.{part, add_part, part_whole, divided_ends}
 use Rattle.connection.specs.declared.Settings.{Settings}
 use Rattle.connection.specs.declared.Closing.{Closing}
 use Rattle.connection.specs.declared.Closing.TheVariants.{Of}
@@ -28,8 +28,8 @@ use Rattle.connection.proofs.ClosingLaws.{closed_or, open_or}
 use Rattle.feeding.specs.Feeding as feeding
 use Rattle.feeding.specs.Feeding.{Reception, used, left, given}
 use Rattle.feeding.specs.Besides.Numbers.{Eighth}
-use Rattle.feeding.proofs.Keeping.{Kept, kept-given}
-use Rattle.feeding.proofs.Faults.{Cause, unknown, wrong, overflow, cause, Refuses, fault-found, fault-leaves, used_all}
+use Rattle.feeding.proofs.Keeping.{Kept, kept_given}
+use Rattle.feeding.proofs.Faults.{Cause, unknown, wrong, overflow, cause, Refuses, fault_found, fault_leaves, used_all}
 use Rattle.promises.specs.Calls.{World, Opened, first}
 use Rattle.promises.specs.Effects.{Effect, came, Past, used_by, bytes_in}
 use Rattle.promises.specs.History.{last_route, routed, fault_by, first_fault, Closes}
@@ -60,7 +60,7 @@ module _ (us : Party) (caps : List ℕ) (dropped : ℕ → List ℕ)
       let eight : length h ≡ header_length = omega (arith, length-append t.left (b ∷ [])) in
       let q = divided_ends t.divided in
       let all : bs ++ (b ∷ []) ≡ q.0 ++ h = ap (λ (l : List ℕ). l ++ (b ∷ [])) q.1 ∙ append_assoc q.0 t.left (b ∷ []) in
-      rw (f, part-whole h eight) (ap (last_route us) all ∙ last_at us q.0 h eight)
+      rw (f, part_whole h eight) (ap (last_route us) all ∙ last_at us q.0 h eight)
   header-last bs b m t (in_pay h p e eight more n z to) idle enough = absurd (omega arith)
 
   -- it stands at the end of the bytes that were used
@@ -69,13 +69,13 @@ module _ (us : Party) (caps : List ℕ) (dropped : ℕ → List ℕ)
       → is_open s.gate ≡ true → (feeding.fed us caps s xs).gate ≡ Closed x
       → (held : List ℕ) × (m : ℕ) × Cause caps held m (last_route us (bs ++ lists.take (used us caps s xs) xs)) x
   refused-last xs bs s starts n x t k long o e =
-      let f : Eighth us caps s xs (Refuses caps x) = fault-found us caps s xs x o e in
+      let f : Eighth us caps s xs (Refuses caps x) = fault_found us caps s xs x o e in
       let front : List ℕ = f.front in
       let m : Reception = feeding.fed us caps s front in
       let all : used us caps s front ≡ length front = used_all us caps s front f.reached in
       let t' : Tied us caps dropped (bs ++ front) m =
       rw (all, take-length) at (tied-fed us caps dropped some front bs s starts n t k long) in
-      let count : used us caps s xs ≡ length front + 1 = omega (arith, (fault-leaves us caps s xs x f).1) in
+      let count : used us caps s xs ≡ length front + 1 = omega (arith, (fault_leaves us caps s xs x f).1) in
       let these : lists.take (used us caps s xs) xs ≡ front ++ (f.byte ∷ []) =
       ap (λ (j : ℕ). lists.take j xs) count ∙ ap (lists.take (length front + 1)) f.run ∙ take-append-add front (f.byte ∷ f.back) 1 in
       let bytes : (bs ++ front) ++ (f.byte ∷ []) ≡ bs ++ lists.take (used us caps s xs) xs =
@@ -146,7 +146,7 @@ module _ (w : World) (g : Good w) (past : Past) (t : Held w.connection.settings 
           (refused-last us w.connection.settings.receive (λ i. flatten (t.messages i))
           (receive_some g) xs (bytes_in past)
           (given w.connection w.receive) w.connection.receiving.starts (length w.receive) x t.tied
-          (kept-given w.connection w.receive g.ranged) g.receive o e).2
+          (kept_given w.connection w.receive g.ranged) g.receive o e).2
   gated (faults n i) = closed_or w.connection.gate (Of n i)
   gated (drops j n to m q fits reads) = same
   gated (queues j to m xs q o free short room) = same

@@ -10,8 +10,8 @@ use lib.Seq.{sets, length-sets}
 use borrow.Author.Tests.{ne_eqb, le-leb, leb-true, leb-false}
 use Rattle.base.proofs.Conds.{cond_cases}
 use Rattle.ring.specs.Ring.{base_of, run}
-use Rattle.ring.proofs.Runs.{run-sets}
-use Rattle.ring.proofs.Stores.{stream-length}
+use Rattle.ring.proofs.Runs.{run_sets}
+use Rattle.ring.proofs.Stores.{stream_length}
 use Rattle.rows.specs.declared.Protocol.{Protocol}
 use Rattle.rows.specs.Spoken.{speaks}
 use Rattle.messages.specs.declared.Message.{Message}
@@ -43,7 +43,7 @@ cut_there bs at n h = rw (le-leb (at + n) (length bs) h)
 pub cut_front : (xs scratch : List ℕ) (n : ℕ) → length xs ≡ n → n ≤ length scratch → cut_of (sets scratch 0 xs) 0 n ≡ xs
 cut_front xs scratch n e h =
     cut_there (sets scratch 0 xs) 0 n (omega (arith, length-sets scratch 0 xs))
-    ∙ ap (λ (k : ℕ). run (sets scratch 0 xs) 0 k) (sym e) ∙ run-sets scratch 0 xs (omega arith)
+    ∙ ap (λ (k : ℕ). run (sets scratch 0 xs) 0 k) (sym e) ∙ run_sets scratch 0 xs (omega arith)
 
 -- ---- where a message is
 
@@ -90,7 +90,7 @@ module _ (w : World) (i : ℕ) (scratch : List ℕ) where
     says : Spells p n m xs
     says =
         let reads = found-reads c w.receive i f in
-        record { long = stream-length _ _ _ _ n; item = message-item p xs m reads; reads = reads }
+        record { long = stream_length _ _ _ _ n; item = message-item p xs m reads; reads = reads }
 
     -- at its place
     told_at : {q : Place} → At c w.receive i scratch n q → Told (shown_in c w.receive i scratch (led n m next) q)

@@ -10,8 +10,8 @@ use borrow.Author.Tests.{eqb-true}
 use lib.Dec.{eqb}
 use lib.ListN.{length, get_or, take, length-set, get_or-replicate}
 use Rattle.ring.specs.Ring.{base_of, stream}
-use Rattle.ring.proofs.Stores.{stream-length}
-use Rattle.ring.proofs.Streams.{stream-count, stream-place, queue-freed, starts-freed}
+use Rattle.ring.proofs.Stores.{stream_length}
+use Rattle.ring.proofs.Streams.{stream_count, stream_place, queue_freed, starts_freed}
 use Rattle.wire.specs.declared.instances.Party.{Party}
 use Rattle.wire.specs.Segments.{decoded, in_header}
 use Rattle.wire.specs.Instances.{instances, most}
@@ -26,7 +26,7 @@ use Rattle.connection.specs.declared.Gate.TheVariants.{Open, Closed}
 use Rattle.connection.specs.declared.Connection.{Connection}
 use Rattle.connection.specs.Closings.{is_open, closed_by}
 use Rattle.feeding.specs.Feeding.{Reception, given, fed, used}
-use Rattle.feeding.proofs.Keeping.{kept-given, kept-fed}
+use Rattle.feeding.proofs.Keeping.{kept_given, kept_fed}
 use Rattle.connection.specs.Parts.{first_held}
 use Rattle.dropping.specs.Dropping as dropping
 use Rattle.promises.specs.Calls.{World, Opened, first}
@@ -110,8 +110,8 @@ module _ (w : World) (g : Good w) (past : Past) (t : Held w.connection.settings 
       let n : ℕ = used s.party s.receive st xs in
       let q : Tied s.party s.receive before (bytes_in past ++ take n xs) (fed s.party s.receive st xs) =
       tied-fed s.party s.receive before (receive_some g) xs (bytes_in past) st c.receiving.starts (length w.receive) t.tied
-      (kept-given c w.receive g.ranged) g.receive in
-      let k = kept-fed s.party s.receive c.receiving.starts (length w.receive) st xs (kept-given c w.receive g.ranged) in
+      (kept_given c w.receive g.ranged) g.receive in
+      let k = kept_fed s.party s.receive c.receiving.starts (length w.receive) st xs (kept_given c w.receive g.ranged) in
       record {
         messages = t.messages;
         spelled = spelled_same e (λ i. no_act);
@@ -122,7 +122,7 @@ module _ (w : World) (g : Good w) (past : Past) (t : Held w.connection.settings 
   held_by {e = e} {w' = w'} (drops j n to m q fits reads) =
       let xs : List ℕ = first_held c w.receive j n in
       let says : Spells (speaks s.party.bundle j) n m xs =
-      record { long = stream-length _ _ _ _ n; item = message-item _ xs m reads; reads = reads } in
+      record { long = stream_length _ _ _ _ n; item = message-item _ xs m reads; reads = reads } in
       let ms : ℕ → List (List ℕ) = λ i. t.messages i ++ cond (eqb j i) (xs ∷ []) [] in
       let now : (i : ℕ) → flatten (ms i) ≡ flatten (t.messages i) ++ cond (eqb j i) xs [] =
       λ i. flatten_append (t.messages i) _ ∙ ap (λ (r : List ℕ). flatten (t.messages i) ++ r) (flatten_one (eqb j i) xs) in
@@ -140,10 +140,10 @@ module _ (w : World) (g : Good w) (past : Past) (t : Held w.connection.settings 
             (λ i l.
             rw (now i, append_assoc)
             (ap (λ (r : List ℕ). flatten (t.messages i) ++ r)
-            (queue-freed w.receive s.receive start held j n in-starts (omega (arith, q.within, g.shaped.held, at_most s.party.bundle)) fits i)))
+            (queue_freed w.receive s.receive start held j n in-starts (omega (arith, q.within, g.shaped.held, at_most s.party.bundle)) fits i)))
             (λ y. reading_freed s.receive j n (t.tied.reading y)) (rw length-set g.shaped.held);
         starts = λ i l.
-            rw (now i) (starts-freed w.receive s.receive start held j n in-starts (flatten (t.messages i)) xs (stream-length _ _ _ _ n) i (t.starts i l));
+            rw (now i) (starts_freed w.receive s.receive start held j n in-starts (flatten (t.messages i)) xs (stream_length _ _ _ _ n) i (t.starts i l));
       }
   held_by (queues j to m xs q o free short fit) = held_same (acted j (gave xs)) refl (λ i. spelled_put _ xs (eqb j i)) refl refl (λ p. p)
   held_by (serves j time bs o who q) = held_same (sent time bs) refl (λ i. no_act) refl refl (λ p. p)
@@ -183,9 +183,9 @@ receives_of past w t =
       messages = λ i l. messages (t.messages i) (t.spelled i) (t.tied.received i l);
       held = λ i l.
           rw (long i)
-          (stream-count w.receive (base_of caps i) (get_or caps i 0) (get_or r.starts i 0) (get_or r.held i 0) (came i) (ms i) (t.tied.received i l));
+          (stream_count w.receive (base_of caps i) (get_or caps i 0) (get_or r.starts i 0) (get_or r.held i 0) (came i) (ms i) (t.tied.received i l));
       starts = λ i l. rw (long i) (t.starts i l);
       places = λ i n l h.
-          stream-place w.receive (base_of caps i) (get_or caps i 0) (get_or r.starts i 0) (get_or r.held i 0) (came i) (ms i)
+          stream_place w.receive (base_of caps i) (get_or caps i 0) (get_or r.starts i 0) (get_or r.held i 0) (came i) (ms i)
           (t.tied.received i l) (t.starts i l) n (rw (long i) at h);
     }

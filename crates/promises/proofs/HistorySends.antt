@@ -11,8 +11,8 @@ use lib.Dec.{eqb}
 use lib.ListN.{length, get_or, get_or-replicate}
 use Rattle.base.proofs.Conds.{by_test}
 use Rattle.ring.specs.Ring.{base_of, stream}
-use Rattle.ring.proofs.Stores.{stream-length}
-use Rattle.ring.proofs.Streams.{stream-count, stream-place, queue-freed, starts-freed, queue-laid}
+use Rattle.ring.proofs.Stores.{stream_length}
+use Rattle.ring.proofs.Streams.{stream_count, stream_place, queue_freed, starts_freed, queue_laid}
 use Rattle.wire.specs.declared.segment.Segment.{Segment}
 use Rattle.wire.specs.Instances.{instances, most, protocol_of, mode_of}
 use Rattle.wire.proofs.InstanceLaws.{at_most}
@@ -88,7 +88,7 @@ module _ (w : World) (g : Good w) (past : Past) (t : Waits w.connection.settings
             rw (now i, sent-same i, t.put i l, append_assoc)
             (ap (λ (r : List ℕ). sent_for s.party i past ++ r)
             (sym
-            (queue-laid w.send s.send c.sending.starts c.sending.waiting j (instances s.party.bundle) xs g.send (send_some g) q.within
+            (queue_laid w.send s.send c.sending.starts c.sending.waiting j (instances s.party.bundle) xs g.send (send_some g) q.within
             (omega (arith, q.within, g.shaped.waiting, at_most s.party.bundle)) room i l)));
         starts = λ i l. rw (sent-same i) (t.starts i l);
       }
@@ -106,10 +106,10 @@ module _ (w : World) (g : Good w) (past : Past) (t : Waits w.connection.settings
         put = λ i k.
             rw (puts-same i, sent-now i k, t.put i k, append_assoc)
             (ap (λ (r : List ℕ). sent_for s.party i past ++ r)
-            (queue-freed w.send s.send start waiting j n in-starts (omega (arith, m.within, g.shaped.waiting, at_most s.party.bundle)) (omega arith) i));
+            (queue_freed w.send s.send start waiting j n in-starts (omega (arith, m.within, g.shaped.waiting, at_most s.party.bundle)) (omega arith) i));
         starts = λ i k.
             rw (sent-now i k)
-            (starts-freed w.send s.send start waiting j n in-starts (sent_for s.party i past) xs (stream-length _ _ _ _ n) i (t.starts i k));
+            (starts_freed w.send s.send start waiting j n in-starts (sent_for s.party i past) xs (stream_length _ _ _ _ n) i (t.starts i k));
       }
 
 pub waits_first : {s : Settings} {receive send : List ℕ} → Opened s receive send → Waits s [] (first s receive send)
@@ -131,10 +131,10 @@ sends_of past w t =
     record {
       put = t.put;
       waiting = λ i l.
-          stream-count w.send (base_of caps i) (get_or caps i 0) (get_or q.starts i 0) (get_or q.waiting i 0) (put_for i past) (sent i) (t.put i l);
+          stream_count w.send (base_of caps i) (get_or caps i 0) (get_or q.starts i 0) (get_or q.waiting i 0) (put_for i past) (sent i) (t.put i l);
       starts = t.starts;
       places = λ i n l.
-          stream-place w.send (base_of caps i) (get_or caps i 0) (get_or q.starts i 0) (get_or q.waiting i 0) (put_for i past) (sent i)
+          stream_place w.send (base_of caps i) (get_or caps i 0) (get_or q.starts i 0) (get_or q.waiting i 0) (put_for i past) (sent i)
           (t.put i l) (t.starts i l) n;
     }
 

@@ -12,7 +12,7 @@ use Rattle.connection.specs.declared.Closing.TheVariants.{Of}
 use Rattle.connection.specs.declared.Gate.{Gate}
 use Rattle.connection.specs.Closings.{closing_of, is_open}
 use Rattle.connection.specs.Parts.{with_gate}
-use Rattle.connection.proofs.ClosingLaws.{closed-stays, closed_so}
+use Rattle.connection.proofs.ClosingLaws.{closed_stays, closed_so}
 use Rattle.feeding.specs.Feeding as feeding
 use Rattle.judging.specs.Judging.{said}
 use Rattle.putting.specs.Putting as putting
@@ -67,7 +67,7 @@ module _ (w : World) (g : Good w) (closed : is_open w.connection.gate ≡ false)
   idle (feeds xs o spelt) = never o
   idle (faults n i) =
       at_rest refl (λ i. refl) refl
-      (ap (λ (q : Gate). record { connection = with_gate w.connection q; receive = w.receive; send = w.send }) (closed-stays w.connection.gate (Of n i) closed))
+      (ap (λ (q : Gate). record { connection = with_gate w.connection q; receive = w.receive; send = w.send }) (closed_stays w.connection.gate (Of n i) closed))
   idle (drops i n to m q fits reads) =
       record {
         comes = refl;

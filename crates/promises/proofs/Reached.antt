@@ -157,7 +157,7 @@ sound_fresh : (s : Settings) (receive send : List ℕ) → Opened s receive send
 sound_fresh s receive send o =
     let n = length receive in
     let m = length send in
-    let (set, long, wide) = opening_laws.opens-done s n m o.done in
+    let (set, long, wide) = opening_laws.opens_done s n m o.done in
     let zero_at = zeros most in
     record {
       reached =

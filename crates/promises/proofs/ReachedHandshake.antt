@@ -15,7 +15,7 @@ use Rattle.wire.specs.declared.instances.Side.TheVariants.{Dialler, Accepter}
 use Rattle.rows.specs.declared.Protocol.{Protocol}
 use Rattle.rows.specs.declared.Protocol.TheVariants.{Handshake}
 use Rattle.rows.specs.declared.Next.TheVariants.{To}
-use Rattle.wire.specs.Instances.{Role, initiator, responder, ofSide, sided, Instance, bundles, known, role_of, initiates}
+use Rattle.wire.specs.Instances.{Role, initiator, responder, of_side, sided, Instance, bundles, known, role_of, initiates}
 use Rattle.wire.proofs.InstanceLaws.{of_instances, at_least}
 use Rattle.rows.specs.Rows.{next_of, place_in, agency_in, agency_of, fits, rows_of}
 use Rattle.rows.specs.Besides.Rows.{row_in}
@@ -61,17 +61,17 @@ all_firstly : T (every [] (λ b xs. every (record { protocol = 0; role = initiat
 unfolding firstly
 all_firstly = tt
 
-side_role : (r : Role) → T (sided r) → r ≡ ofSide
+side_role : (r : Role) → T (sided r) → r ≡ of_side
 side_role initiator t = absurd t
 side_role responder t = absurd t
-side_role ofSide t = refl
+side_role of_side t = refl
 
-first_role : (bundle : ℕ) → known bundle ≡ true → role_of bundle 0 ≡ ofSide
+first_role : (bundle : ℕ) → known bundle ≡ true → role_of bundle 0 ≡ of_side
 unfolding firstly
 first_role bundle k = side_role (role_of bundle 0) (of_instances firstly all_firstly bundle 0 (omega (arith, at_least bundle k)))
 
 -- our agency in Handshake, whose role is our side's in every bundle
-by_side : (side : Side) (limit : ℕ) {state next : ℕ} → Shakes state next → holds (initiates side ofSide) (agency_of Handshake state) ≡ true
+by_side : (side : Side) (limit : ℕ) {state next : ℕ} → Shakes state next → holds (initiates side of_side) (agency_of Handshake state) ≡ true
     → (spare side state limit ≡ limit) × (spare side next limit ≡ 0)
 unfolding spare place_in agency_in
 by_side Dialler limit proposes o = (refl, refl)

@@ -7,7 +7,7 @@ use native.Mathlib.Omega.{arith}
 use lib.ListN.{length, get_or, take, length-append}
 use lib.Seq.{sets, take_at, drop_at}
 use Rattle.ring.specs.Ring.{base_of}
-use Rattle.ring.proofs.Stores.{stream-length, stream-take}
+use Rattle.ring.proofs.Stores.{stream_length, stream_take}
 use Rattle.wire.specs.declared.segment.Segment.{Segment}
 use Rattle.wire.specs.Segments.{header_length, decoded, encoded}
 use Rattle.wire.specs.Instances.{instances}
@@ -17,7 +17,7 @@ use Rattle.connection.specs.declared.Settings.{Settings}
 use Rattle.connection.specs.declared.Connection.{Connection}
 use Rattle.range.proofs.RangeLaws.{ranged}
 use Rattle.sending.specs.NextSegment.{much, headed, payload_of, chosen_of}
-use Rattle.sending.proofs.SendingLaws.{header_long, header-fits}
+use Rattle.sending.proofs.SendingLaws.{header_long, header_fits}
 use Rattle.promises.specs.Calls.{World}
 use Rattle.promises.specs.Reached.{waits, Reached}
 use Rattle.promises.specs.Fairness.{queue, header, payload}
@@ -46,7 +46,7 @@ made_of {w = w} r time buf j small who room =
     let caps : List ℕ = c.settings.send in
     let inside : j < instances c.settings.party.bundle = (chosen_waiting c r.shaped j who).0 in
     let limit = (ranged c r.ranged).set.limit in
-    let long : length (encoded h ++ xs) ≡ header_length + n = length-append (encoded h) xs ∙ rw (header_long h, stream-length) in
+    let long : length (encoded h ++ xs) ≡ header_length + n = length-append (encoded h) xs ∙ rw (header_long h, stream_length) in
     let behind : payload (encoded h ++ xs) ≡ xs = drop_at (encoded h) xs header_length (header_long h) in
     subst (Made w time j) (sym (front buf (encoded h ++ xs) (header_length + n) long room))
     (record {
@@ -54,8 +54,8 @@ made_of {w = w} r time buf j small who room =
       some = (chosen_waiting c r.shaped j who).1;
       reads =
           ap decoded (take_at (encoded h) xs header_length (header_long h))
-          ∙ round_trip.read_written h (header-fits c.settings.party j time n inside small (omega arith));
+          ∙ round_trip.read_written h (header_fits c.settings.party j time n inside small (omega arith));
       carries = behind;
       first =
-          behind ∙ sym (stream-take w.send (base_of caps j) (get_or caps j 0) (get_or c.sending.starts j 0) n (waits w j) (omega arith));
+          behind ∙ sym (stream_take w.send (base_of caps j) (get_or caps j 0) (get_or c.sending.starts j 0) n (waits w j) (omega arith));
     })

@@ -17,7 +17,7 @@ use Rattle.wire.proofs.InstanceLaws.{at_most}
 use Rattle.messages.specs.declared.Message.{Message}
 use Rattle.messages.specs.Reading.{flag_of}
 use Rattle.ring.specs.Ring.{base_of}
-use Rattle.ring.proofs.Stores.{laid-length}
+use Rattle.ring.proofs.Stores.{laid_length}
 use Rattle.connection.specs.declared.Sending.{Sending}
 use Rattle.connection.specs.declared.Connection.{Connection}
 use Rattle.connection.specs.Shapes.{Shaped}
@@ -129,13 +129,13 @@ module _ (c : Connection) (store : List ℕ) (i : ℕ) (xs : List ℕ) where
   answered (stays n ne k e) = ap (λ (t : Told). t.answer.number) (sym e)
   answered (gone m next v f e) = ap (λ (t : Told). t.answer.number) (sym e)
 
-  untouched-by : {n : ℕ} → Way n → (r : Queued) (after : List ℕ) → told r after ≡ out → (r.number ≡ 0 → ⊥)
+  untouched_by : {n : ℕ} → Way n → (r : Queued) (after : List ℕ) → told r after ≡ out → (r.number ≡ 0 → ⊥)
       → (r.connection ≡ c) × (after ≡ store)
-  untouched-by (unfit u e) r after q z =
+  untouched_by (unfit u e) r after q z =
       let p = q ∙ sym e in (ap (λ (t : Told). t.answer.connection) p, ap (λ (t : Told). t.store) p)
-  untouched-by (stays n ne k e) r after q z =
+  untouched_by (stays n ne k e) r after q z =
       let p = q ∙ sym e in (ap (λ (t : Told). t.answer.connection) p, ap (λ (t : Told). t.store) p)
-  untouched-by (gone m next v f e) r after q z = absurd (z (ap (λ (t : Told). t.answer.number) (q ∙ sym e)))
+  untouched_by (gone m next v f e) r after q z = absurd (z (ap (λ (t : Told). t.answer.number) (q ∙ sym e)))
 
 pub exactly : Exactly
 exactly c store i xs n =
@@ -144,7 +144,7 @@ exactly c store i xs n =
     exactly_when (When c store i xs) (is k w) w (is n)
 
 pub untouched : Untouched
-untouched c store i xs = let (n, w) = way c store i xs in untouched-by c store i xs w
+untouched c store i xs = let (n, w) = way c store i xs in untouched_by c store i xs w
 
 -- ---- the range
 
@@ -195,7 +195,7 @@ module _ (c : Connection) (s : Shaped c) (r : RangeLaws.Ranged c) (i n : ℕ) (i
 stored_long : (c : Connection) (store : List ℕ) (i : ℕ) (xs : List ℕ) → length (stored c store i xs) ≡ length store
 stored_long c store i xs =
     let caps = c.settings.send in
-    laid-length store (base_of caps i) (get_or caps i 0) (get_or c.sending.starts i 0 + get_or c.sending.waiting i 0) xs
+    laid_length store (base_of caps i) (get_or caps i 0) (get_or c.sending.starts i 0 + get_or c.sending.waiting i 0) xs
 
 -- the message is queued and the state moves: the record is in range after the first, and so after the second
 module _ (c : Connection) (store : List ℕ) (i : ℕ) (xs : List ℕ) (s : Shaped c) (r : sends c (length store) ≡ true) where

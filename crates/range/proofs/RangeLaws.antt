@@ -24,8 +24,8 @@ use Rattle.range.specs.Inside.{Spans}
 use Rattle.range.specs.Ranges.{limit_ok, capacity_ok, capacities_ok, settings_ok, area_ok, state_ok, turn_ok, header_ok, accept_ok, instance_ok, in_range, receive_length, send_length, receives, sends}
 
 -- a sum within a capacity
-pub fits-left : (a b c : ℕ) → a ≤ c → leb (a + b) c ≡ leb b (c - a)
-fits-left a b c h =
+pub fits_left : (a b c : ℕ) → a ≤ c → leb (a + b) c ≡ leb b (c - a)
+fits_left a b c h =
     by_test (leb b (c - a)) (λ t. let q : b ≤ c - a = leb-true b (c - a) t in le-leb (a + b) c (omega arith) ∙ sym t)
     (λ t. let q : c - a < b = leb-false b (c - a) t in lt-leb (a + b) c (omega arith) ∙ sym t)
 
@@ -192,7 +192,7 @@ is_in_range c k =
           )),
       turn_is n w.turn k.turn,
       header_is n s.receive r k.header k.under_way,
-      accept-is b t k.accepted,
+      accept_is b t k.accepted,
       k.closing,
     )
   where
@@ -209,8 +209,8 @@ is_in_range c k =
         let (none, one_of, fit) = u (omega arith) in
         rw (lt-ltb r.header.count header_length h, q, eq-eqb r.header.count 0 none, lt-ltb r.instance n one_of, le-leb _ _ fit))
 
-    accept-is : (b : ℕ) (t : Talk) → (t.accepted ≡ true → get_or t.states 0 0 ≡ done_of (speaks b 0)) → accept_ok b t.accepted t.states ≡ true
-    accept-is b t h = by_test t.accepted (λ q. rw (q, eq-eqb (get_or t.states 0 0) (done_of (speaks b 0)) (h q))) (λ q. rw q)
+    accept_is : (b : ℕ) (t : Talk) → (t.accepted ≡ true → get_or t.states 0 0 ≡ done_of (speaks b 0)) → accept_ok b t.accepted t.states ≡ true
+    accept_is b t h = by_test t.accepted (λ q. rw (q, eq-eqb (get_or t.states 0 0) (done_of (speaks b 0)) (h q))) (λ q. rw q)
 
 -- ---- a record in range with the store that is lent, of n bytes
 

@@ -113,19 +113,19 @@ waits_bit : (n : ℕ) → eqb (bit_of n) 1 ≡ ltb 0 n
 waits_bit zero = refl
 waits_bit (suc n) = rw (ne_eqb (suc n) 0 (λ e. omega arith), lt-ltb 0 (suc n) (omega arith))
 
-set-waits : (ws : List ℕ) (i : ℕ) → i < length ws → bit_set (word_of ws) i ≡ ltb 0 (get_or ws i 0)
-set-waits ws i h = rw (bit_by_bit ws i h) (waits_bit (get_or ws i 0))
+set_waits : (ws : List ℕ) (i : ℕ) → i < length ws → bit_set (word_of ws) i ≡ ltb 0 (get_or ws i 0)
+set_waits ws i h = rw (bit_by_bit ws i h) (waits_bit (get_or ws i 0))
 
 pub after_low : (n i : ℕ) → 1 < n → i < n → after_of n i < n
 after_low n i two h = cond_cases (λ (k : ℕ). k < n) (eqb (i + 1) n) (λ t. two) (λ t. omega (arith, eqb-false (i + 1) n t))
 
-seek-word : (ws : List ℕ) (i k : ℕ) → 1 < length ws → i < length ws → seek_in (length ws) (word_of ws) i k ≡ seek ws i k
+seek_word : (ws : List ℕ) (i k : ℕ) → 1 < length ws → i < length ws → seek_in (length ws) (word_of ws) i k ≡ seek ws i k
 unfolding seek_in seek
-seek-word ws i zero two h = refl
-seek-word ws i (suc k) two h = rw (set-waits ws i h, seek-word ws (after_of (length ws) i) k two (after_low (length ws) i two h))
+seek_word ws i zero two h = refl
+seek_word ws i (suc k) two h = rw (set_waits ws i h, seek_word ws (after_of (length ws) i) k two (after_low (length ws) i two h))
 
-pub chosen-word : (ws : List ℕ) (turn : ℕ) → 1 < length ws → turn < length ws → chosen_in (length ws) (word_of ws) turn ≡ chosen ws turn
-chosen-word ws turn two h = rw (set-waits ws 0 (omega arith), seek-word ws turn (length ws - 1) two h)
+pub chosen_word : (ws : List ℕ) (turn : ℕ) → 1 < length ws → turn < length ws → chosen_in (length ws) (word_of ws) turn ≡ chosen ws turn
+chosen_word ws turn two h = rw (set_waits ws 0 (omega arith), seek_word ws turn (length ws - 1) two h)
 
 -- whoever is chosen is an instance
 abbrev pub Low : ℕ → Choice → Type 0
@@ -189,14 +189,14 @@ seek_round ws (suc m) i k n e =
     seek_round ws m (suc i) k (omega arith) (rw (after_next (length ws) i (omega arith)) at (seek_first ws i (suc m + k) e').1)
 
 -- where nobody waits, a search finds nobody
-seek-none : (ws : List ℕ) → ((i : ℕ) → i < length ws → get_or ws i 0 ≡ 0) → 1 < length ws → (k i : ℕ) → i < length ws → seek ws i k ≡ Nobody
+seek_none : (ws : List ℕ) → ((i : ℕ) → i < length ws → get_or ws i 0 ≡ 0) → 1 < length ws → (k i : ℕ) → i < length ws → seek ws i k ≡ Nobody
 unfolding seek
-seek-none ws none two zero i h = refl
-seek-none ws none two (suc k) i h =
-    rw (le-ltb 0 (get_or ws i 0) (omega (arith, none i h))) (seek-none ws none two k (after_of (length ws) i) (after_low (length ws) i two h))
+seek_none ws none two zero i h = refl
+seek_none ws none two (suc k) i h =
+    rw (le-ltb 0 (get_or ws i 0) (omega (arith, none i h))) (seek_none ws none two k (after_of (length ws) i) (after_low (length ws) i two h))
 
-pub nobody-waits : NobodyWaits
-nobody-waits ws turn low high = (to, from)
+pub nobody_waits : NobodyWaits
+nobody_waits ws turn low high = (to, from)
   where
     to : chosen ws turn ≡ Nobody → (i : ℕ) → i < length ws → get_or ws i 0 ≡ 0
     to e i h =
@@ -211,24 +211,24 @@ nobody-waits ws turn low high = (to, from)
         (λ l. seek_up ws (length ws - 1) turn s i (ltb-false i turn l) h (omega arith))))
 
     from : ((i : ℕ) → i < length ws → get_or ws i 0 ≡ 0) → chosen ws turn ≡ Nobody
-    from none = rw (le-ltb 0 (get_or ws 0 0) (omega (arith, none 0 (omega arith)))) (seek-none ws none (omega arith) (length ws - 1) turn high)
+    from none = rw (le-ltb 0 (get_or ws 0 0) (omega (arith, none 0 (omega arith)))) (seek_none ws none (omega arith) (length ws - 1) turn high)
 
 pub same_instance : (i j : ℕ) → Instance i ≡ Instance j → i ≡ j
 same_instance i j e = cc
 
 -- whoever a search finds has bytes waiting
-seek-some : (ws : List ℕ) (k i j : ℕ) → seek ws i k ≡ Instance j → 0 < get_or ws j 0
+seek_some : (ws : List ℕ) (k i j : ℕ) → seek ws i k ≡ Instance j → 0 < get_or ws j 0
 unfolding seek
-seek-some ws zero i j e = absurd (let z : ◌≡◌ {A = ℕ} 0 1 = cc in omega arith)
-seek-some ws (suc k) i j e =
+seek_some ws zero i j e = absurd (let z : ◌≡◌ {A = ℕ} 0 1 = cc in omega arith)
+seek_some ws (suc k) i j e =
     by_test (ltb 0 (get_or ws i 0)) (λ t. rw (← same_instance i j (rw t at e)) (ltb-true 0 (get_or ws i 0) t))
-    (λ t. seek-some ws k (after_of (length ws) i) j (rw t at e))
+    (λ t. seek_some ws k (after_of (length ws) i) j (rw t at e))
 
 -- and what is not 0 is an entry
-pub chosen-waits : ChosenWaits
-chosen-waits ws turn i e =
+pub chosen_waits : ChosenWaits
+chosen_waits ws turn i e =
     let some : 0 < get_or ws i 0 =
     by_test (ltb 0 (get_or ws 0 0)) (λ t. rw (← same_instance 0 i (rw t at e)) (ltb-true 0 (get_or ws 0 0) t))
-    (λ t. seek-some ws (length ws - 1) turn i (rw t at e)) in
+    (λ t. seek_some ws (length ws - 1) turn i (rw t at e)) in
     by_test (ltb i (length ws)) (λ l. (ltb-true i (length ws) l, some))
     (λ l. absurd (omega (arith, get_or-eq_default ws 0 {n = i} (ltb-false i (length ws) l))))

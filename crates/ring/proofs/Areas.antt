@@ -45,10 +45,10 @@ areas_apart caps i j other p q = elim (dec_lt i j) [
 ]
 
 -- so the stream in an area is not touched by what is written to another
-pub stream-stays : (s caps : List ℕ) (i j n k m : ℕ) (xs : List ℕ) → i ≢ j → 0 < get_or caps i 0 → 0 < get_or caps j 0
+pub stream_stays : (s caps : List ℕ) (i j n k m : ℕ) (xs : List ℕ) → i ≢ j → 0 < get_or caps i 0 → 0 < get_or caps j 0
     → stream (laid s (base_of caps j) (get_or caps j 0) m xs) (base_of caps i) (get_or caps i 0) n k
     ≡ stream s (base_of caps i) (get_or caps i 0) n k
-stream-stays s caps i j n k m xs other h h' =
+stream_stays s caps i j n k m xs other h h' =
     stream_elsewhere s (base_of caps i) (get_or caps i 0) n k (base_of caps j) (get_or caps j 0) m xs h h' (areas_apart caps i j other)
 
 -- areas of at most m bytes

@@ -11,11 +11,11 @@ use lib.Seq.{take-take, get_or-take, get_or-drop, get_or-append-add, ext_get_or,
 use Rattle.ring.specs.Ring.{stream, run}
 use Rattle.ring.specs.Inside.{around}
 use Rattle.ring.proofs.Runs.{run_length}
-use Rattle.ring.proofs.Stores.{stream-length, stream_at}
+use Rattle.ring.proofs.Stores.{stream_length, stream_at}
 
-pub around-length : (xs : List ℕ) (i k : ℕ) → k ≤ length xs → length (around xs i k) ≡ k
+pub around_length : (xs : List ℕ) (i k : ℕ) → k ≤ length xs → length (around xs i k) ≡ k
 unfolding around
-around-length xs i k h = simp (length-take, length-append, length-drop) (omega arith)
+around_length xs i k h = simp (length-take, length-append, length-drop) (omega arith)
 
 -- before the end, and behind it
 pub around_near : (xs : List ℕ) (i k j : ℕ) → j < k → j < length xs - i → get_or (around xs i k) j 0 ≡ get_or xs (i + j) 0
@@ -32,9 +32,9 @@ around_far xs i k j h l =
     ∙ get_or-append-add (drop i xs) xs (j - (length xs - i)) 0
 
 -- fewer bytes are the first of them
-pub around-take : (xs : List ℕ) (i j k : ℕ) → j ≤ k → take j (around xs i k) ≡ around xs i j
+pub around_take : (xs : List ℕ) (i j k : ℕ) → j ≤ k → take j (around xs i k) ≡ around xs i j
 unfolding around
-around-take xs i j k h = take-take j k (drop i xs ++ xs) h
+around_take xs i j k h = take-take j k (drop i xs ++ xs) h
 
 -- a list read from its front to its end does not go around
 pub around_all : (xs : List ℕ) → around xs 0 (length xs) ≡ xs
@@ -51,17 +51,17 @@ place_far c n j low l h =
     sym (mod-add-mod n c j) ∙ mod-eq-sub-mod h ∙ mod-eq_of_lt (omega arith) ∙ e
 
 -- the bytes of a stream are those of its area from place n mod c on, around
-pub stream-around : (s : List ℕ) (b c n k : ℕ) → 0 < c → k ≤ c → b + c ≤ length s
+pub stream_around : (s : List ℕ) (b c n k : ℕ) → 0 < c → k ≤ c → b + c ≤ length s
     → stream s b c n k ≡ around (run s b c) (n % c) k
-stream-around s b c n k h l fits =
+stream_around s b c n k h l fits =
     let r : ℕ = n % c in
     let low : r < c = mod-lt n h in
     let area : List ℕ = run s b c in
     let long : length area ≡ c = run_length s b c fits in
     let in_area : (j : ℕ) → j < c → get_or area j 0 ≡ get_or s (b + j) 0 = λ j q. get_or-take c (drop b s) j 0 q ∙ get_or-drop b s j 0 in
-    ext_get_or 0 (stream s b c n k) (around area r k) (stream-length s b c n k ∙ sym (around-length area r k (omega arith)))
+    ext_get_or 0 (stream s b c n k) (around area r k) (stream_length s b c n k ∙ sym (around_length area r k (omega arith)))
     (λ j q.
-    let in-k : j < k = rw stream-length at q in
+    let in-k : j < k = rw stream_length at q in
     stream_at s b c n k j in-k
     ∙ elim (dec_lt j (c - r)) [
       | yes y ↦

@@ -12,14 +12,14 @@ use Rattle.ring.proofs.Runs.{run_length, run-append}
 use Rattle.ring.proofs.Stores.{stream_straight, stream_wraps, laid_straight, laid_wraps}
 
 module _ (s : List ℕ) (b c n r : ℕ) (at : r ≡ n % c) (src : List ℕ) (i k : ℕ) (in_src : i + k ≤ length src) where
-  pub written-straight : {t : List ℕ} → r + k ≤ c → t ≡ sets s (b + r) (run src i k) → t ≡ laid s b c n (run src i k)
-  written-straight h e =
+  pub written_straight : {t : List ℕ} → r + k ≤ c → t ≡ sets s (b + r) (run src i k) → t ≡ laid s b c n (run src i k)
+  written_straight h e =
       e ∙ rw (at, laid_straight s b c n (run src i k) (omega (arith, run_length src i k in_src)))
 
-  pub written-wraps : {t u : List ℕ} → r < c → c - r < k → k ≤ c
+  pub written_wraps : {t u : List ℕ} → r < c → c - r < k → k ≤ c
       → t ≡ sets s (b + r) (run src i (c - r)) → u ≡ sets t b (run src (i + (c - r)) (k - (c - r)))
       → u ≡ laid s b c n (run src i k)
-  written-wraps low more h e e' =
+  written_wraps low more h e e' =
       let j : ℕ = c - r in
       let front : List ℕ = run src i j in
       let rest : List ℕ = run src (i + j) (k - j) in
@@ -32,13 +32,13 @@ module _ (s : List ℕ) (b c n r : ℕ) (at : r ≡ n % c) (src : List ℕ) (i k
       ∙ ap (laid s b c n) (sym (run-append src i j (k - j)) ∙ ap (run src i) whole)
 
 module _ (d : List ℕ) (to : ℕ) (s : List ℕ) (b c n r : ℕ) (at : r ≡ n % c) (k : ℕ) (in_store : b + c ≤ length s) where
-  pub read-straight : {t : List ℕ} → r + k ≤ c → t ≡ sets d to (run s (b + r) k) → t ≡ sets d to (stream s b c n k)
-  read-straight h e = e ∙ rw (at, stream_straight s b c n k (omega arith) in_store)
+  pub read_straight : {t : List ℕ} → r + k ≤ c → t ≡ sets d to (run s (b + r) k) → t ≡ sets d to (stream s b c n k)
+  read_straight h e = e ∙ rw (at, stream_straight s b c n k (omega arith) in_store)
 
-  pub read-wraps : {t u : List ℕ} → r < c → c - r < k → k ≤ c
+  pub read_wraps : {t u : List ℕ} → r < c → c - r < k → k ≤ c
       → t ≡ sets d to (run s (b + r) (c - r)) → u ≡ sets t (to + (c - r)) (run s b (k - (c - r)))
       → u ≡ sets d to (stream s b c n k)
-  read-wraps low more h e e' =
+  read_wraps low more h e e' =
       let j : ℕ = c - r in
       let front : List ℕ = run s (b + r) j in
       let rest : List ℕ = run s b (k - j) in

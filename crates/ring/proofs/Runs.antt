@@ -34,8 +34,8 @@ pub sets_on : (l xs : List ℕ) (to i j k : ℕ) {t u : List ℕ} → i + j ≤ 
 sets_on l xs to i j k h e e' = e' ∙ rw (e, run-append, sets_append, run_length xs i j h)
 
 -- a run that was stored is there
-pub run-sets : (l : List ℕ) (i : ℕ) (xs : List ℕ) → i + length xs ≤ length l → run (sets l i xs) i (length xs) ≡ xs
-run-sets l i xs h =
+pub run_sets : (l : List ℕ) (i : ℕ) (xs : List ℕ) → i + length xs ≤ length l → run (sets l i xs) i (length xs) ≡ xs
+run_sets l i xs h =
     let rest : List ℕ = drop (i + length xs) l in
     ap (λ (r : List ℕ). run r i (length xs)) (sets-eq xs l i h)
     ∙ ap (λ (r : List ℕ). run r i (length xs)) (append_assoc (take i l) xs rest)
@@ -47,5 +47,5 @@ pub sets_through : (l d xs : List ℕ) (to i k : ℕ) {t u : List ℕ} → i + k
     → t ≡ sets l 0 (run xs i k) → u ≡ sets d to (run t 0 k) → u ≡ sets d to (run xs i k)
 sets_through l d xs to i k h h' e e' =
     let long : length (run xs i k) ≡ k = run_length xs i k h in
-    let there : run (sets l 0 (run xs i k)) 0 (length (run xs i k)) ≡ run xs i k = run-sets l 0 (run xs i k) (omega arith) in
+    let there : run (sets l 0 (run xs i k)) 0 (length (run xs i k)) ≡ run xs i k = run_sets l 0 (run xs i k) (omega arith) in
     e' ∙ ap (λ (r : List ℕ). sets d to (run r 0 k)) e ∙ ap (sets d to) (rw long at there)

@@ -32,10 +32,10 @@ apart c n d p l e = elim (dec_lt (n / c) ((n + d) / c)) [
 
 -- ---- reading
 
-pub stream-length : (s : List ℕ) (b c n k : ℕ) → length (stream s b c n k) ≡ k
+pub stream_length : (s : List ℕ) (b c n k : ℕ) → length (stream s b c n k) ≡ k
 unfolding stream
-stream-length s b c n zero = refl
-stream-length s b c n (suc k) = ap suc (stream-length s b c (suc n) k)
+stream_length s b c n zero = refl
+stream_length s b c n (suc k) = ap suc (stream_length s b c (suc n) k)
 
 -- byte j of what is read
 pub stream_at : (s : List ℕ) (b c n k j : ℕ) → j < k → get_or (stream s b c n k) j 0 ≡ get_or s (b + (n + j) % c) 0
@@ -45,10 +45,10 @@ stream_at s b c n (suc k) zero l = rw add-zero
 stream_at s b c n (suc k) (suc j) l = stream_at s b c (suc n) k j (omega arith) ∙ rw (suc-add, ← add-suc)
 
 -- only n mod c counts
-pub stream-same : (s : List ℕ) (b c n m k : ℕ) → n % c ≡ m % c → stream s b c n k ≡ stream s b c m k
+pub stream_same : (s : List ℕ) (b c n m k : ℕ) → n % c ≡ m % c → stream s b c n k ≡ stream s b c m k
 unfolding stream
-stream-same s b c n m zero e = refl
-stream-same s b c n m (suc k) e = rw (e, stream-same s b c (suc n) (suc m) k (same_next c n m e))
+stream_same s b c n m zero e = refl
+stream_same s b c n m (suc k) e = rw (e, stream_same s b c (suc n) (suc m) k (same_next c n m e))
 
 pub stream_append : (s : List ℕ) (b c n j k : ℕ) → stream s b c n (j + k) ≡ stream s b c n j ++ stream s b c (n + j) k
 unfolding stream
@@ -57,19 +57,19 @@ stream_append s b c n (suc j) k =
     rw suc-add (ap (λ (r : List ℕ). get_or s (b + n % c) 0 ∷ r) (stream_append s b c (suc n) j k ∙ rw (suc-add, ← add-suc)))
 
 -- the first j bytes of what is read, and the others: what is left when j bytes are freed
-pub stream-take : (s : List ℕ) (b c n j k : ℕ) → j ≤ k → take j (stream s b c n k) ≡ stream s b c n j
-stream-take s b c n j k h =
+pub stream_take : (s : List ℕ) (b c n j k : ℕ) → j ≤ k → take j (stream s b c n k) ≡ stream s b c n j
+stream_take s b c n j k h =
     let e : k ≡ j + (k - j) = omega arith in
     ap (λ (m : ℕ). take j (stream s b c n m)) e
     ∙ ap (take j) (stream_append s b c n j (k - j))
-    ∙ take_at (stream s b c n j) (stream s b c (n + j) (k - j)) j (stream-length s b c n j)
+    ∙ take_at (stream s b c n j) (stream s b c (n + j) (k - j)) j (stream_length s b c n j)
 
-pub stream-drop : (s : List ℕ) (b c n j k : ℕ) → j ≤ k → drop j (stream s b c n k) ≡ stream s b c (n + j) (k - j)
-stream-drop s b c n j k h =
+pub stream_drop : (s : List ℕ) (b c n j k : ℕ) → j ≤ k → drop j (stream s b c n k) ≡ stream s b c (n + j) (k - j)
+stream_drop s b c n j k h =
     let e : k ≡ j + (k - j) = omega arith in
     ap (λ (m : ℕ). drop j (stream s b c n m)) e
     ∙ ap (drop j) (stream_append s b c n j (k - j))
-    ∙ drop_at (stream s b c n j) (stream s b c (n + j) (k - j)) j (stream-length s b c n j)
+    ∙ drop_at (stream s b c n j) (stream s b c (n + j) (k - j)) j (stream_length s b c n j)
 
 stream_low : (s : List ℕ) (b c n k : ℕ) → n + k ≤ c → b + c ≤ length s → stream s b c n k ≡ run s (b + n) k
 unfolding stream
@@ -80,21 +80,21 @@ stream_low s b c n (suc k) h l =
 
 -- bytes that do not come to the area's end lie straight
 pub stream_straight : (s : List ℕ) (b c n k : ℕ) → n % c + k ≤ c → b + c ≤ length s → stream s b c n k ≡ run s (b + n % c) k
-stream_straight s b c n k h l = stream-same s b c n (n % c) k (sym (mod-mod n c)) ∙ stream_low s b c (n % c) k h l
+stream_straight s b c n k h l = stream_same s b c n (n % c) k (sym (mod-mod n c)) ∙ stream_low s b c (n % c) k h l
 
 -- bytes that come to the area's end go on at its front
 pub stream_wraps : (s : List ℕ) (b c n j k : ℕ) → n % c + j ≡ c → k ≤ c → b + c ≤ length s
     → stream s b c n (j + k) ≡ run s (b + n % c) j ++ run s b k
 stream_wraps s b c n j k e h l =
-    let on : stream s b c (n + j) k ≡ run s (b + 0) k = stream-same s b c (n + j) 0 k (round c n j e) ∙ stream_low s b c 0 k (omega arith) l in
+    let on : stream s b c (n + j) k ≡ run s (b + 0) k = stream_same s b c (n + j) 0 k (round c n j e) ∙ stream_low s b c 0 k (omega arith) l in
     rw (stream_append, stream_straight s b c n j (omega arith) l, on, add-zero)
 
 -- ---- writing
 
-pub laid-length : (s : List ℕ) (b c n : ℕ) (xs : List ℕ) → length (laid s b c n xs) ≡ length s
+pub laid_length : (s : List ℕ) (b c n : ℕ) (xs : List ℕ) → length (laid s b c n xs) ≡ length s
 unfolding laid
-laid-length s b c n [] = refl
-laid-length s b c n (x ∷ xs) = laid-length (set s (b + n % c) x) b c (suc n) xs ∙ length-set s (b + n % c) x
+laid_length s b c n [] = refl
+laid_length s b c n (x ∷ xs) = laid_length (set s (b + n % c) x) b c (suc n) xs ∙ length-set s (b + n % c) x
 
 -- only n mod c counts
 pub laid_same : (s : List ℕ) (b c n m : ℕ) (xs : List ℕ) → n % c ≡ m % c → laid s b c n xs ≡ laid s b c m xs
@@ -166,18 +166,18 @@ stream_ext s t b c n (suc k) h =
     rw (rw add-zero at (h 0 (omega arith)), stream_ext s t b c (suc n) k (λ j l. rw (suc-add, ← add-suc) (h (suc j) (omega arith))))
 
 -- what was written is read back
-pub stream-laid : (s : List ℕ) (b c n : ℕ) (xs : List ℕ) → length xs ≤ c → b + c ≤ length s
+pub stream_laid : (s : List ℕ) (b c n : ℕ) (xs : List ℕ) → length xs ≤ c → b + c ≤ length s
     → stream (laid s b c n xs) b c n (length xs) ≡ xs
-stream-laid s b c n xs h l =
-    ext_get_or 0 (stream (laid s b c n xs) b c n (length xs)) xs (stream-length (laid s b c n xs) b c n (length xs))
+stream_laid s b c n xs h l =
+    ext_get_or 0 (stream (laid s b c n xs) b c n (length xs)) xs (stream_length (laid s b c n xs) b c n (length xs))
     (λ j q.
-    let j-in : j < length xs = rw stream-length at q in
+    let j-in : j < length xs = rw stream_length at q in
     stream_at (laid s b c n xs) b c n (length xs) j j-in ∙ laid_hits s b c n xs j j-in h l)
 
 -- k bytes are not touched by what is written behind them, within the capacity
-pub stream-kept : (s : List ℕ) (b c n k : ℕ) (xs : List ℕ) → k + length xs ≤ c
+pub stream_kept : (s : List ℕ) (b c n k : ℕ) (xs : List ℕ) → k + length xs ≤ c
     → stream (laid s b c (n + k) xs) b c n k ≡ stream s b c n k
-stream-kept s b c n k xs h =
+stream_kept s b c n k xs h =
     stream_ext (laid s b c (n + k) xs) s b c n k
     (λ j l.
     elsewhere s b c (n + k) xs (b + (n + j) % c)
@@ -186,10 +186,10 @@ stream-kept s b c n k xs h =
     apart c (n + j) (k + i - j) (omega arith) (omega arith) (rw far (omega arith))))
 
 -- so they are read with what was written behind them
-pub stream-behind : (s : List ℕ) (b c n k : ℕ) (xs : List ℕ) → k + length xs ≤ c → b + c ≤ length s
+pub stream_behind : (s : List ℕ) (b c n k : ℕ) (xs : List ℕ) → k + length xs ≤ c → b + c ≤ length s
     → stream (laid s b c (n + k) xs) b c n (k + length xs) ≡ stream s b c n k ++ xs
-stream-behind s b c n k xs h l =
-    rw (stream_append, stream-kept s b c n k xs h, stream-laid s b c (n + k) xs (omega arith) l)
+stream_behind s b c n k xs h l =
+    rw (stream_append, stream_kept s b c n k xs h, stream_laid s b c (n + k) xs (omega arith) l)
 
 -- a stream is not touched by what is written to another area
 pub stream_elsewhere : (s : List ℕ) (b c n k b' c' n' : ℕ) (xs : List ℕ) → 0 < c → 0 < c' → (b' < b + c → b < b' + c' → ⊥)

@@ -14,7 +14,7 @@ use Rattle.base.proofs.ListLaws.{get_or-map}
 use Rattle.base.proofs.Table.{every, at}
 use Rattle.rows.specs.declared.Protocol.{Protocol}
 use Rattle.rows.specs.declared.Protocol.TheVariants.{Handshake, ChainSync, BlockFetch, TxSubmission, KeepAlive, LocalTxSubmission, LocalStateQuery}
-use Rattle.rows.specs.Inside.{place_of, protocols, entries, table, firstIn, countIn}
+use Rattle.rows.specs.Inside.{place_of, protocols, entries, table, first_in, count_in}
 
 -- each protocol stands at its place
 placed : (p : Protocol) → (place_of p < length protocols) × (get_or protocols (place_of p) Handshake ≡ p)
@@ -72,21 +72,21 @@ module _ {A : Type 0} (of : Protocol → List A) where
       ∙ joined (take (place_of p) protocols) (get_or protocols (place_of p) Handshake ∷ drop (suc (place_of p)) protocols)
       ∙ ap (λ (q : Protocol). front p ++ (of q ++ behind p)) (placed p).1
 
-  pub ends : (p : Protocol) → firstIn of p + countIn of p ≤ length (table of)
+  pub ends : (p : Protocol) → first_in of p + count_in of p ≤ length (table of)
   ends p = omega (arith, ap length (parts p) ∙ length-append (front p) (of p ++ behind p), length-append (of p) (behind p))
 
-  lie : (p : Protocol) → take (countIn of p) (drop (firstIn of p) (table of)) ≡ of p
+  lie : (p : Protocol) → take (count_in of p) (drop (first_in of p) (table of)) ≡ of p
   lie p =
-      ap (λ (l : List A). take (countIn of p) (drop (firstIn of p) l)) (parts p)
-      ∙ ap (take (countIn of p)) (drop-append_seam (front p) (of p ++ behind p))
+      ap (λ (l : List A). take (count_in of p) (drop (first_in of p) l)) (parts p)
+      ∙ ap (take (count_in of p)) (drop-append_seam (front p) (of p ++ behind p))
       ∙ take-append_seam (of p) (behind p)
 
   -- the entries from i up to the end e
   abbrev between : ℕ → ℕ → List A
   between i e = take (e - i) (drop i (table of))
 
-  between-all : (p : Protocol) (a n : ℕ) → a ≡ firstIn of p → n ≡ countIn of p → between a (a + n) ≡ of p
-  between-all p a n e f =
+  between_all : (p : Protocol) (a n : ℕ) → a ≡ first_in of p → n ≡ count_in of p → between a (a + n) ≡ of p
+  between_all p a n e f =
       let k : a + n - a ≡ n = omega arith in
       rw (k, e, f) (lie p)
 
@@ -106,7 +106,7 @@ module _ {A : Type 0} (of : Protocol → List A) where
       pub same : s.along (between i e) ≡ s.along (between a e)
 
     -- it begins at a protocol's first entry
-    pub begun : (p : Protocol) {a n : ℕ} → a ≡ firstIn of p → n ≡ countIn of p → Come a (a + n) a
+    pub begun : (p : Protocol) {a n : ℕ} → a ≡ first_in of p → n ≡ count_in of p → Come a (a + n) a
     begun p from size = record { up_to = omega arith; inside = omega (arith, ends p); same = refl }
 
     abbrev here : ℕ → A
@@ -118,11 +118,11 @@ module _ {A : Type 0} (of : Protocol → List A) where
     pub onward : {a e i : ℕ} → Come a e i → i < e → s.test (here i) ≡ false → Come a e (i + 1)
     onward {a} {e} {i} k m t = record { up_to = omega arith; inside = k.inside; same = sym (rw t at (tests i e m k.inside)) ∙ k.same }
 
-    module _ (p : Protocol) {a n i : ℕ} (from : a ≡ firstIn of p) (size : n ≡ countIn of p) (come : Come a (a + n) i) where
+    module _ (p : Protocol) {a n i : ℕ} (from : a ≡ first_in of p) (size : n ≡ count_in of p) (come : Come a (a + n) i) where
       pub found : i < a + n → s.test (here i) ≡ true → s.said (here i) ≡ s.along (of p)
-      found m t = sym (rw t at (tests i (a + n) m come.inside)) ∙ come.same ∙ ap s.along (between-all p a n from size)
+      found m t = sym (rw t at (tests i (a + n) m come.inside)) ∙ come.same ∙ ap s.along (between_all p a n from size)
 
       pub none_found : (i < a + n → ⊥) → s.along [] ≡ s.along (of p)
       none_found m =
           let e : i ≡ a + n = omega arith in
-          sym (ap s.along (ap (λ (k : ℕ). between k (a + n)) e ∙ between_none (a + n))) ∙ come.same ∙ ap s.along (between-all p a n from size)
+          sym (ap s.along (ap (λ (k : ℕ). between k (a + n)) e ∙ between_none (a + n))) ∙ come.same ∙ ap s.along (between_all p a n from size)

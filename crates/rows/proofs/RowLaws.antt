@@ -34,12 +34,12 @@ module _ (s k f : ℕ) where
   leading = record { past = nothing; test = fits s k f; said = λ r. To r.next; along = next_in s k f; each = each_next }
 
 module _ (s : ℕ) where
-  pub each-agent : (r : Row) (rs : List Row) → agency_in s (r ∷ rs) ≡ cond (eqb r.state s) r.agency (agency_in s rs)
+  pub each_agent : (r : Row) (rs : List Row) → agency_in s (r ∷ rs) ≡ cond (eqb r.state s) r.agency (agency_in s rs)
   unfolding agency_in
-  each-agent r rs = refl
+  each_agent r rs = refl
 
   abbrev pub holding : Search Row Agency
-  holding = record { past = nothing; test = λ r. eqb r.state s; said = λ r. r.agency; along = agency_in s; each = each-agent }
+  holding = record { past = nothing; test = λ r. eqb r.state s; said = λ r. r.agency; along = agency_in s; each = each_agent }
 
 -- agencies, told apart by their numbers
 same_agency : Agency → Agency → Bool
@@ -63,13 +63,13 @@ abbrev in_table : ℕ → ℕ
 in_table i = get_or (map in_one all_rows) i 0
 
 module _ (i : ℕ) (h : i < row_count) where
-  pub state-at : state_in (in_table i) ≡ (row_at i).state
+  pub state_at : state_in (in_table i) ≡ (row_at i).state
   unfolding entries place_in
-  state-at = column all_rows nothing in_one state_in (λ r. r.state) tt i h
+  state_at = column all_rows nothing in_one state_in (λ r. r.state) tt i h
 
-  pub agent-at : agent_in (in_table i) ≡ (row_at i).agency
+  pub agent_at : agent_in (in_table i) ≡ (row_at i).agency
   unfolding entries place_in same_agency
-  agent-at = same_agency_lem (agent_in (in_table i)) (row_at i).agency (entry all_rows nothing in_one (λ n r. same_agency (agent_in n) r.agency) tt i h)
+  agent_at = same_agency_lem (agent_in (in_table i)) (row_at i).agency (entry all_rows nothing in_one (λ n r. same_agency (agent_in n) r.agency) tt i h)
 
   kind_at : kind_in (in_table i) ≡ (row_at i).kind
   unfolding entries place_in
@@ -79,12 +79,12 @@ module _ (i : ℕ) (h : i < row_count) where
   unfolding entries place_in
   flag_at = column all_rows nothing in_one flag_in (λ r. r.flag) tt i h
 
-  pub next-at : leads_in (in_table i) ≡ (row_at i).next
+  pub next_at : leads_in (in_table i) ≡ (row_at i).next
   unfolding entries place_in
-  next-at = column all_rows nothing in_one leads_in (λ r. r.next) tt i h
+  next_at = column all_rows nothing in_one leads_in (λ r. r.next) tt i h
 
-  pub suits-at : (s k f : ℕ) → suits s k f (in_table i) ≡ fits s k f (row_at i)
-  suits-at s k f = cc (state-at, kind_at, flag_at)
+  pub suits_at : (s k f : ℕ) → suits s k f (in_table i) ≡ fits s k f (row_at i)
+  suits_at s k f = cc (state_at, kind_at, flag_at)
 
 -- ---- T8, by tests that antt computes over each protocol's rows
 
@@ -139,18 +139,18 @@ module _ (p : Protocol) (i : ℕ) (h : i < length (rows_of p)) where
   abbrev low : Bool
   low = ltb r.state (done_of p) && leb r.next (done_of p)
 
-  is-sound : T (same_agency (agency_of p r.state) r.agency && (said && low))
+  is_sound : T (same_agency (agency_of p r.state) r.agency && (said && low))
   unfolding sound
-  is-sound = at nothing (sound p) (rows_of p) (all_sound p) i h
+  is_sound = at nothing (sound p) (rows_of p) (all_sound p) i h
 
   agreed : agency_of p r.state ≡ r.agency
-  agreed = same_agency_lem (agency_of p r.state) r.agency (and_left (same_agency (agency_of p r.state) r.agency) (said && low) is-sound)
+  agreed = same_agency_lem (agency_of p r.state) r.agency (and_left (same_agency (agency_of p r.state) r.agency) (said && low) is_sound)
 
   rest : T (said && low)
-  rest = and_right (same_agency (agency_of p r.state) r.agency) (said && low) is-sound
+  rest = and_right (same_agency (agency_of p r.state) r.agency) (said && low) is_sound
 
-  leads-there : next_of p r.state r.kind r.flag ≡ To r.next
-  leads-there = same_next (next_of p r.state r.kind r.flag) r.next (and_left said low rest)
+  leads_there : next_of p r.state r.kind r.flag ≡ To r.next
+  leads_there = same_next (next_of p r.state r.kind r.flag) r.next (and_left said low rest)
 
   last : (r.state < done_of p) × (r.next ≤ done_of p)
   last =
@@ -203,7 +203,7 @@ rows_say =
       fourteen = refl;
       one = λ p i j h k e. one p i h j k e;
       agreed = agreed;
-      leads = leads-there;
+      leads = leads_there;
       only = λ p s k f n e. only (rows_of p) s k f n e;
       last = last;
       ended = ended;

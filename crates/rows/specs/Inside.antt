@@ -31,11 +31,11 @@ module _ {A : Type 0} (of : Protocol → List A) where
   table = entries protocols
 
   -- where a protocol's entries begin, and how many they are
-  abbrev pub firstIn : Protocol → ℕ
-  firstIn p = length (entries (take (place_of p) protocols))
+  abbrev pub first_in : Protocol → ℕ
+  first_in p = length (entries (take (place_of p) protocols))
 
-  abbrev pub countIn : Protocol → ℕ
-  countIn p = length (of p)
+  abbrev pub count_in : Protocol → ℕ
+  count_in p = length (of p)
 
 -- the rows
 abbrev pub all_rows : List Row

@@ -8,7 +8,7 @@ pub mod spoken;
 
 ghost use Rattle.std.specs.Prelude.{◌≡◌, ◌<◌, length, get_or};
 ghost use Rattle.rows.specs.Rows.{done_of, rows_of, next_of, agency_of};
-ghost use Rattle.rows.specs.Inside.{place_of, protocols, firstIn, countIn, state_in, agent_in, leads_in, suits};
+ghost use Rattle.rows.specs.Inside.{place_of, protocols, first_in, count_in, state_in, agent_in, leads_in, suits};
 
 #[derive(Clone, Copy)]
 pub enum Protocol {
@@ -145,13 +145,13 @@ pub fn done(p: Protocol) -> u64
 }
 
 fn first(p: Protocol) -> usize
-    ensures { result ≡ firstIn rows_of p }
+    ensures { result ≡ first_in rows_of p }
 {
     number_of(FIRST, p)
 }
 
 fn count(p: Protocol) -> usize
-    ensures { result ≡ countIn rows_of p }
+    ensures { result ≡ count_in rows_of p }
 {
     number_of(COUNT, p)
 }

@@ -10,7 +10,7 @@ use lib.ListN.{length, get_or, take, length-append}
 use lib.Seq.{sets}
 use borrow.Author.Tests.{lt-ltb, le-ltb}
 use Rattle.base.proofs.ListLaws.{sets_append}
-use Rattle.base.proofs.NumberLaws.{length-octets}
+use Rattle.base.proofs.NumberLaws.{length_octets}
 use Rattle.wire.specs.declared.segment.Segment.{Segment}
 use Rattle.wire.specs.declared.instances.Party.{Party}
 use Rattle.wire.specs.Segments.{header_length, encoded}
@@ -21,7 +21,7 @@ use Rattle.ready.specs.Ready.{word_of, chosen, turn_after}
 use Rattle.ready.specs.Inside.{chosen_in}
 use Rattle.ready.specs.declared.Choice.{Choice}
 use Rattle.ready.specs.declared.Choice.TheVariants.{Instance, Nobody}
-use Rattle.ready.proofs.ReadyLaws.{Low, chosen-word, chosen_low}
+use Rattle.ready.proofs.ReadyLaws.{Low, chosen_word, chosen_low}
 use Rattle.connection.specs.declared.Connection.{Connection}
 use Rattle.connection.specs.Areas.{starts_past, counts_less}
 use Rattle.connection.specs.Closings.{is_open}
@@ -36,15 +36,15 @@ use Rattle.sending.specs.Inside.{Chosen}
 -- a header has eight bytes
 pub header_long : (s : Segment) → length (encoded s) ≡ header_length
 unfolding encoded
-header_long s = rw (length-append, length-append, length-octets 4, length-octets 2, length-octets 2)
+header_long s = rw (length-append, length-append, length_octets 4, length_octets 2, length_octets 2)
 
 -- header and payload stored one after the other
 pub joined : (l : List ℕ) (s : Segment) (p : List ℕ) → sets (sets l 0 (encoded s)) header_length p ≡ sets l 0 (encoded s ++ p)
 joined l s p = sym (sets_append l 0 (encoded s) p ∙ rw (header_long s))
 
-pub header-fits : (us : Party) (i time n : ℕ) → i < instances us.bundle → time < 2 ^ 32 → n ≤ 65535
+pub header_fits : (us : Party) (i time n : ℕ) → i < instances us.bundle → time < 2 ^ 32 → n ≤ 65535
     → Fits (record { time = time; mode = mode_of us i; protocol = protocol_of us.bundle i; len = n })
-header-fits us i time n h t l = record { time = t; mode = mode_low us i; protocol = protocol_low us.bundle i h; len = omega arith }
+header_fits us i time n h t l = record { time = t; mode = mode_low us i; protocol = protocol_low us.bundle i h; len = omega arith }
 
 -- what is sent, field by field
 pub sent_is : (b i n many : ℕ) (w : Sending) (caps starts waiting : List ℕ) (turn : ℕ) → starts ≡ starts_past caps w.starts i n
@@ -58,17 +58,17 @@ pub much_small : (c : Connection) (store : List ℕ) (i : ℕ) → InSend c stor
 much_small c store i w = let l = (ranged c (sends_both c (length store) w.0).0).set.limit in (omega arith, omega arith)
 
 module _ (c : Connection) (store : List ℕ) (time : ℕ) (buf : List ℕ) (i n : ℕ) (e : n ≡ much c i) where
-  pub serve-short : length buf < header_length + n → told (refused c 18) buf ≡ serve c store time buf i
+  pub serve_short : length buf < header_length + n → told (refused c 18) buf ≡ serve c store time buf i
   unfolding serve
-  serve-short h = rw (← e, lt-ltb (length buf) (header_length + n) h)
+  serve_short h = rw (← e, lt-ltb (length buf) (header_length + n) h)
 
-  pub serve-made : (k : Connection) (w : Sending) (full : List ℕ) → header_length + n ≤ length buf
+  pub serve_made : (k : Connection) (w : Sending) (full : List ℕ) → header_length + n ≤ length buf
       → w ≡ sent_of c.settings.party.bundle c.sending c.settings.send i n → k ≡ with_sending c w
       → full ≡ sets (sets buf 0 (encoded (headed c.settings.party time i n))) header_length
       (first_waiting c store i n)
       → told (record { number = 0; len = header_length + n; connection = k }) full ≡ serve c store time buf i
   unfolding serve
-  serve-made k w full h ew ek ef =
+  serve_made k w full h ew ek ef =
       let header = headed c.settings.party time i n in
       rw (← e, le-ltb (length buf) (header_length + n) h, ek, ew, ef, joined buf header (first_waiting c store i n))
 
@@ -87,19 +87,19 @@ serve_all c store time buf i h = rw (le-ltb (length buf) (header_length + much c
 -- ---- the ways out of next segment
 
 module _ (c : Connection) (store : List ℕ) (time : ℕ) (buf : List ℕ) where
-  pub next-unranged : sends c (length store) ≡ false → told (refused c 23) buf ≡ next_of c store time buf
+  pub next_unranged : sends c (length store) ≡ false → told (refused c 23) buf ≡ next_of c store time buf
   unfolding next_of
-  next-unranged r = rw r
+  next_unranged r = rw r
 
   module _ (r : sends c (length store) ≡ true) where
-    pub next-closed : is_open c.gate ≡ false → told (refused c 20) buf ≡ next_of c store time buf
+    pub next_closed : is_open c.gate ≡ false → told (refused c 20) buf ≡ next_of c store time buf
     unfolding next_of
-    next-closed o = rw (r, o)
+    next_closed o = rw (r, o)
 
-    pub next-served : is_open c.gate ≡ true → (x : Choice) → x ≡ chosen_of c
+    pub next_served : is_open c.gate ≡ true → (x : Choice) → x ≡ chosen_of c
         → by_choice c store time buf x ≡ next_of c store time buf
     unfolding next_of
-    next-served o x e = rw (r, o, e)
+    next_served o x e = rw (r, o, e)
 
 -- whoever the word chooses is whom the counts choose, and an instance
 pub by_word : (c : Connection) (n word : ℕ) (x : Choice) → in_range c ≡ true → n ≡ instances c.settings.party.bundle
@@ -110,7 +110,7 @@ by_word c n word x r many long w e =
     let ws = take n c.sending.waiting in
     e ∙ ap (λ (k : ℕ). chosen_in n k c.sending.turn) w
     ∙ ap (λ (m : ℕ). chosen_in m (word_of ws) c.sending.turn) (sym long)
-    ∙ chosen-word ws c.sending.turn (omega arith) (omega arith)
+    ∙ chosen_word ws c.sending.turn (omega arith) (omega arith)
     ∙ ap (λ (m : ℕ). chosen (take m c.sending.waiting) c.sending.turn) many
 
 pub is_chosen : (c : Connection) (store : List ℕ) (n word : ℕ) (x : Choice) → sends c (length store) ≡ true → n ≡ instances c.settings.party.bundle

@@ -19,7 +19,7 @@ use Rattle.point_log.specs.Log.{rises_to, lost, done, told}
 use Rattle.slices.specs.Parallel.{match, words, records, find_in, back_in, told_in, apart, add_in}
 use Rattle.point_log.specs.Inside.{Between, last_of, usable_of, found_of, slot_of, point_in, cut_of, growth_of}
 use Rattle.point_log.proofs.RecordLaws.{slots_set}
-use Rattle.slices.proofs.RecordLaws.{slots_records, length-records, hashes_records, hashes_set}
+use Rattle.slices.proofs.RecordLaws.{slots_records, length_records, hashes_records, hashes_set}
 use Rattle.point_log.proofs.CallLaws.{finds, backs, grown, adds, room}
 
 module _ (s h : List ℕ) (n : ℕ) where
@@ -28,20 +28,20 @@ module _ (s h : List ℕ) (n : ℕ) where
   unfolding find_in
   find_inside x {m = m} {k = k} e t l u g b p f =
       rw (sym e ∙ t)
-      (finds (records s h) n x (l ∙ sym (length-records s h)) u (g ∙ ap (λ (q : List ℕ). rises_to q m) (sym (slots_records s h)))
+      (finds (records s h) n x (l ∙ sym (length_records s h)) u (g ∙ ap (λ (q : List ℕ). rises_to q m) (sym (slots_records s h)))
       (subst (λ (q : List ℕ). Between q m x k k) (sym (slots_records s h)) b) p f)
 
-  pub find-not : (x : ℕ) {t : Bool} → t ≡ match s h → t ≡ false → lost ≡ find_in s h n x
+  pub find_not : (x : ℕ) {t : Bool} → t ≡ match s h → t ≡ false → lost ≡ find_in s h n x
   unfolding find_in
-  find-not x e t = rw (sym e ∙ t)
+  find_not x e t = rw (sym e ∙ t)
 
   module _ (item : List ℕ) {x : ℕ} {r : Read} {f : Found} (e : r ≡ point_of item) (w : x ≡ slot_of r.place) (found : f ≡ find_in s h n x) where
     q : f ≡ find_in s h n (slot_of r.place)
     q = found ∙ ap (find_in s h n) w
 
-    pub back-in : {d : Done} → d ≡ cut_of n r f → d ≡ back_in s h n item
+    pub back_in_lem : {d : Done} → d ≡ cut_of n r f → d ≡ back_in s h n item
     unfolding find_in back_in
-    back-in g =
+    back_in_lem g =
         by_test (match s h) (λ t. rw t (backs (records s h) n item e (q ∙ rw t) g))
         (λ t. let is : f ≡ lost = q ∙ rw t in g ∙ ap (cut_of n r) is ∙ rw t)
 
@@ -61,29 +61,29 @@ module _ (s h : List ℕ) (n : ℕ) where
           let fits = add-fits z in
           rw (slots_set (records s h) n p, slots_records s h, hashes_set s h n p fits.1 fits.0)
 
-      stay-in : match s h ≡ true → apart (told (done g n) (records s h)) ≡ told_in (done g n) s h
-      stay-in t = rw (slots_records s h, hashes_records s h (eqb-true (length h) (length s * 4) t))
+      stay_in : match s h ≡ true → apart (told (done g n) (records s h)) ≡ told_in (done g n) s h
+      stay_in t = rw (slots_records s h, hashes_records s h (eqb-true (length h) (length s * 4) t))
 
       matching : match s h ≡ true → apart (grown (records s h) n r.place g) ≡ add_in s h n item
       unfolding find_in add_in
-      matching t = rw t (ap apart (adds (records s h) n item (l ∙ sym (length-records s h)) e (q ∙ rw t) k))
+      matching t = rw t (ap apart (adds (records s h) n item (l ∙ sym (length_records s h)) e (q ∙ rw t) k))
 
       apart_in : match s h ≡ false → told_in (done 23 n) s h ≡ add_in s h n item
       unfolding add_in
       apart_in t = rw t
 
-      lost-in : match s h ≡ false → g ≡ 23
+      lost_in : match s h ≡ false → g ≡ 23
       unfolding find_in
-      lost-in t = let is : f ≡ lost = q ∙ rw t in k ∙ ap (growth_of len n r) is
+      lost_in t = let is : f ≡ lost = q ∙ rw t in k ∙ ap (growth_of len n r) is
 
-      pub add-in : g ≡ 0 → told_in (done 0 (n + 1)) (set s n p.slot) (sets h (n * 4) (words p.hash)) ≡ add_in s h n item
-      add-in z =
+      pub add_in_lem : g ≡ 0 → told_in (done 0 (n + 1)) (set s n p.slot) (sets h (n * 4) (words p.hash)) ≡ add_in s h n item
+      add_in_lem z =
           by_test (match s h)
           (λ t. sym (put_in z t) ∙ ap apart (ap (λ (b : Bool). cond b (told (done 0 (n + 1)) (set (records s h) n p)) (told (done g n) (records s h))) (sym (eq-eqb g 0 z))) ∙ matching t)
-          (λ t. absurd (omega (arith, lost-in t)))
+          (λ t. absurd (omega (arith, lost_in t)))
 
-      pub add-not : g ≢ 0 → told_in (done g n) s h ≡ add_in s h n item
-      add-not z =
+      pub add_not : g ≢ 0 → told_in (done g n) s h ≡ add_in s h n item
+      add_not z =
           by_test (match s h)
-          (λ t. sym (stay-in t) ∙ ap apart (ap (λ (b : Bool). cond b (told (done 0 (n + 1)) (set (records s h) n p)) (told (done g n) (records s h))) (sym (ne_eqb g 0 z))) ∙ matching t)
-          (λ t. ap (λ (m : ℕ). told_in (done m n) s h) (lost-in t) ∙ apart_in t)
+          (λ t. sym (stay_in t) ∙ ap apart (ap (λ (b : Bool). cond b (told (done 0 (n + 1)) (set (records s h) n p)) (told (done g n) (records s h))) (sym (ne_eqb g 0 z))) ∙ matching t)
+          (λ t. ap (λ (m : ℕ). told_in (done m n) s h) (lost_in t) ∙ apart_in t)

@@ -17,8 +17,8 @@ record Alikes (l : Slices) (c : Call) : Type 0 where
   after_so : log_of (after_in l c) ≡ after (log_of l) c
   matches : match (after_in l c).slots (after_in l c).hashes ≡ true
 
-alike-step : (l : Slices) (c : Call) → match l.slots l.hashes ≡ true → Alikes l c
-alike-step l (adds item) e =
+alike_step : (l : Slices) (c : Call) → match l.slots l.hashes ≡ true → Alikes l c
+alike_step l (adds item) e =
     let (ans, run, m) = ((calls_in l.slots l.hashes l.count).together e).2 item in
     record {
       answers_so = ap (λ (d : Done). d.number) ans;
@@ -27,7 +27,7 @@ alike-step l (adds item) e =
           ∙ ap (λ (d : Done). record { run = (add_of (records l.slots l.hashes) l.count item).run; count = d.count }) ans;
       matches = m;
     }
-alike-step l (backs item) e =
+alike_step l (backs item) e =
     let b = ((calls_in l.slots l.hashes l.count).together e).1 item in
     record {
       answers_so = ap (λ (d : Done). d.number) b;
@@ -39,7 +39,7 @@ pub alike : Alike
 unfolding answers_in answers after_all_in after_all
 alike l [] e = (refl, refl)
 alike l (c ∷ cs) e =
-    let s = alike-step l c e in
+    let s = alike_step l c e in
     let (a, b) = alike (after_in l c) cs s.matches in (
       ap (λ (n : ℕ). n ∷ answers_in (after_in l c) cs) s.answers_so ∙ ap (λ (r : List ℕ). answer (log_of l) c ∷ r) (a ∙ ap (λ (m : Log). answers m cs) s.after_so),
       b ∙ ap (λ (m : Log). after_all m cs) s.after_so,

@@ -15,11 +15,11 @@ use Rattle.slices.proofs.RecordLaws.{slots_records, hashes_records, together, ha
 use Rattle.point_log.proofs.NumberLaws.{calls}
 
 module _ (slots hashes : List ℕ) (n : ℕ) (item : List ℕ) where
-  add-records : match slots hashes ≡ true
+  add_records : match slots hashes ≡ true
       → let t = add_in slots hashes n item in (t.answer ≡ (add_of (records slots hashes) n item).answer)
       × (records t.slots t.hashes ≡ (add_of (records slots hashes) n item).run) × (match t.slots t.hashes ≡ true)
   unfolding add_in
-  add-records e =
+  add_records e =
       let t = add_of (records slots hashes) n item in
       rw e (refl, together t.run, eq-eqb (length (hashes_of t.run)) (length (slots_of t.run) * 4) (hashes_length t.run))
 
@@ -39,6 +39,6 @@ unfolding find_in back_in add_in
 calls_in slots hashes n =
     record {
       apart = λ e. (λ slot. rw e, λ item. rw e, λ item. rw e);
-      together = λ e. (λ slot. rw e, λ item. rw e, λ item. add-records slots hashes n item e);
+      together = λ e. (λ slot. rw e, λ item. rw e, λ item. add_records slots hashes n item e);
       kept = λ item. add_kept slots hashes n item;
     }

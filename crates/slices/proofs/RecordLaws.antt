@@ -24,10 +24,10 @@ unfolding records
 slots_records [] h = refl
 slots_records (x ∷ s) h = ap (λ (l : List ℕ). x ∷ l) (slots_records s (drop 4 h))
 
-pub length-records : (s h : List ℕ) → length (records s h) ≡ length s
+pub length_records : (s h : List ℕ) → length (records s h) ≡ length s
 unfolding records
-length-records [] h = refl
-length-records (x ∷ s) h = ap suc (length-records s (drop 4 h))
+length_records [] h = refl
+length_records (x ∷ s) h = ap suc (length_records s (drop 4 h))
 
 pub hashes_records : (s h : List ℕ) → length h ≡ length s * 4 → hashes_of (records s h) ≡ h
 unfolding records hashes_of

@@ -69,11 +69,11 @@ module _ {xs : List ℕ} {at k c d : ℕ} (g : Good k c d) (z : 0 < c) where
     pub if_past : {p : ℕ} → q ≡ Past p → Stays xs at k c d p (record { kind = k; count = c - 1 })
     if_past e = passed (subst (Quickly xs at d) e h)
 
-    pub if-asks : {p j : ℕ} → q ≡ Asks p j → Downs xs at k c d p (record { kind = k; count = c - 1 }) (record { kind = 0; count = j })
-    if-asks e = entered (subst (Quickly xs at d) e h)
+    pub if_asks : {p j : ℕ} → q ≡ Asks p j → Downs xs at k c d p (record { kind = k; count = c - 1 }) (record { kind = 0; count = j })
+    if_asks e = entered (subst (Quickly xs at d) e h)
 
-    pub if-opens : {p i : ℕ} → q ≡ Opens p i → Downs xs at k c d p (record { kind = k; count = c - 1 }) (record { kind = i; count = 2 ^ 63 })
-    if-opens e = entered (subst (Quickly xs at d) e h)
+    pub if_opens : {p i : ℕ} → q ≡ Opens p i → Downs xs at k c d p (record { kind = k; count = c - 1 }) (record { kind = i; count = 2 ^ 63 })
+    if_opens e = entered (subst (Quickly xs at d) e h)
 
-    pub if-ends : {p : ℕ} → q ≡ Ends p → breakable (frame_of k c) ≡ true → Stays xs at k c d p (record { kind = 0; count = 0 })
-    if-ends e t = ended (subst (Quickly xs at d) e h) t
+    pub if_ends : {p : ℕ} → q ≡ Ends p → breakable (frame_of k c) ≡ true → Stays xs at k c d p (record { kind = 0; count = 0 })
+    if_ends e t = ended (subst (Quickly xs at d) e h) t

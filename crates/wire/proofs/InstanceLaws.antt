@@ -18,13 +18,13 @@ use Rattle.wire.specs.declared.instances.Side.TheVariants.{Dialler}
 use Rattle.wire.specs.declared.instances.Party.{Party}
 use Rattle.wire.specs.declared.instances.Route.{Route}
 use Rattle.wire.specs.declared.instances.Route.TheVariants.{Unknown, Wrong, To}
-use Rattle.wire.specs.Instances.{Instance, Role, initiator, responder, ofSide, sided, bundles, known, bundle_of, instances, most, role_of, protocol_of, mode_of, mode_from, initiates, route_of}
+use Rattle.wire.specs.Instances.{Instance, Role, initiator, responder, of_side, sided, bundles, known, bundle_of, instances, most, role_of, protocol_of, mode_of, mode_from, initiates, route_of}
 use Rattle.wire.specs.Inside.{Within}
 use Rattle.wire.specs.Besides.Instances.{pair_of}
 use Rattle.wire.specs.Instances as instances
 use Rattle.wire.specs.Besides.Routes.{passing, well_formed, OneWay}
 use Rattle.wire.specs.Inside.{numbers, mark_of, by_mode}
-use Rattle.wire.proofs.RouteLaws.{nobody, fixed_role, to_low, wrong-low, any_bundle}
+use Rattle.wire.proofs.RouteLaws.{nobody, fixed_role, to_low, wrong_low, any_bundle}
 
 -- ---- the bundles
 
@@ -97,7 +97,7 @@ one_way us = any_bundle (bundle_of us.bundle) (well_formed_lem us.bundle) us.sid
 within_at : (us : Party) (p m : ℕ) (r : Route) → route_of us p m ≡ r → Within us.bundle r
 unfolding route_of instances
 within_at us p m Unknown e = tt
-within_at us p m (Wrong i) e = wrong-low (bundle_of us.bundle) us.side p m i e
+within_at us p m (Wrong i) e = wrong_low (bundle_of us.bundle) us.side p m i e
 within_at us p m (To i) e = to_low (bundle_of us.bundle) us.side p m i e
 
 pub route_within : (us : Party) (p m : ℕ) → Within us.bundle (route_of us p m)
@@ -206,9 +206,9 @@ module _ (us : Party) (p m : ℕ) (two : m < 2) where
   b = us.bundle
 
   -- the mode decides at an instance that has the number, where that takes the segment or our role in it is our side's
-  mode-decides : (i : ℕ) → i < instances b → p ≡ protocol_of b i → (sided (role_of b i) ≡ false → m ≡ 1 - mode_of us i) → by_mode us m i ≡ route_of us p m
+  mode_decides : (i : ℕ) → i < instances b → p ≡ protocol_of b i → (sided (role_of b i) ≡ false → m ≡ 1 - mode_of us i) → by_mode us m i ≡ route_of us p m
   unfolding by_mode
-  mode-decides i l ep taken =
+  mode_decides i l ep taken =
       let low = mode_low us i in
       cond_cases (λ (r : Route). r ≡ route_of us p m) (eqb m (mode_of us i))
       (λ t.
@@ -221,23 +221,23 @@ module _ (us : Party) (p m : ℕ) (two : m < 2) where
   abbrev Decided : ℕ → Type 0
   Decided e = (e ≡ 255 → Unknown ≡ route_of us p m) × ((e ≡ 255 → ⊥) → (e < instances b) × (by_mode us m e ≡ route_of us p m))
 
-  named-decides : (r : Route) → route_of (dialler b) p m ≡ r → Decided (named r)
+  named_decides : (r : Route) → route_of (dialler b) p m ≡ r → Decided (named r)
   unfolding named
-  named-decides Unknown e = (λ q. sym (((one_way us).unknown p m).1 (((one_way (dialler b)).unknown p m).0 e)), λ n. absurd (n refl))
-  named-decides (Wrong i) e =
+  named_decides Unknown e = (λ q. sym (((one_way us).unknown p m).1 (((one_way (dialler b)).unknown p m).0 e)), λ n. absurd (n refl))
+  named_decides (Wrong i) e =
       let (l, s, ep, em) = ((one_way (dialler b)).wrong p m i two).0 e in
-      (λ q. absurd (omega (arith, at_most b)), λ n. (l, mode-decides i l ep (λ f. absurd (true≢false (sym s ∙ f)))))
-  named-decides (To i) e =
+      (λ q. absurd (omega (arith, at_most b)), λ n. (l, mode_decides i l ep (λ f. absurd (true≢false (sym s ∙ f)))))
+  named_decides (To i) e =
       let l : i < instances b = within_at (dialler b) p m (To i) e in
       let (ep, em) = (one_way (dialler b)).only p m i e in
       let taken : sided (role_of b i) ≡ false → m ≡ 1 - mode_of us i =
       λ f. em ∙ ap (λ (t : Bool). 1 - mode_from t) (fixed_role Dialler us.side (role_of b i) f) in
-      (λ q. absurd (omega (arith, at_most b)), λ n. (l, mode-decides i l ep taken))
+      (λ q. absurd (omega (arith, at_most b)), λ n. (l, mode_decides i l ep taken))
 
   -- what the code finds in its table
   pub decided : (here : b < length bundles) (low : p < numbers) → Decided (get_or (get_or routes (b * numbers + p) []) m 0)
   unfolding entry
-  decided here low = rw (route_right b p m here low two) (named-decides (route_of (dialler b) p m) refl)
+  decided here low = rw (route_right b p m here low two) (named_decides (route_of (dialler b) p m) refl)
 
 -- ---- roles
 
@@ -246,19 +246,19 @@ pub role_sided : (r : Role) → eqb (mark_of r) 2 ≡ sided r
 unfolding mark_of
 role_sided initiator = refl
 role_sided responder = refl
-role_sided ofSide = refl
+role_sided of_side = refl
 
 pub role_mode : (side : Side) (r : Role) → (mark_of r ≡ 2 → ⊥) → mark_of r ≡ mode_from (initiates side r)
 unfolding mark_of
 role_mode side initiator n = refl
 role_mode side responder n = refl
-role_mode side ofSide n = absurd (n refl)
+role_mode side of_side n = absurd (n refl)
 
-pub role_side : (r : Role) → mark_of r ≡ 2 → r ≡ ofSide
+pub role_side : (r : Role) → mark_of r ≡ 2 → r ≡ of_side
 unfolding mark_of
 role_side initiator e = absurd (omega arith)
 role_side responder e = absurd (omega arith)
-role_side ofSide e = refl
+role_side of_side e = refl
 
 -- ---- what a header can hold
 

@@ -15,7 +15,7 @@ use Rattle.base.proofs.Conds.{by_test, so, and_left, and_right, below_at, both_t
 use Rattle.wire.specs.declared.instances.Side.{Side}
 use Rattle.wire.specs.declared.instances.Side.TheVariants.{Dialler, Accepter}
 use Rattle.wire.specs.declared.instances.Route.TheVariants.{Unknown, Wrong, To}
-use Rattle.wire.specs.Instances.{Instance, Role, initiator, responder, ofSide, sided, instance_in, initiates, mode_from, mode_as, takes, find, or_else, route_in, other}
+use Rattle.wire.specs.Instances.{Instance, Role, initiator, responder, of_side, sided, instance_in, initiates, mode_from, mode_as, takes, find, or_else, route_in, other}
 use Rattle.wire.specs.Besides.Instances.{opposite, talks_with, pair_in}
 use Rattle.wire.specs.Besides.Routes.{passing, takes_as, formed_in, well_formed, AnyBundle}
 
@@ -34,25 +34,25 @@ module _ {A : Type 0} (f : A → Bool) (d : A) where
   later x xs k i (j, e, l, t) = (suc j, omega arith, omega arith, t)
 
   -- what is found passes the test
-  find-some : (xs : List A) (k i : ℕ) → find f k xs ≡ some i → Found xs k i
+  find_some : (xs : List A) (k i : ℕ) → find f k xs ≡ some i → Found xs k i
   unfolding find
-  find-some [] k i e = absurd (let z : ◌≡◌ {A = ℕ} 0 1 = cc in omega arith)
-  find-some (x ∷ xs) k i e =
+  find_some [] k i e = absurd (let z : ◌≡◌ {A = ℕ} 0 1 = cc in omega arith)
+  find_some (x ∷ xs) k i e =
       by_test (f x) (λ t. let h : some k ≡ some i = rw t at e in let q : k ≡ i = cc in (0, omega arith, omega arith, t))
-      (λ t. later x xs k i (find-some xs (suc k) i (rw t at e)))
+      (λ t. later x xs k i (find_some xs (suc k) i (rw t at e)))
 
   -- so from the first on
   pub find_at : (xs : List A) (i : ℕ) → find f 0 xs ≡ some i → (i < length xs) × (f (get_or xs i d) ≡ true)
-  find_at xs i e = let (j, q, l, t) = find-some xs 0 i e in let same : i ≡ j = omega arith in rw same (l, t)
+  find_at xs i e = let (j, q, l, t) = find_some xs 0 i e in let same : i ≡ j = omega arith in rw same (l, t)
 
   -- where nothing is found, nothing passes
-  find-none-all : (xs : List A) (k : ℕ) → find f k xs ≡ none → (j : ℕ) → j < length xs → f (get_or xs j d) ≡ false
+  find_none_all : (xs : List A) (k : ℕ) → find f k xs ≡ none → (j : ℕ) → j < length xs → f (get_or xs j d) ≡ false
   unfolding find
-  find-none-all [] k e j h = absurd (omega arith)
-  find-none-all (x ∷ xs) k e zero h = by_test (f x) (λ t. absurd (let q : some k ≡ none = rw t at e in let z : ◌≡◌ {A = ℕ} 0 1 = cc in omega arith)) (λ t. t)
-  find-none-all (x ∷ xs) k e (suc j) h =
+  find_none_all [] k e j h = absurd (omega arith)
+  find_none_all (x ∷ xs) k e zero h = by_test (f x) (λ t. absurd (let q : some k ≡ none = rw t at e in let z : ◌≡◌ {A = ℕ} 0 1 = cc in omega arith)) (λ t. t)
+  find_none_all (x ∷ xs) k e (suc j) h =
       by_test (f x) (λ t. absurd (let q : some k ≡ none = rw t at e in let z : ◌≡◌ {A = ℕ} 0 1 = cc in omega arith))
-      (λ t. find-none-all xs (suc k) (rw t at e) j (omega arith))
+      (λ t. find_none_all xs (suc k) (rw t at e) j (omega arith))
 
   -- where nothing passes, nothing is found
   find_none : (xs : List A) (k : ℕ) → ((j : ℕ) → j < length xs → f (get_or xs j d) ≡ false) → find f k xs ≡ none
@@ -61,12 +61,12 @@ module _ {A : Type 0} (f : A → Bool) (d : A) where
   find_none (x ∷ xs) k h = rw (h 0 (omega arith)) (find_none xs (suc k) (λ j l. h (suc j) (omega arith)))
 
   -- what alone passes is found
-  find-only : (xs : List A) (i : ℕ) → i < length xs → f (get_or xs i d) ≡ true → ((j : ℕ) → j < length xs → f (get_or xs j d) ≡ true → j ≡ i)
+  find_only : (xs : List A) (i : ℕ) → i < length xs → f (get_or xs i d) ≡ true → ((j : ℕ) → j < length xs → f (get_or xs j d) ≡ true → j ≡ i)
       → find f 0 xs ≡ some i
-  find-only xs i h t alone = go (find f 0 xs) refl
+  find_only xs i h t alone = go (find f 0 xs) refl
     where
       go : (o : Option ℕ) → find f 0 xs ≡ o → o ≡ some i
-      go none e = absurd (true≢false (sym t ∙ find-none-all xs 0 e i h))
+      go none e = absurd (true≢false (sym t ∙ find_none_all xs 0 e i h))
       go (some j) e = let q = find_at xs j e in ap some (alone j q.0 q.1)
 
   -- where one passes, and no more, a search finds that one
@@ -96,8 +96,8 @@ module _ {A : Type 0} (f : A → Bool) (d : A) where
   some_one [] e = absurd (omega arith)
   some_one (x ∷ xs) e = by_test (f x) (λ t. (0, omega arith, t)) (λ n. let (j, l, t) = some_one xs (rw n at e) in (suc j, omega arith, t))
 
-  find-one : (xs : List A) → passing f xs ≡ 1 → (i : ℕ) → i < length xs → f (get_or xs i d) ≡ true → find f 0 xs ≡ some i
-  find-one xs e i h t = find-only xs i h t (λ j l u. one_place xs e j i l h u t)
+  find_one : (xs : List A) → passing f xs ≡ 1 → (i : ℕ) → i < length xs → f (get_or xs i d) ≡ true → find f 0 xs ≡ some i
+  find_one xs e i h t = find_only xs i h t (λ j l u. one_place xs e j i l h u t)
 
 -- ---- what a search, and then another, say of a route
 
@@ -151,15 +151,15 @@ takes_own side y = rw (eq-eqb y.protocol y.protocol refl) (takes_mode (initiates
 pub fixed_role : (a b : Side) (r : Role) → sided r ≡ false → initiates a r ≡ initiates b r
 fixed_role a b initiator e = refl
 fixed_role a b responder e = refl
-fixed_role a b ofSide e = absurd (true≢false e)
+fixed_role a b of_side e = absurd (true≢false e)
 
 -- one that is our side's is, on one side, like any other
 like : (r s : Role) → sided r ≡ true → (side : Side) × (initiates side s ≡ initiates side r)
 like initiator s e = absurd (false≢true e)
 like responder s e = absurd (false≢true e)
-like ofSide initiator e = (Dialler, refl)
-like ofSide responder e = (Accepter, refl)
-like ofSide ofSide e = (Dialler, refl)
+like of_side initiator e = (Dialler, refl)
+like of_side responder e = (Accepter, refl)
+like of_side of_side e = (Dialler, refl)
 
 -- of two that talk, each takes the mode that the other sends
 meets : (a b : Bool) → beq a (not b) ≡ true → mode_from a ≡ 1 - mode_from b
@@ -181,23 +181,23 @@ module _ (r s : Role) (e : opposite r s ≡ true) where
   abbrev halves : (facing Dialler ≡ true) × (facing Accepter ≡ true)
   halves = both_true (facing Dialler) (facing Accepter) e
 
-  opposite-modes : (side : Side)
+  opposite_modes : (side : Side)
       → (mode_from (initiates side r) ≡ 1 - mode_from (initiates (other side) s)) × (mode_from (initiates (other side) r) ≡ 1 - mode_from (initiates side s))
-  opposite-modes Dialler = (meets (initiates Dialler r) (initiates Accepter s) halves.0, meets (initiates Accepter r) (initiates Dialler s) halves.1)
-  opposite-modes Accepter = (meets (initiates Accepter r) (initiates Dialler s) halves.1, meets (initiates Dialler r) (initiates Accepter s) halves.0)
+  opposite_modes Dialler = (meets (initiates Dialler r) (initiates Accepter s) halves.0, meets (initiates Accepter r) (initiates Dialler s) halves.1)
+  opposite_modes Accepter = (meets (initiates Accepter r) (initiates Dialler s) halves.1, meets (initiates Dialler r) (initiates Accepter s) halves.0)
 
-  opposite-back : opposite s r ≡ true
-  opposite-back = rw (turned (initiates Dialler s) (initiates Accepter r), halves.1, turned (initiates Accepter s) (initiates Dialler r), halves.0)
+  opposite_back : opposite s r ≡ true
+  opposite_back = rw (turned (initiates Dialler s) (initiates Accepter r), halves.1, turned (initiates Accepter s) (initiates Dialler r), halves.0)
 
 module _ (x y : Instance) (e : talks_with x y ≡ true) where
   abbrev said : (eqb y.protocol x.protocol ≡ true) × (opposite x.role y.role ≡ true)
   said = both_true (eqb y.protocol x.protocol) (opposite x.role y.role) e
 
-  same-protocol : x.protocol ≡ y.protocol
-  same-protocol = sym (eqb-true y.protocol x.protocol said.0)
+  same_protocol : x.protocol ≡ y.protocol
+  same_protocol = sym (eqb-true y.protocol x.protocol said.0)
 
-  talks-back : talks_with y x ≡ true
-  talks-back = rw (eq-eqb x.protocol y.protocol same-protocol, opposite-back x.role y.role said.1)
+  talks_back : talks_with y x ≡ true
+  talks_back = rw (eq-eqb x.protocol y.protocol same_protocol, opposite_back x.role y.role said.1)
 
 -- ---- in any list
 
@@ -220,8 +220,8 @@ module _ (xs : List Instance) (side : Side) (p m : ℕ) where
   pub to_low : (i : ℕ) → route_in xs side p m ≡ To i → i < length xs
   to_low i e = (find_at hears nobody xs i (found (find hears 0 xs) (find speaks 0 xs) i e)).0
 
-  pub wrong-low : (i : ℕ) → route_in xs side p m ≡ Wrong i → i < length xs
-  wrong-low i e = (find_at speaks nobody xs i (wrong_found (find hears 0 xs) (find speaks 0 xs) i e).1).0
+  pub wrong_low : (i : ℕ) → route_in xs side p m ≡ Wrong i → i < length xs
+  wrong_low i e = (find_at speaks nobody xs i (wrong_found (find hears 0 xs) (find speaks 0 xs) i e).1).0
 
   -- an unknown number is that of no instance
   abbrev Strange : Type 0
@@ -230,7 +230,7 @@ module _ (xs : List Instance) (side : Side) (p m : ℕ) where
   strange : route_in xs side p m ≡ Unknown → Strange
   strange e i h q =
       let n : find speaks 0 xs ≡ none = known_not (find hears 0 xs) (find speaks 0 xs) e in
-      eqb-false (x i).protocol p (find-none-all speaks nobody xs 0 n i h) (sym q)
+      eqb-false (x i).protocol p (find_none_all speaks nobody xs 0 n i h) (sym q)
 
   nowhere : Strange → route_in xs side p m ≡ Unknown
   nowhere h =
@@ -241,11 +241,11 @@ module _ (xs : List Instance) (side : Side) (p m : ℕ) where
   unknown = (strange, nowhere)
 
   -- a segment is wrong at i where i has its number, and nobody takes it
-  wrong-at : (i : ℕ) → m < 2 → route_in xs side p m ≡ Wrong i → (i < length xs) × (p ≡ (x i).protocol) × (m ≡ mode_as side (x i))
-  wrong-at i two e =
+  wrong_at : (i : ℕ) → m < 2 → route_in xs side p m ≡ Wrong i → (i < length xs) × (p ≡ (x i).protocol) × (m ≡ mode_as side (x i))
+  wrong_at i two e =
       let (nobody-takes, has) = wrong_found (find hears 0 xs) (find speaks 0 xs) i e in
       let (l, t) = find_at speaks nobody xs i has in
-      let mode : eqb m (mode_from (not (initiates side (x i).role))) ≡ false = rw t at (find-none-all hears nobody xs 0 nobody-takes i l) in
+      let mode : eqb m (mode_from (not (initiates side (x i).role))) ≡ false = rw t at (find_none_all hears nobody xs 0 nobody-takes i l) in
       (l, sym (eqb-true (x i).protocol p t), other_mode m (initiates side (x i).role) two mode)
 
 -- ---- in a list that is well formed
@@ -270,73 +270,73 @@ module _ (xs : List Instance) (ok : well_formed xs ≡ true) where
       all_three (taking Dialler i) (taking Accepter i) (passing (talks_with (y i)) xs)
       (below_at (λ j. formed_in xs (y j)) (length xs) (so (well_formed xs) ok) i h)
 
-  taken-once : (side : Side) (i : ℕ) → i < length xs → taking side i ≡ 1
-  taken-once Dialler i h = (formed i h).0
-  taken-once Accepter i h = (formed i h).1
+  taken_once : (side : Side) (i : ℕ) → i < length xs → taking side i ≡ 1
+  taken_once Dialler i h = (formed i h).0
+  taken_once Accepter i h = (formed i h).1
 
   reached : (side : Side) (i : ℕ) → i < length xs → route_in xs side (y i).protocol (1 - mode_as side (y i)) ≡ To i
-  reached side i h = rw (find-one (takes_as side (y i)) nobody xs (taken-once side i h) i h (takes_own side (y i)))
+  reached side i h = rw (find_one (takes_as side (y i)) nobody xs (taken_once side i h) i h (takes_own side (y i)))
 
   -- the one that i talks with
   partner : (i : ℕ) → i < length xs → (pair_in xs i < length xs) × (talks_with (y i) (y (pair_in xs i)) ≡ true)
   partner i h =
       let (j, l, t) = some_one (talks_with (y i)) nobody xs (formed i h).2 in
-      let e : pair_in xs i ≡ j = ap (λ (o : Option ℕ). Option.get_or o 0) (find-one (talks_with (y i)) nobody xs (formed i h).2 j l t) in
+      let e : pair_in xs i ≡ j = ap (λ (o : Option ℕ). Option.get_or o 0) (find_one (talks_with (y i)) nobody xs (formed i h).2 j l t) in
       rw e (l, t)
 
   arrives : (side : Side) (i : ℕ) → i < length xs → route_in xs (other side) (y i).protocol (mode_as side (y i)) ≡ To (pair_in xs i)
   arrives side i h =
       let j = pair_in xs i in
       let (l, t) = partner i h in
-      let modes = opposite-modes (y i).role (y j).role (said (y i) (y j) t).1 side in
-      ap₂ (route_in xs (other side)) (same-protocol (y i) (y j) t) modes.0 ∙ reached (other side) j l
+      let modes = opposite_modes (y i).role (y j).role (said (y i) (y j) t).1 side in
+      ap₂ (route_in xs (other side)) (same_protocol (y i) (y j) t) modes.0 ∙ reached (other side) j l
 
   paired : (i : ℕ) → i < length xs → pair_in xs (pair_in xs i) ≡ i
   paired i h =
       let j = pair_in xs i in
       let (l, t) = partner i h in
-      ap (λ (o : Option ℕ). Option.get_or o 0) (find-one (talks_with (y j)) nobody xs (formed j l).2 i h (talks-back (y i) (y j) t))
+      ap (λ (o : Option ℕ). Option.get_or o 0) (find_one (talks_with (y j)) nobody xs (formed j l).2 i h (talks_back (y i) (y j) t))
 
   -- where our role is our side's, no other instance has the number
   alone : (i j : ℕ) → i < length xs → j < length xs → sided (y i).role ≡ true → (y j).protocol ≡ (y i).protocol → j ≡ i
   alone i j h l s e =
       let (side, alike) = like (y i).role (y j).role s in
       let t : takes_as side (y i) (y j) ≡ true = rw (eq-eqb (y j).protocol (y i).protocol e, alike) (takes_mode (initiates side (y i).role)) in
-      one_place (takes_as side (y i)) nobody xs (taken-once side i h) j i l h t (takes_own side (y i))
+      one_place (takes_as side (y i)) nobody xs (taken_once side i h) j i l h t (takes_own side (y i))
 
   -- so nobody takes our own mode there, and it is wrong
-  none-takes : (side : Side) (i j : ℕ) → i < length xs → j < length xs → sided (y i).role ≡ true → takes side (y i).protocol (mode_as side (y i)) (y j) ≡ false
-  none-takes side i j h l s =
+  none_takes : (side : Side) (i j : ℕ) → i < length xs → j < length xs → sided (y i).role ≡ true → takes side (y i).protocol (mode_as side (y i)) (y j) ≡ false
+  none_takes side i j h l s =
       by_test (takes side (y i).protocol (mode_as side (y i)) (y j))
       (λ t.
       let (e, q) = takes_so side (y i).protocol (mode_as side (y i)) (y j) t in
       absurd (not_own (initiates side (y i).role) (q ∙ ap (λ (k : ℕ). 1 - mode_as side (y k)) (alone i j h l s (sym e)))))
       (λ t. t)
 
-  own-wrong : (side : Side) (i : ℕ) → i < length xs → sided (y i).role ≡ true → route_in xs side (y i).protocol (mode_as side (y i)) ≡ Wrong i
-  own-wrong side i h s =
+  own_wrong : (side : Side) (i : ℕ) → i < length xs → sided (y i).role ≡ true → route_in xs side (y i).protocol (mode_as side (y i)) ≡ Wrong i
+  own_wrong side i h s =
       let p = (y i).protocol in
-      let none-hears = find_none (takes side p (mode_as side (y i))) nobody xs 0 (λ j l. none-takes side i j h l s) in
-      let has = find-only (λ z. eqb z.protocol p) nobody xs i h (eq-eqb p p refl) (λ j l t. alone i j h l s (eqb-true (y j).protocol p t)) in
+      let none-hears = find_none (takes side p (mode_as side (y i))) nobody xs 0 (λ j l. none_takes side i j h l s) in
+      let has = find_only (λ z. eqb z.protocol p) nobody xs i h (eq-eqb p p refl) (λ j l t. alone i j h l s (eqb-true (y j).protocol p t)) in
       rw (none-hears, has)
 
   -- and nowhere else: the one that i talks with takes it
-  wrong-sided : (side : Side) (i : ℕ) → i < length xs → route_in xs side (y i).protocol (mode_as side (y i)) ≡ Wrong i → sided (y i).role ≡ true
-  wrong-sided side i h e =
+  wrong_sided : (side : Side) (i : ℕ) → i < length xs → route_in xs side (y i).protocol (mode_as side (y i)) ≡ Wrong i → sided (y i).role ≡ true
+  wrong_sided side i h e =
       by_test (sided (y i).role) (λ s. s)
       (λ s.
       let j = pair_in xs i in
       let (l, t) = partner i h in
-      let modes = opposite-modes (y i).role (y j).role (said (y i) (y j) t).1 side in
+      let modes = opposite_modes (y i).role (y j).role (said (y i) (y j) t).1 side in
       let mode : mode_as side (y i) ≡ 1 - mode_as side (y j) = ap mode_from (fixed_role side (other side) (y i).role s) ∙ modes.1 in
-      let both : Wrong i ≡ To j = sym e ∙ ap₂ (route_in xs side) (same-protocol (y i) (y j) t) mode ∙ reached side j l in
+      let both : Wrong i ≡ To j = sym e ∙ ap₂ (route_in xs side) (same_protocol (y i) (y j) t) mode ∙ reached side j l in
       absurd (let z : ◌≡◌ {A = ℕ} 0 1 = cc in omega arith))
 
   wrong : (side : Side) (p m i : ℕ) → m < 2
       → (route_in xs side p m ≡ Wrong i) ↔ ((i < length xs) × (sided (y i).role ≡ true) × (p ≡ (y i).protocol) × (m ≡ mode_as side (y i)))
   wrong side p m i two = (
-    λ e. let (h, ep, em) = wrong-at xs side p m i two e in (h, wrong-sided side i h (rw (ep, em) at e), ep, em),
-    λ (h, s, ep, em). rw (ep, em) (own-wrong side i h s),
+    λ e. let (h, ep, em) = wrong_at xs side p m i two e in (h, wrong_sided side i h (rw (ep, em) at e), ep, em),
+    λ (h, s, ep, em). rw (ep, em) (own_wrong side i h s),
   )
 
 -- T5, in any bundle

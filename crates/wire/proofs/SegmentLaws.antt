@@ -11,7 +11,7 @@ use lib.Seq.{sets, set_at, take_at, drop_at, take_all, take-add, take-suc-set, d
 use borrow.Author.Tests.{lt-ltb}
 use Rattle.base.specs.Numbers.{Bytes, number, octets}
 use Rattle.base.proofs.ListLaws.{sets_append}
-use Rattle.base.proofs.NumberLaws.{length-octets, number-octets, octets-number, number-below, bytes_take, bytes_drop}
+use Rattle.base.proofs.NumberLaws.{length_octets, number_octets, octets_number, number_below, bytes_take, bytes_drop}
 use Rattle.wire.specs.declared.segment.Segment.{Segment}
 use Rattle.wire.specs.declared.segment.Header.{Header}
 use Rattle.wire.specs.Segments.{header_length, decoded, encoded, added, Carried, Divided, in_header, in_payload, whole}
@@ -25,38 +25,38 @@ unfolding encoded
 stored l s =
     let t : List ℕ = octets 4 s.time in
     let w : List ℕ = octets 2 (s.mode * 2 ^ 15 + s.protocol) in
-    sym (sets_append l 0 t (w ++ octets 2 s.len) ∙ rw (sets_append, length-octets 4, length-octets 2))
+    sym (sets_append l 0 t (w ++ octets 2 s.len) ∙ rw (sets_append, length_octets 4, length_octets 2))
 
 -- the parts of a header
 module _ (s : Segment) where
   abbrev word : ℕ
   word = s.mode * 2 ^ 15 + s.protocol
 
-  time-part : take 4 (encoded s) ≡ octets 4 s.time
+  time_part : take 4 (encoded s) ≡ octets 4 s.time
   unfolding encoded
-  time-part = take_at (octets 4 s.time) (octets 2 word ++ octets 2 s.len) 4 (length-octets 4 s.time)
+  time_part = take_at (octets 4 s.time) (octets 2 word ++ octets 2 s.len) 4 (length_octets 4 s.time)
 
-  word-part : take 2 (drop 4 (encoded s)) ≡ octets 2 word
+  word_part : take 2 (drop 4 (encoded s)) ≡ octets 2 word
   unfolding encoded
-  word-part =
-      ap (take 2) (drop_at (octets 4 s.time) (octets 2 word ++ octets 2 s.len) 4 (length-octets 4 s.time))
-      ∙ take_at (octets 2 word) (octets 2 s.len) 2 (length-octets 2 word)
+  word_part =
+      ap (take 2) (drop_at (octets 4 s.time) (octets 2 word ++ octets 2 s.len) 4 (length_octets 4 s.time))
+      ∙ take_at (octets 2 word) (octets 2 s.len) 2 (length_octets 2 word)
 
-  len-part : take 2 (drop 6 (encoded s)) ≡ octets 2 s.len
+  len_part : take 2 (drop 6 (encoded s)) ≡ octets 2 s.len
   unfolding encoded
-  len-part =
+  len_part =
       ap (take 2)
       (sym (drop-drop 2 4 (encoded s))
-      ∙ ap (drop 2) (drop_at (octets 4 s.time) (octets 2 word ++ octets 2 s.len) 4 (length-octets 4 s.time))
-      ∙ drop_at (octets 2 word) (octets 2 s.len) 2 (length-octets 2 word))
-      ∙ take_all 2 (octets 2 s.len) (omega (arith, length-octets 2 s.len))
+      ∙ ap (drop 2) (drop_at (octets 4 s.time) (octets 2 word ++ octets 2 s.len) 4 (length_octets 4 s.time))
+      ∙ drop_at (octets 2 word) (octets 2 s.len) 2 (length_octets 2 word))
+      ∙ take_all 2 (octets 2 s.len) (omega (arith, length_octets 2 s.len))
 
   read_written : Fits s → decoded (encoded s) ≡ s
   unfolding decoded
   read_written f =
-      let t : number (take 4 (encoded s)) ≡ s.time = ap number time-part ∙ number-octets 4 s.time f.time in
-      let w : number (take 2 (drop 4 (encoded s))) ≡ word = ap number word-part ∙ number-octets 2 word (omega arith) in
-      let l : number (take 2 (drop 6 (encoded s))) ≡ s.len = ap number len-part ∙ number-octets 2 s.len f.len in
+      let t : number (take 4 (encoded s)) ≡ s.time = ap number time_part ∙ number_octets 4 s.time f.time in
+      let w : number (take 2 (drop 4 (encoded s))) ≡ word = ap number word_part ∙ number_octets 2 word (omega arith) in
+      let l : number (take 2 (drop 6 (encoded s))) ≡ s.len = ap number len_part ∙ number_octets 2 s.len f.len in
       let m : word / 2 ^ 15 ≡ s.mode = omega arith in
       let p : word % 2 ^ 15 ≡ s.protocol = omega arith in
       rw (t, w, l, m, p)
@@ -67,10 +67,10 @@ module _ (bs : List ℕ) (eight : length bs ≡ header_length) (bytes : Bytes bs
       (length-take-le k (drop at bs) (omega (arith, length-drop at bs)), bytes_take k (drop at bs) (bytes_drop at bs bytes))
 
   below : (k at : ℕ) → k + at ≤ 8 → number (take k (drop at bs)) < 256 ^ k
-  below k at h = let p = piece k at h in rw p.0 at (number-below (take k (drop at bs)) p.1)
+  below k at h = let p = piece k at h in rw p.0 at (number_below (take k (drop at bs)) p.1)
 
   again : (k at : ℕ) → k + at ≤ 8 → octets k (number (take k (drop at bs))) ≡ take k (drop at bs)
-  again k at h = let p = piece k at h in rw p.0 at (octets-number (take k (drop at bs)) p.1)
+  again k at h = let p = piece k at h in rw p.0 at (octets_number (take k (drop at bs)) p.1)
 
   written_read : Fits (decoded bs) × (encoded (decoded bs) ≡ bs)
   unfolding decoded encoded
@@ -104,8 +104,8 @@ add_part hs b h =
     (ap (λ (k : ℕ). record { bytes = hs ++ (b ∷ replicate (header_length - suc n) 0); count = k }) (omega arith))
 
 -- a whole header has its bytes and no others
-pub part-whole : (hs : List ℕ) → length hs ≡ header_length → (part hs).bytes ≡ hs
-part-whole hs e =
+pub part_whole : (hs : List ℕ) → length hs ≡ header_length → (part hs).bytes ≡ hs
+part_whole hs e =
     let z : header_length - length hs ≡ 0 = omega arith in
     ap (λ (k : ℕ). hs ++ replicate k 0) z ∙ append-nil hs
 

@@ -1,6 +1,6 @@
 -- What only functions below the operations cite: how many protocol numbers there are, how a table names roles, and what a segment's mode decides.
 use Rattle.std.specs.Prelude.{ℕ, ◌<◌, ◌^◌, cond, eqb}
-use Rattle.wire.specs.Instances.{Role, initiator, responder, ofSide, mode_of, instances}
+use Rattle.wire.specs.Instances.{Role, initiator, responder, of_side, mode_of, instances}
 use Rattle.wire.specs.declared.instances.Party.{Party}
 use Rattle.wire.specs.declared.instances.Route.{Route}
 use Rattle.wire.specs.declared.instances.Route.TheVariants.{Unknown, Wrong, To}
@@ -14,7 +14,7 @@ numbers = 9
 unfoldable pub mark_of : Role → ℕ
 mark_of initiator = 0
 mark_of responder = 1
-mark_of ofSide = 2
+mark_of of_side = 2
 
 -- a segment for instance i, by its mode: it comes from our own end or from the other
 unfoldable pub by_mode : Party → ℕ → ℕ → Route

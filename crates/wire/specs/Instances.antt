@@ -9,7 +9,7 @@ use Rattle.wire.specs.declared.instances.Route.TheVariants.{Unknown, Wrong, To}
 
 -- Our role in an instance: initiator, responder, or the one that our side has.
 pub data Role : Type 0 where
-  initiator responder ofSide : Role
+  initiator responder of_side : Role
 
 pub record Instance : Type 0 where
   pub protocol : ℕ
@@ -19,7 +19,7 @@ pub record Instance : Type 0 where
 abbrev pub sided : Role → Bool
 sided initiator = false
 sided responder = false
-sided ofSide = true
+sided of_side = true
 
 -- our initiator of a protocol, and then our responder
 abbrev pub double : ℕ → List Instance
@@ -27,7 +27,7 @@ double p = record { protocol = p; role = initiator } ∷ record { protocol = p; 
 
 -- the dialler is initiator of a protocol, the accepter responder
 abbrev pub single : ℕ → List Instance
-single p = record { protocol = p; role = ofSide } ∷ []
+single p = record { protocol = p; role = of_side } ∷ []
 
 -- Node to node. Nine instances: Handshake 0; then for Chain-Sync 2, Block-Fetch 3, TxSubmission 4 and Keep-alive 8 in turn, our initiator and our responder.
 abbrev pub node_to_node : List Instance
@@ -81,8 +81,8 @@ role_of b i = (at b i).role
 abbrev pub initiates : Side → Role → Bool
 initiates side initiator = true
 initiates side responder = false
-initiates Dialler ofSide = true
-initiates Accepter ofSide = false
+initiates Dialler of_side = true
+initiates Accepter of_side = false
 
 -- Mode 0 comes from an initiator, mode 1 from a responder.
 abbrev pub mode_from : Bool → ℕ

@@ -2,7 +2,7 @@
 //
 // A bundle that is unknown has no instances, and knows no protocol.
 ghost use Rattle.std.specs.Prelude.{◌≡◌, ◌+◌, ◌*◌, ◌<◌, ◌≤◌, length};
-ghost use Rattle.wire.specs.Instances.{ofSide, sided, bundles, known, instances, most, role_of, protocol_of, initiates, mode_from, mode_of, route_of};
+ghost use Rattle.wire.specs.Instances.{of_side, sided, bundles, known, instances, most, role_of, protocol_of, initiates, mode_from, mode_of, route_of};
 ghost use Rattle.wire.specs.Inside.{Within};
 ghost use Rattle.wire.specs.Inside.{numbers, mark_of, by_mode};
 
@@ -149,7 +149,7 @@ pub fn mode(party: Party, i: usize) -> u8
 
 // The mode of what our side sends.
 fn side_mode(side: Side) -> u8
-    ensures { result ≡ mode_from (initiates side ofSide) }
+    ensures { result ≡ mode_from (initiates side of_side) }
 {
     match side {
         Side::Dialler => 0,

@@ -3,7 +3,7 @@ use mathlib.Core.Path.{ap, ◌∙◌}
 use borrow.Author.Tests.{not-true, not-false}
 use Rattle.messages.specs.Inside.{form_at}
 use Rattle.build.specs.Building.{handed}
-use Rattle.build.proofs.BuildLaws.{heads-and-runs, unplanned, plan-is, planned-so}
+use Rattle.build.proofs.BuildLaws.{heads_and_runs, unplanned, plan_is, planned_so}
 use Rattle.build.proofs.build_form.Goals as goal
 
 pub returns-then-not-plan : goal.returns-then-not-plan
@@ -22,9 +22,9 @@ hand-requires c =
     let a = s.args in
     let j = c.judge-plan in (
       s.requires.0,
-      heads-and-runs a.asked a.numbers.now a.runs a.first.now a.second.now a.kind (form_at a.row).fields j.result.arguments
+      heads_and_runs a.asked a.numbers.now a.runs a.first.now a.second.now a.kind (form_at a.row).fields j.result.arguments
           s.requires.1
-          (plan-is a.asked a.numbers.now a.runs a.first.now a.second.now a.kind (form_at a.row).fields j.result j.ensures
+          (plan_is a.asked a.numbers.now a.runs a.first.now a.second.now a.kind (form_at a.row).fields j.result j.ensures
           (not-false _ c.if-not-plan.false)),
     )
 
@@ -34,5 +34,5 @@ returns c =
     let j = c.judge-plan in
     c.hand.ensures
     ∙ ap (handed a.buf.now)
-    (planned-so a.asked a.numbers.now a.runs a.first.now a.second.now a.kind (form_at a.row).fields j.result j.ensures
+    (planned_so a.asked a.numbers.now a.runs a.first.now a.second.now a.kind (form_at a.row).fields j.result j.ensures
     (not-false _ c.if-not-plan.false))

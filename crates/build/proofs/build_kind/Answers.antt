@@ -2,7 +2,7 @@
 use mathlib.Core.Path.{sym, ap, subst, ◌∙◌}
 use Rattle.messages.specs.Inside.{Finds}
 use Rattle.build.specs.Building.{handed}
-use Rattle.build.proofs.BuildLaws.{kind-not-given, kind-unknown, kind-known}
+use Rattle.build.proofs.BuildLaws.{kind_not_given, kind_unknown, kind_known}
 use Rattle.build.proofs.build_kind.Goals as goal
 
 pub returns-then-not-are_given : goal.returns-then-not-are_given
@@ -10,7 +10,7 @@ returns-then-not-are_given c =
     let a = c.args in
     rw (
       c.refused.ensures,
-      kind-not-given a.p a.kind a.asked a.numbers.now a.runs a.first.now a.second.now
+      kind_not_given a.p a.kind a.asked a.numbers.now a.runs a.first.now a.second.now
           (sym c.are_given.ensures ∙ c.if-not-are_given.true),
     )
 
@@ -26,7 +26,7 @@ returns-in-Row c =
     let a = c.args in
     c.build_form.ensures
     ∙ ap (handed a.buf.now)
-    (kind-known a.p a.kind a.asked a.numbers.now a.runs a.first.now a.second.now
+    (kind_known a.p a.kind a.asked a.numbers.now a.runs a.first.now a.second.now
     (sym c.are_given.ensures ∙ c.if-not-are_given.false)
     c.find-form.ensures _ c.in-Row.is)
 
@@ -35,7 +35,7 @@ returns-in-Unknown c =
     let a = c.args in
     rw (
       c.refused-in-Unknown.ensures,
-      kind-unknown a.p a.kind a.asked a.numbers.now a.runs a.first.now a.second.now
+      kind_unknown a.p a.kind a.asked a.numbers.now a.runs a.first.now a.second.now
           (sym c.are_given.ensures ∙ c.if-not-are_given.false)
           c.find-form.ensures c.in-Unknown.is,
     )

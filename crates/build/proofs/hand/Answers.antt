@@ -5,7 +5,7 @@ use native.Mathlib.Omega.{arith}
 use lib.ListN.{length}
 use borrow.Author.Tests.{leb-true}
 use Rattle.messages.specs.Inside.{form_at}
-use Rattle.build.proofs.BuildLaws.{hand-fits, hand-short, hand-over}
+use Rattle.build.proofs.BuildLaws.{hand_fits, hand_short, hand_over}
 use Rattle.build.proofs.hand.Goals as goal
 
 pub returns-then-not-fits : goal.returns-then-not-fits
@@ -13,7 +13,7 @@ returns-then-not-fits c =
     let s = c in
     let a = s.args in
     rw c.refused.ensures
-    (hand-short a.asked a.first.now a.second.now (form_at a.row).fields a.kind a.arguments a.buf.now s.requires.1
+    (hand_short a.asked a.first.now a.second.now (form_at a.row).fields a.kind a.arguments a.buf.now s.requires.1
     c.heads-heads.ensures.0
     c.fits.ensures c.if-not-fits.true)
 
@@ -22,7 +22,7 @@ lay-requires c =
     let s = c in
     let a = s.args in (
       s.requires.0,
-      hand-fits a.asked a.first.now a.second.now (form_at a.row).fields a.kind a.arguments a.buf.now s.requires.1
+      hand_fits a.asked a.first.now a.second.now (form_at a.row).fields a.kind a.arguments a.buf.now s.requires.1
           c.heads-heads.ensures.0
           c.fits.ensures c.if-not-fits.false,
     )
@@ -49,7 +49,7 @@ pub returns : goal.returns
 returns c =
     let s = c in
     let a = s.args in
-    hand-over a.asked a.first.now a.second.now (form_at a.row).fields a.kind a.arguments a.buf.now s.requires.1
+    hand_over a.asked a.first.now a.second.now (form_at a.row).fields a.kind a.arguments a.buf.now s.requires.1
     c.heads-heads.ensures.0
     c.fits.ensures c.if-not-fits.false (omega arith)
     c.lay.ensures

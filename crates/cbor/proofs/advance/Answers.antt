@@ -6,11 +6,11 @@ use mathlib.Core.Path.{◌≡◌, sym, ◌∙◌}
 use native.Mathlib.Omega.{arith}
 use lib.ListN.{length}
 use Rattle.ring.specs.Inside.{around}
-use Rattle.ring.proofs.Around.{around-length}
+use Rattle.ring.proofs.Around.{around_length}
 use Rattle.moves.specs.Inside.Moves.{Stays, Downs, Skips}
 use Rattle.usual.proofs.Pieces.{pieces_none, pieces_later}
-use Rattle.usual.proofs.UsualMoves.{if_past, if-asks, if-opens, if-ends}
-use Rattle.cbor.proofs.Walking.{if-stay, if-down, if-skip, begins, stays, downs, pops, whole, faults, lacks, skips}
+use Rattle.usual.proofs.UsualMoves.{if_past, if_asks, if_opens, if_ends}
+use Rattle.cbor.proofs.Walking.{if_stay, if_down, if_skip, begins, stays, downs, pops, whole, faults, lacks, skips}
 use Rattle.cbor.proofs.advance.Goals as goal
 use Rattle.cbor.proofs.advance.Goals.{then-count-eq0+else-kind-eq-ITEMS, else-count-eq0+then-at-z+in-Ends+else-breaks, else-count-eq0+then-at-z+in-Unusual, else-count-eq0+else-at-z}
 use Rattle.cbor.proofs.advance.Goals.{At-loop-count, In-Asks, In-Down, In-Opens, In-Past, In-Skip, In-Stay, Then-breaks}
@@ -46,7 +46,7 @@ asked : (c : In-Asks)
     (record { kind = o.loop-count.kind; count = o.loop-count.count - 1 }) (record { kind = 0; count = c.in-Asks.c })
 asked c =
     let o = c.loop-count in
-    if-asks o.invariant.0.good (omega arith) c.usual-q.ensures c.in-Asks.is
+    if_asks o.invariant.0.good (omega arith) c.usual-q.ensures c.in-Asks.is
 
 opened : (c : In-Opens)
     → let o = c in
@@ -54,7 +54,7 @@ opened : (c : In-Opens)
     (record { kind = o.loop-count.kind; count = o.loop-count.count - 1 }) (record { kind = c.in-Opens.k; count = 2 ^ 63 })
 opened c =
     let o = c.loop-count in
-    if-opens o.invariant.0.good (omega arith) c.usual-q.ensures c.in-Opens.is
+    if_opens o.invariant.0.good (omega arith) c.usual-q.ensures c.in-Opens.is
 
 ended : (c : Then-breaks)
     → let o = c in
@@ -62,29 +62,29 @@ ended : (c : Then-breaks)
     (record { kind = 0; count = 0 })
 ended c =
     let o = c.loop-count in
-    if-ends o.invariant.0.good (omega arith) c.usual-q.ensures c.in-Ends.is
+    if_ends o.invariant.0.good (omega arith) c.usual-q.ensures c.in-Ends.is
     (sym c.breaks.ensures ∙ c.if-breaks.true)
 
 stayed : (c : In-Stay)
     → let o = c in
     Stays (around o.args.s.now o.args.from o.args.n) o.loop-count.at o.loop-count.kind o.loop-count.count o.loop-count.depth c.in-Stay.p c.in-Stay.l
-stayed c = if-stay c.any-m.ensures c.in-Stay.is
+stayed c = if_stay c.any-m.ensures c.in-Stay.is
 
 down : (c : In-Down)
     → let o = c in
     Downs (around o.args.s.now o.args.from o.args.n) o.loop-count.at o.loop-count.kind o.loop-count.count o.loop-count.depth c.in-Down.p c.in-Down.l c.in-Down.i
-down c = if-down c.any-m.ensures c.in-Down.is
+down c = if_down c.any-m.ensures c.in-Down.is
 
 skipped : (c : In-Skip)
     → let o = c in
     Skips (around o.args.s.now o.args.from o.args.n) o.loop-count.at o.loop-count.kind o.loop-count.count o.loop-count.depth c.in-Skip.v c.in-Skip.l
-skipped c = if-skip c.any-m.ensures c.in-Skip.is
+skipped c = if_skip c.any-m.ensures c.in-Skip.is
 
 pub loop-count-init : goal.loop-count-init
 loop-count-init c =
     let a = c.args in
     let p = c.requires in
-    let len = around-length a.s.now a.from a.n p.1 in (
+    let len = around_length a.s.now a.from a.n p.1 in (
       begins (around a.s.now a.from a.n) a.at a.heads a.kind a.count a.depth a.kinds.now a.counts.now p.3
           (omega arith),
       pieces_none (length a.s.now) a.from a.n a.at,

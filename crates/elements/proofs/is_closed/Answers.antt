@@ -3,7 +3,7 @@ use mathlib.Core.Path.{refl, sym, ap}
 use native.Mathlib.Omega.{arith}
 use lib.Dec.{eqb}
 use Rattle.ring.specs.Inside.{around}
-use Rattle.ring.proofs.Around.{around-length}
+use Rattle.ring.proofs.Around.{around_length}
 use Rattle.elements.proofs.Steps.{closed_by}
 use Rattle.elements.proofs.is_closed.Goals as goal
 
@@ -20,5 +20,5 @@ returns-in-Open c =
 pub returns-in-Rest : goal.returns-in-Rest
 returns-in-Rest c =
     let a = c.args in
-    let long = around-length a.s.now a.from a.n (omega arith) in
+    let long = around_length a.s.now a.from a.n (omega arith) in
     closed_by (around a.s.now a.from a.n) a.k a.at c.in-Rest.is (ap (eqb a.at) (sym long))

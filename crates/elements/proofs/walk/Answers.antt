@@ -4,9 +4,9 @@ use Prim.Native.Nat.{ℕ, ◌-◌}
 use native.Mathlib.Omega.{arith}
 use lib.ListN.{length}
 use Rattle.ring.specs.Inside.{around}
-use Rattle.ring.proofs.Around.{around-length}
+use Rattle.ring.proofs.Around.{around_length}
 use Rattle.elements.specs.Reading.{walk}
-use Rattle.elements.proofs.Steps.{walk_end, walk-stop, walk-forward, walk-on}
+use Rattle.elements.proofs.Steps.{walk_end, walk_stop, walk_forward, walk_on}
 use Rattle.elements.proofs.walk.Goals as goal
 
 pub loop-e-init : goal.loop-e-init
@@ -20,7 +20,7 @@ pub returns-in_default : goal.returns-in_default
 returns-in_default c =
     let a = c.args in
     let l = c.loop-e in
-    walk-stop (around a.s.now a.from a.n) a.d a.e a.x l.k l.low l.at
+    walk_stop (around a.s.now a.from a.n) a.d a.e a.x l.k l.low l.at
     c.is_closed.ensures c.loop-e-test.true c.element_at-next.ensures
     c.in_default.is
     ∙ l.invariant.1
@@ -29,8 +29,8 @@ pub overflow_add-k : goal.overflow_add-k
 overflow_add-k c =
     let a = c.args in
     let l = c.loop-e in
-    let long = around-length a.s.now a.from a.n (omega arith) in
-    let on = walk-forward (around a.s.now a.from a.n) a.d a.e a.x l.k l.low l.at
+    let long = around_length a.s.now a.from a.n (omega arith) in
+    let on = walk_forward (around a.s.now a.from a.n) a.d a.e a.x l.k l.low l.at
     c.is_closed.ensures c.loop-e-test.true
     c.element_at-next.ensures c.in-Is.is in
     record { fits = omega (arith, on) }
@@ -39,8 +39,8 @@ pub loop-e-smaller : goal.loop-e-smaller
 loop-e-smaller c =
     let a = c.args in
     let l = c.loop-e in
-    let long = around-length a.s.now a.from a.n (omega arith) in
-    let on = walk-forward (around a.s.now a.from a.n) a.d a.e a.x l.k l.low l.at
+    let long = around_length a.s.now a.from a.n (omega arith) in
+    let on = walk_forward (around a.s.now a.from a.n) a.d a.e a.x l.k l.low l.at
     c.is_closed.ensures c.loop-e-test.true
     c.element_at-next.ensures c.in-Is.is in
     omega (arith, on)
@@ -49,12 +49,12 @@ pub loop-e-preserved : goal.loop-e-preserved
 loop-e-preserved c =
     let a = c.args in
     let l = c.loop-e in
-    let long = around-length a.s.now a.from a.n (omega arith) in
-    let on = walk-forward (around a.s.now a.from a.n) a.d a.e a.x l.k l.low l.at
+    let long = around_length a.s.now a.from a.n (omega arith) in
+    let on = walk_forward (around a.s.now a.from a.n) a.d a.e a.x l.k l.low l.at
     c.is_closed.ensures c.loop-e-test.true
     c.element_at-next.ensures c.in-Is.is in (
       omega (arith, on, l.invariant.0),
-      walk-on (around a.s.now a.from a.n) a.d a.e a.x l.k l.low l.at
+      walk_on (around a.s.now a.from a.n) a.d a.e a.x l.k l.low l.at
           c.is_closed.ensures c.loop-e-test.true
           c.element_at-next.ensures c.in-Is.is l.invariant.0
           ∙ l.invariant.1,

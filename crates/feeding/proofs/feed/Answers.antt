@@ -11,7 +11,7 @@ use Rattle.feeding.specs.declared.Fed.{Fed}
 use Rattle.feeding.specs.Feeding.{Reception, told, answered}
 use Rattle.admitting.specs.Inside.{reception}
 use Rattle.feeding.specs.Inside.{Sound}
-use Rattle.feeding.proofs.Bytes.{open_is, open_parts, sound_given, open_by, feed-range, feed-closed, feed-open}
+use Rattle.feeding.proofs.Bytes.{open_is, open_parts, sound_given, open_by, feed_range, feed_closed, feed_open_lem}
 use borrow.Author.Rules.{rules}
 use Rattle.feeding.proofs.feed.Goals as goal
 use Rattle.feeding.proofs.feed.Goals.{After-and, Else-not-and, Else-not-is_open}
@@ -33,14 +33,14 @@ pub returns-then-not-and : goal.returns-then-not-and
 returns-then-not-and c =
     let a = c.args in
     ap (λ (r : Fed). told r a.store.now) c.refused.ensures
-    ∙ sym (feed-range a.c a.store.now a.input.now (sym (asks (goal.at.returns-then-not-and c).After-and) ∙ c.if-not-and.true))
+    ∙ sym (feed_range a.c a.store.now a.input.now (sym (asks (goal.at.returns-then-not-and c).After-and) ∙ c.if-not-and.true))
 
 pub returns-then-not-is_open : goal.returns-then-not-is_open
 returns-then-not-is_open c =
     let a = c.args in
     ap (λ (r : Fed). told r a.store.now) c.refused-then-not-is_open.ensures
     ∙ sym
-    (feed-closed a.c a.store.now a.input.now (is_in_range (goal.at.returns-then-not-is_open c).Else-not-and)
+    (feed_closed a.c a.store.now a.input.now (is_in_range (goal.at.returns-then-not-is_open c).Else-not-and)
     (sym c.is_open.ensures ∙ c.if-not-is_open.true))
 
 pub steps-x-requires : goal.steps-x-requires
@@ -66,4 +66,4 @@ returns c =
     same
     ∙ open_by k a.store.now a.input.now t.result.used n _ (open_parts k a.store.now (open_is _ opened)) t.ensures.store_after
     t.ensures.used_value
-    ∙ sym (feed-open k a.store.now a.input.now ranged opened)
+    ∙ sym (feed_open_lem k a.store.now a.input.now ranged opened)

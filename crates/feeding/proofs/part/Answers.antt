@@ -7,7 +7,7 @@ use native.Mathlib.Omega.{arith}
 use borrow.Author.Tests.{eqb-true, leb-true}
 use Rattle.base.proofs.Conds.{both_true}
 use Rattle.wire.specs.Segments.{header_length}
-use Rattle.feeding.proofs.Bytes.{sound_under, steps-header, steps-kept}
+use Rattle.feeding.proofs.Bytes.{sound_under, steps_header, steps_kept}
 use Rattle.feeding.proofs.Headers.{steps_whole}
 use borrow.Author.Rules.{rules}
 use Rattle.feeding.proofs.part.Goals as goal
@@ -32,7 +32,7 @@ kept-requires c =
 pub returns-then-w-gt0 : goal.returns-then-w-gt0
 returns-then-w-gt0 c =
     let s = c in
-    steps-kept s.requires.sound (omega arith) c.kept.ensures
+    steps_kept s.requires.sound (omega arith) c.kept.ensures
 
 pub header_whole-requires : goal.header_whole-requires
 header_whole-requires c = omega (arith, (all_there (goal.at.header_whole-requires c).Then-and).1)
@@ -47,4 +47,4 @@ returns-then-and c =
 pub returns : goal.returns
 returns c =
     let s = c in
-    steps-header s.requires.sound s.requires.at_in_bounds (omega arith) c.headed.ensures
+    steps_header s.requires.sound s.requires.at_in_bounds (omega arith) c.headed.ensures

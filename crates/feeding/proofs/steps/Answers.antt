@@ -3,7 +3,7 @@ use mathlib.Core.Path.{refl, sym, ◌∙◌}
 use Prim.Native.Nat.{zero-le}
 use native.Mathlib.Omega.{arith}
 use native.Mathlib.Nat.{zero-add}
-use Rattle.feeding.proofs.Bytes.{run_more, run-shut, run_end}
+use Rattle.feeding.proofs.Bytes.{run_more, run_shut, run_end}
 use borrow.Author.Rules.{rules}
 use Rattle.feeding.proofs.steps.Goals as goal
 
@@ -26,7 +26,7 @@ shape_of-store-then-not-is_open c =
 pub returns-then-not-is_open : goal.returns-then-not-is_open
 returns-then-not-is_open c =
     let p = c in
-    let q = run-shut p.loop-at.invariant p.part-t.ensures (sym c.is_open.ensures ∙ c.if-not-is_open.true) in
+    let q = run_shut p.loop-at.invariant p.part-t.ensures (sym c.is_open.ensures ∙ c.if-not-is_open.true) in
     record { store_after = q.0; used_value = q.1 }
 
 pub loop-at-smaller : goal.loop-at-smaller

@@ -5,7 +5,7 @@ use mathlib.Core.List.{List}
 use Prim.Native.Nat.{ℕ}
 use lib.Dec.{eqb}
 use Rattle.ring.specs.Inside.{around}
-use Rattle.ring.proofs.Around.{around-length}
+use Rattle.ring.proofs.Around.{around_length}
 use Rattle.wire.specs.declared.instances.Party.{Party}
 use Rattle.item.specs.Verdict.{verdict}
 use Rattle.rows.specs.declared.Protocol.{Protocol}
@@ -35,7 +35,7 @@ returns-then-state-done c =
     let v = view a.party a.i a.state a.accepted a.closed (around a.area.now a.start a.n) in
     let unbarred = sym c.barred.ensures ∙ c.if-barred.false in
     let last = c.done.ensures ∙ ap done_of c.protocol-p.ensures in
-    let long = around-length a.area.now a.start a.n c.requires.2 in
+    let long = around_length a.area.now a.start a.n c.requires.2 in
     c.unjudged-then-state-done.ensures ∙ ap unjudged (c.ended.ensures ∙ ap (λ (k : ℕ). cond (eqb k 0) Finished AfterDone) (sym long))
     ∙ sym (heard-done v unbarred (c.if-state-done.true ∙ last))
 

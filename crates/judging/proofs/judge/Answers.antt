@@ -1,7 +1,7 @@
 -- `judging::judge` meets its contract: what is read is no message, or it is one, and its row is searched.
 use mathlib.Core.Path.{sym, ◌∙◌}
 use Rattle.ring.specs.Inside.{around}
-use Rattle.ring.proofs.Around.{around-length}
+use Rattle.ring.proofs.Around.{around_length}
 use Rattle.judging.proofs.JudgingLaws.{judged-wrong, judged-read}
 use Rattle.judging.proofs.judge.Goals as goal
 
@@ -19,4 +19,4 @@ returns c =
     c.by_row.ensures
     ∙ judged-read a.p a.state (around a.s.now a.from a.n) r.result a.n c.flag.result c.find-next.result
     r.ensures (sym c.is_read.ensures ∙ c.if-not-is_read.false)
-    (sym (around-length a.s.now a.from a.n c.requires.1)) c.flag.ensures c.find-next.ensures
+    (sym (around_length a.s.now a.from a.n c.requires.1)) c.flag.ensures c.find-next.ensures

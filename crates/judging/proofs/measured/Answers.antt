@@ -1,7 +1,7 @@
 -- `judging::measured` meets its contract: each case of the verdict is a case of the definition.
 use mathlib.Core.Path.{sym, ap, ◌∙◌}
 use native.Mathlib.Omega.{arith}
-use Rattle.ring.proofs.Around.{around-take}
+use Rattle.ring.proofs.Around.{around_take}
 use Rattle.judging.specs.Judging.{unjudged, judged_of}
 use Rattle.judging.proofs.JudgingLaws.{whole-alone}
 use Rattle.judging.proofs.measured.Goals as goal
@@ -19,7 +19,7 @@ returns-in-Whole c =
     let a = s.args in
     let e = sym c.measure-v.ensures ∙ c.in-Whole.is in
     let q = whole-alone a.area.now a.start a.n _ s.requires.1 e in
-    rw e (c.judge.ensures ∙ ap (judged_of a.p a.state) (sym (around-take a.area.now a.start _ a.n q.0)))
+    rw e (c.judge.ensures ∙ ap (judged_of a.p a.state) (sym (around_take a.area.now a.start _ a.n q.0)))
 
 pub returns-in-Bad : goal.returns-in-Bad
 returns-in-Bad c =

@@ -6,7 +6,7 @@ use lib.ListN.{drop, get_or}
 use Rattle.messages.specs.Inside.{form_at}
 use Rattle.parts.specs.Inside.{run_at, run_after}
 use Rattle.layout.specs.Inside.{piece_of, body_of}
-use Rattle.layout.proofs.LayoutLaws.{body-on, body_end, put-long, put_on}
+use Rattle.layout.proofs.LayoutLaws.{body_on, body_end, put_long, put_on}
 use borrow.Author.Rules.{rules}
 use Rattle.layout.proofs.put_fields.Goals as goal
 
@@ -21,13 +21,13 @@ put_field-at-requires c =
     let a = c.args in
     let l = c.loop-i in
     let f = c.field_at-f in
-    let on = body-on a.asked (form_at a.row).fields a.arguments l.i a.first.now a.second.now l.r
+    let on = body_on a.asked (form_at a.row).fields a.arguments l.i a.first.now a.second.now l.r
     (omega (arith, c.fields-count.ensures.0)) f.ensures in
     omega (
       arith,
       l.invariant.2,
       l.invariant.3,
-      put-long l.buf l.at (piece_of a.asked f.result (get_or a.arguments l.i 0) (run_at a.first.now a.second.now l.r))
+      put_long l.buf l.at (piece_of a.asked f.result (get_or a.arguments l.i 0) (run_at a.first.now a.second.now l.r))
           (body_of a.asked a.first.now a.second.now (drop (l.i + 1) (form_at a.row).fields) a.arguments (l.i + 1) (run_after f.result l.r)) on,
     )
 
@@ -42,14 +42,14 @@ loop-i-preserved c =
     let p = c.put_field-at in
     let piece = piece_of a.asked f.result (get_or a.arguments l.i 0) (run_at a.first.now a.second.now l.r) in
     let after = run_after f.result l.r in
-    let on = body-on a.asked (form_at a.row).fields a.arguments l.i a.first.now a.second.now l.r
+    let on = body_on a.asked (form_at a.row).fields a.arguments l.i a.first.now a.second.now l.r
     (omega (arith, c.fields-count.ensures.0)) f.ensures in
     let rest = body_of a.asked a.first.now a.second.now (drop (l.i + 1) (form_at a.row).fields) a.arguments (l.i + 1) after in
     rw c.after_run-r.ensures.0 (
       omega arith,
       omega (arith, c.after_run-r.ensures),
       search rules,
-      omega (arith, l.invariant.3, p.ensures.0, put-long l.buf l.at piece rest on),
+      omega (arith, l.invariant.3, p.ensures.0, put_long l.buf l.at piece rest on),
       put_on l.buf l.at piece rest on p.ensures.0 p.ensures.1 ∙ l.invariant.4,
     )
 

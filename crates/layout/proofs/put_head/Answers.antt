@@ -2,20 +2,20 @@
 use mathlib.Core.Path.{sym, ap, ◌∙◌}
 use native.Mathlib.Omega.{arith}
 use lib.ListN.{length}
-use Rattle.head.proofs.WriteLaws.{shortest-length}
+use Rattle.head.proofs.WriteLaws.{shortest_length}
 use Rattle.layout.specs.Inside.{major_of}
-use Rattle.layout.proofs.LayoutLaws.{no-head, open-head, short-head, head_there, tail_there}
+use Rattle.layout.proofs.LayoutLaws.{no_head, open_head, short_head, head_there, tail_there}
 use Rattle.layout.proofs.put_head.Goals as goal
 
 pub returns-then-is_headless : goal.returns-then-is_headless
 returns-then-is_headless c =
     let a = c.args in
-    no-head a.asked a.f a.argument a.buf.now a.at (sym c.is_headless.ensures ∙ c.if-is_headless.true)
+    no_head a.asked a.f a.argument a.buf.now a.at (sym c.is_headless.ensures ∙ c.if-is_headless.true)
 
 pub put_byte-requires : goal.put_byte-requires
 put_byte-requires c =
     let a = c.args in
-    let e = open-head a.asked a.f a.argument a.buf.now a.at (sym c.is_headless.ensures ∙ c.if-is_headless.false)
+    let e = open_head a.asked a.f a.argument a.buf.now a.at (sym c.is_headless.ensures ∙ c.if-is_headless.false)
     (sym c.is_open.ensures ∙ c.if-is_open.true) in
     omega (arith, c.requires, ap length e)
 
@@ -23,21 +23,21 @@ pub returns-then-is_open : goal.returns-then-is_open
 returns-then-is_open c =
     let a = c.args in
     tail_there a.buf.now a.at _
-    (open-head a.asked a.f a.argument a.buf.now a.at (sym c.is_headless.ensures ∙ c.if-is_headless.false)
+    (open_head a.asked a.f a.argument a.buf.now a.at (sym c.is_headless.ensures ∙ c.if-is_headless.false)
     (sym c.is_open.ensures ∙ c.if-is_open.true))
     c.put_byte.ensures
 
 pub write_head-requires : goal.write_head-requires
 write_head-requires c =
     let a = c.args in
-    let e = short-head a.asked a.f a.argument a.buf.now a.at (sym c.is_headless.ensures ∙ c.if-is_headless.false)
+    let e = short_head a.asked a.f a.argument a.buf.now a.at (sym c.is_headless.ensures ∙ c.if-is_headless.false)
     (sym c.is_open.ensures ∙ c.if-is_open.false) in
-    (c.major.ensures.1, omega (arith, c.requires, ap length e, shortest-length (major_of a.f) a.argument))
+    (c.major.ensures.1, omega (arith, c.requires, ap length e, shortest_length (major_of a.f) a.argument))
 
 pub returns : goal.returns
 returns c =
     let a = c.args in
     tail_there a.buf.now a.at _
-    (short-head a.asked a.f a.argument a.buf.now a.at (sym c.is_headless.ensures ∙ c.if-is_headless.false)
+    (short_head a.asked a.f a.argument a.buf.now a.at (sym c.is_headless.ensures ∙ c.if-is_headless.false)
     (sym c.is_open.ensures ∙ c.if-is_open.false))
     (head_there a.buf.now a.at a.argument c.major.ensures.0 c.write_head.ensures.0 c.write_head.ensures.1)

@@ -3,7 +3,7 @@ use mathlib.Core.Path.{sym, ap, ◌∙◌}
 use native.Mathlib.Omega.{arith}
 use lib.ListN.{length}
 use Rattle.parts.specs.Inside.{run_at}
-use Rattle.layout.proofs.LayoutLaws.{no_tail, tail-first, tail-second, tail_there}
+use Rattle.layout.proofs.LayoutLaws.{no_tail, tail_first, tail_second, tail_there}
 use Rattle.layout.proofs.put_tail.Goals as goal
 
 pub returns-then-is_number : goal.returns-then-is_number
@@ -14,14 +14,14 @@ returns-then-is_number c =
 pub put_run-requires : goal.put_run-requires
 put_run-requires c =
     let a = c.args in
-    let e = tail-first a.f a.first.now a.second.now a.r
+    let e = tail_first a.f a.first.now a.second.now a.r
     (sym c.is_number.ensures ∙ c.if-is_number.false) c.if-r-eq0.true in
     omega (arith, c.requires, ap length e)
 
 pub returns-then-r-eq0 : goal.returns-then-r-eq0
 returns-then-r-eq0 c =
     let a = c.args in
-    tail_there a.buf.now a.at a.first.now (tail-first a.f a.first.now a.second.now a.r
+    tail_there a.buf.now a.at a.first.now (tail_first a.f a.first.now a.second.now a.r
     (sym c.is_number.ensures ∙ c.if-is_number.false)
     c.if-r-eq0.true)
     c.put_run.ensures
@@ -29,14 +29,14 @@ returns-then-r-eq0 c =
 pub put_run-requires-2 : goal.put_run-requires-2
 put_run-requires-2 c =
     let a = c.args in
-    let e = tail-second a.f a.first.now a.second.now a.r
+    let e = tail_second a.f a.first.now a.second.now a.r
     (sym c.is_number.ensures ∙ c.if-is_number.false) c.if-r-eq0.false in
     omega (arith, c.requires, ap length e)
 
 pub returns : goal.returns
 returns c =
     let a = c.args in
-    tail_there a.buf.now a.at a.second.now (tail-second a.f a.first.now a.second.now a.r
+    tail_there a.buf.now a.at a.second.now (tail_second a.f a.first.now a.second.now a.r
     (sym c.is_number.ensures ∙ c.if-is_number.false)
     c.if-r-eq0.false)
     c.put_run-2.ensures

@@ -1,6 +1,6 @@
 -- `lister_core::header_byte` meets its contract: the test whether the header is whole decides.
 use Rattle.std.proofs.Common.{sym, ◌∙◌}
-use Rattle.lister_core.proofs.ListerLaws.{head-whole, head-part}
+use Rattle.lister_core.proofs.ListerLaws.{head_whole, head_part}
 use Rattle.lister_core.proofs.header_byte.Goals as goal
 
 pub returns-then-whole : goal.returns-then-whole
@@ -9,7 +9,7 @@ returns-then-whole c =
     let h = c.add-h in
     let w = c.whole.ensures in
     let s = c.segment-s.ensures.0 in (
-      rw s at c.then.ensures.0 ∙ sym (head-whole a.l a.b h.result h.ensures (sym w ∙ c.if-whole.true)),
+      rw s at c.then.ensures.0 ∙ sym (head_whole a.l a.b h.result h.ensures (sym w ∙ c.if-whole.true)),
       c.then.ensures.1,
     )
 
@@ -18,6 +18,6 @@ returns c =
     let a = c.args in
     let h = c.add-h in
     let w = c.whole.ensures in (
-      c.under_way.ensures.0 ∙ sym (head-part a.l a.b h.result h.ensures (sym w ∙ c.if-whole.false)),
+      c.under_way.ensures.0 ∙ sym (head_part a.l a.b h.result h.ensures (sym w ∙ c.if-whole.false)),
       c.under_way.ensures.1,
     )

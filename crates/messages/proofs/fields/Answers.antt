@@ -7,14 +7,14 @@ use lib.Dec.{eqb}
 use lib.ListN.{length, drop}
 use borrow.Author.Tests.{eqb-true}
 use Rattle.ring.specs.Inside.{around}
-use Rattle.ring.proofs.Around.{around-length}
+use Rattle.ring.proofs.Around.{around_length}
 use Rattle.messages.specs.declared.Message.{Message}
 use Rattle.elements.specs.Besides.Matching.{ItemsAt}
 use Rattle.elements.specs.Matching.{in_message}
 use Rattle.elements.proofs.ElementLaws.{none_at}
 use Rattle.messages.specs.Reading.{fields_of}
 use Rattle.messages.specs.Inside.{form_at}
-use Rattle.messages.proofs.FieldLaws.{with_count, one_more, one-wrong, none_left, then-item, part-item, last-ends, known-end}
+use Rattle.messages.proofs.FieldLaws.{with_count, one_more, one_wrong, none_left, then_item, part_item, last_ends, known_end}
 use borrow.Author.Rules.{rules}
 use Rattle.messages.proofs.fields.Goals as goal
 
@@ -23,7 +23,7 @@ loop-i-init c =
     let e = c.begin-message.ensures in
     let a = c.args in
     let bs = around a.s.now a.from a.n in
-    let long = around-length a.s.now a.from a.n (omega arith) in (
+    let long = around_length a.s.now a.from a.n (omega arith) in (
       omega arith,
       record {
         numbers = omega (arith, ap (λ (m : Message). m.count) e);
@@ -46,8 +46,8 @@ part_at-part-requires c =
       search rules,
       search rules,
       λ q e.
-          let known = known-end bs (eqb (l.i + 1) count.result) c.end_if_last-known.ensures e in
-          last-ends bs l.i (length (form_at a.row).fields) (omega (arith, eqb-true (l.i + 1) count.result known.0, count.ensures.0))
+          let known = known_end bs (eqb (l.i + 1) count.result) c.end_if_last-known.ensures e in
+          last_ends bs l.i (length (form_at a.row).fields) (omega (arith, eqb-true (l.i + 1) count.result known.0, count.ensures.0))
           l.invariant.1.passed (before.requires.by_index q known.1),
     )
 
@@ -60,7 +60,7 @@ returns-in_default c =
     let fs = (form_at a.row).fields in
     let z : l.i ≡ length fs - (count.result - l.i) = omega (arith, count.ensures.0) in (
       c.fail-answer.ensures
-          ∙ one-wrong bs fs l.i l.at l.message (omega (arith, count.ensures.0)) c.field_at.ensures
+          ∙ one_wrong bs fs l.i l.at l.message (omega (arith, count.ensures.0)) c.field_at.ensures
           c.part_at-part.ensures c.behind_of-e.ensures c.in_default.is
           ∙ l.invariant.1.gives,
       (omega (arith, count.ensures.0), subst (λ (k : ℕ). ItemsAt bs in_message k a.first l.at) z l.invariant.1.passed),
@@ -81,13 +81,13 @@ loop-i-preserved c =
     let w = c.part_at-part.result in
     let said = c.with_part-message.ensures in
     let few = with_count l.message w l.i l.invariant.1.numbers l.invariant.1.places in
-    let here = part-item bs c.field_at.result l.at c.part_at-part.ensures c.behind_of-e.ensures c.in-At.is in
+    let here = part_item bs c.field_at.result l.at c.part_at-part.ensures c.behind_of-e.ensures c.in-At.is in
     let z : suc l.i ≡ l.i + 1 = omega arith in (
       omega arith,
       record {
         numbers = omega (arith, few.0, ap (λ (m : Message). m.count) said);
         places = omega (arith, few.1, ap (λ (m : Message). m.parts) said);
-        passed = subst (λ (k : ℕ). ItemsAt bs in_message k a.first c.in-At.q) z (then-item bs l.i l.invariant.1.passed here);
+        passed = subst (λ (k : ℕ). ItemsAt bs in_message k a.first c.in-At.q) z (then_item bs l.i l.invariant.1.passed here);
         gives =
             ap (fields_of bs (drop (l.i + 1) fs) (l.i + 1 + 1) c.in-At.q) said
             ∙ one_more bs fs l.i l.at l.message (omega (arith, c.fields-count.ensures.0))

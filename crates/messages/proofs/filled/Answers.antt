@@ -3,10 +3,10 @@ use mathlib.Core.Path.{◌≡◌, ◌∙◌}
 use native.Mathlib.Omega.{arith}
 use lib.ListN.{length}
 use Rattle.ring.specs.Inside.{around}
-use Rattle.ring.proofs.Around.{around-length}
+use Rattle.ring.proofs.Around.{around_length}
 use Rattle.messages.specs.Reading.{count_from}
 use Rattle.messages.specs.Inside.{form_at}
-use Rattle.messages.proofs.FieldLaws.{kind-item, last-known, count-told, count_right, count-wrong}
+use Rattle.messages.proofs.FieldLaws.{kind_item, last_known, count_told, count_right, count_wrong}
 use borrow.Author.Rules.{rules}
 use Rattle.messages.proofs.filled.Goals as goal
 
@@ -15,9 +15,9 @@ fields-stop-requires c =
     let s = c in
     let a = s.args in
     let bs = around a.s.now a.from a.n in
-    let long : length bs ≡ a.n = around-length a.s.now a.from a.n (omega arith) in record {
-      from_in_bounds = (search rules, search rules, s.requires.from_in_bounds.2, omega (arith, long, (kind-item bs s.requires.begins).inside));
-      by_index = λ q e. last-known bs a.x c.fields.ensures.0 s.requires.begins long c.last_end.ensures e;
+    let long : length bs ≡ a.n = around_length a.s.now a.from a.n (omega arith) in record {
+      from_in_bounds = (search rules, search rules, s.requires.from_in_bounds.2, omega (arith, long, (kind_item bs s.requires.begins).inside));
+      by_index = λ q e. last_known bs a.x c.fields.ensures.0 s.requires.begins long c.last_end.ensures e;
     }
 
 pub returns-then-has_count : goal.returns-then-has_count
@@ -27,7 +27,7 @@ returns-then-has_count c =
     let bs = around a.s.now a.from a.n in
     let stop = c.fields-stop in
     count_right bs (form_at a.row).fields (count_from bs a.x a.first) a.kind a.next
-    (count-told bs a.x c.fields.ensures.0 s.requires.begins c.has_count.ensures stop.ensures.1)
+    (count_told bs a.x c.fields.ensures.0 s.requires.begins c.has_count.ensures stop.ensures.1)
     c.if-has_count.true stop.ensures.0
 
 pub returns : goal.returns
@@ -37,6 +37,6 @@ returns c =
     let bs = around a.s.now a.from a.n in
     let stop = c.fields-stop in
     c.fail.ensures
-    ∙ count-wrong bs (form_at a.row).fields (count_from bs a.x a.first) a.kind a.next
-    (count-told bs a.x c.fields.ensures.0 s.requires.begins c.has_count.ensures stop.ensures.1)
+    ∙ count_wrong bs (form_at a.row).fields (count_from bs a.x a.first) a.kind a.next
+    (count_told bs a.x c.fields.ensures.0 s.requires.begins c.has_count.ensures stop.ensures.1)
     c.if-has_count.false

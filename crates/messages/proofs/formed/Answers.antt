@@ -1,7 +1,7 @@
 -- `messages::formed` meets its contract: the search of the table finds the form, or that there is none.
 use mathlib.Core.Path.{subst, ◌∙◌}
 use Rattle.messages.specs.Inside.{Finds}
-use Rattle.messages.proofs.FieldLaws.{form-known, form-unknown}
+use Rattle.messages.proofs.FieldLaws.{form_known, form_unknown}
 use borrow.Author.Rules.{rules}
 use Rattle.messages.proofs.formed.Goals as goal
 
@@ -12,7 +12,7 @@ filled-requires c = let a = c.args in record {
 }
 
 pub returns-in-Row : goal.returns-in-Row
-returns-in-Row c = form-known _ _ _ _ _ c.find-form.ensures c.in-Row.is c.filled.ensures
+returns-in-Row c = form_known _ _ _ _ _ c.find-form.ensures c.in-Row.is c.filled.ensures
 
 pub returns-in-Unknown : goal.returns-in-Unknown
-returns-in-Unknown c = c.fail.ensures ∙ form-unknown _ _ _ _ _ c.find-form.ensures c.in-Unknown.is
+returns-in-Unknown c = c.fail.ensures ∙ form_unknown _ _ _ _ _ c.find-form.ensures c.in-Unknown.is

@@ -2,9 +2,9 @@
 use mathlib.Core.Path.{sym, ap, ◌∙◌}
 use native.Mathlib.Omega.{arith}
 use Rattle.ring.specs.Inside.{around}
-use Rattle.ring.proofs.Around.{around-length}
+use Rattle.ring.proofs.Around.{around_length}
 use Rattle.item.specs.declared.Verdict.TheVariants.{Whole}
-use Rattle.messages.proofs.FieldLaws.{message-array, message-none}
+use Rattle.messages.proofs.FieldLaws.{message_array, message_none}
 use borrow.Author.Rules.{rules}
 use Rattle.messages.proofs.read.Goals as goal
 
@@ -19,14 +19,14 @@ pub returns-in-At : goal.returns-in-At
 returns-in-At c =
     let a = c.args in
     let bs = around a.s.now a.from a.n in
-    let long = around-length a.s.now a.from a.n (omega arith) in
-    message-array bs a.p (c.requires.2 ∙ ap Whole (sym long)) c.opens_at-array.ensures
+    let long = around_length a.s.now a.from a.n (omega arith) in
+    message_array bs a.p (c.requires.2 ∙ ap Whole (sym long)) c.opens_at-array.ensures
     c.in-At.is c.opened.ensures
 
 pub returns-in-Not : goal.returns-in-Not
 returns-in-Not c =
     let a = c.args in
     let bs = around a.s.now a.from a.n in
-    let long = around-length a.s.now a.from a.n (omega arith) in
+    let long = around_length a.s.now a.from a.n (omega arith) in
     c.fail.ensures
-    ∙ message-none bs a.p (c.requires.2 ∙ ap Whole (sym long)) c.opens_at-array.ensures c.in-Not.is
+    ∙ message_none bs a.p (c.requires.2 ∙ ap Whole (sym long)) c.opens_at-array.ensures c.in-Not.is

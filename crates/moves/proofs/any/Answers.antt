@@ -4,8 +4,8 @@ use native.Mathlib.Omega.{arith}
 use Rattle.head.specs.Initial.{initial}
 use Rattle.head.proofs.ReadLaws.{long_small}
 use Rattle.ring.specs.Inside.{around}
-use Rattle.ring.proofs.Around.{around-length}
-use Rattle.moves.proofs.AnyHead.{lacks, no-reserved}
+use Rattle.ring.proofs.Around.{around_length}
+use Rattle.moves.proofs.AnyHead.{lacks, no_reserved}
 use Rattle.moves.proofs.any.Goals as goal
 
 pub returns-then-at-n : goal.returns-then-at-n
@@ -13,7 +13,7 @@ returns-then-at-n c =
     let a = c.args in
     let p = c.requires in
     let xs = around a.s.now a.from a.n in
-    let len = around-length a.s.now a.from a.n p.1 in
+    let len = around_length a.s.now a.from a.n p.1 in
     lacks xs a.at a.kind a.count a.depth (omega arith) p.4
 
 pub short-requires : goal.short-requires
@@ -42,7 +42,7 @@ returns-in-Short c =
     let a = c.args in
     let p = c.requires in
     let xs = around a.s.now a.from a.n in
-    let len = around-length a.s.now a.from a.n p.1 in
+    let len = around_length a.s.now a.from a.n p.1 in
     let e = ap initial (sym c.byte_at.ensures) ∙ sym c.initial_of-i.ensures ∙ c.in-Short.is in
     c.short.ensures xs len e
 
@@ -55,7 +55,7 @@ returns-in-Indefinite c =
     let a = c.args in
     let p = c.requires in
     let xs = around a.s.now a.from a.n in
-    let len = around-length a.s.now a.from a.n p.1 in
+    let len = around_length a.s.now a.from a.n p.1 in
     let e = ap initial (sym c.byte_at.ensures) ∙ sym c.initial_of-i.ensures ∙ c.in-Indefinite.is in
     c.indefinite.ensures xs (omega arith) e
 
@@ -68,7 +68,7 @@ returns-in-Break c =
     let a = c.args in
     let p = c.requires in
     let xs = around a.s.now a.from a.n in
-    let len = around-length a.s.now a.from a.n p.1 in
+    let len = around_length a.s.now a.from a.n p.1 in
     let e = ap initial (sym c.byte_at.ensures) ∙ sym c.initial_of-i.ensures ∙ c.in-Break.is in
     c.broken.ensures xs a.depth (omega arith) p.3 p.4 e
 
@@ -77,6 +77,6 @@ returns-in-Reserved c =
     let a = c.args in
     let p = c.requires in
     let xs = around a.s.now a.from a.n in
-    let len = around-length a.s.now a.from a.n p.1 in
+    let len = around_length a.s.now a.from a.n p.1 in
     let e = ap initial (sym c.byte_at.ensures) ∙ sym c.initial_of-i.ensures ∙ c.in-Reserved.is in
-    no-reserved xs a.at a.kind a.count a.depth (omega arith) p.4 e
+    no_reserved xs a.at a.kind a.count a.depth (omega arith) p.4 e

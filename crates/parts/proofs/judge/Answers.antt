@@ -2,7 +2,7 @@
 use mathlib.Core.Path.{refl, ◌∙◌}
 use native.Mathlib.Omega.{arith}
 use Rattle.messages.specs.Inside.{form_at}
-use Rattle.parts.proofs.PartLaws.{plan-on, plan-stop, plan-end}
+use Rattle.parts.proofs.PartLaws.{plan_on, plan_stop, plan_end}
 use borrow.Author.Rules.{rules}
 use Rattle.parts.proofs.judge.Goals as goal
 
@@ -17,7 +17,7 @@ returns-in_default c =
     let a = c.args in
     let l = c.loop-i in
     c.unmade.ensures
-    ∙ plan-stop a.numbers.now a.runs a.first.now a.second.now (form_at a.row).fields l.i l.n l.r l.arguments
+    ∙ plan_stop a.numbers.now a.runs a.first.now a.second.now (form_at a.row).fields l.i l.n l.r l.arguments
     (omega (arith, c.fields-count.ensures.0)) _
     c.field_at-f.ensures c.of_field-a.ensures c.in_default.is
     ∙ l.invariant.4
@@ -36,7 +36,7 @@ loop-i-preserved c =
       omega (arith, c.after_number-n.ensures.1),
       omega (arith, c.after_run-r.ensures.1),
       search rules,
-      plan-on a.numbers.now a.runs a.first.now a.second.now (form_at a.row).fields l.i l.n l.r l.arguments
+      plan_on a.numbers.now a.runs a.first.now a.second.now (form_at a.row).fields l.i l.n l.r l.arguments
           (omega (arith, c.fields-count.ensures.0)) _
           c.field_at-f.ensures c.of_field-a.ensures
           c.in-Is.is c.after_number-n.ensures.0 c.after_run-r.ensures.0
@@ -47,6 +47,6 @@ pub returns : goal.returns
 returns c =
     let l = c.loop-i in
     let a = c.args in
-    plan-end a.numbers.now a.runs a.first.now a.second.now (form_at a.row).fields l.i l.n l.r l.arguments
+    plan_end a.numbers.now a.runs a.first.now a.second.now (form_at a.row).fields l.i l.n l.r l.arguments
     (omega (arith, c.fields-count.ensures.0)) c.and.ensures c.all_used.ensures
     ∙ l.invariant.4

@@ -1,15 +1,15 @@
 -- `points::point_at` meets its contract: an array, or none, as the definition goes by.
 use mathlib.Core.Path.{refl}
-use Rattle.points.proofs.Steps.{point-by}
+use Rattle.points.proofs.Steps.{point_by_lem}
 use Rattle.points.proofs.point_at.Goals as goal
 
 pub returns-in-Counted : goal.returns-in-Counted
 returns-in-Counted c =
-    let b = c in point-by _ _ b.head_at.ensures b.opened-array.ensures c.in-Counted.is c.counted_point.ensures
+    let b = c in point_by_lem _ _ b.head_at.ensures b.opened-array.ensures c.in-Counted.is c.counted_point.ensures
 
 pub returns-in-Endless : goal.returns-in-Endless
 returns-in-Endless c =
-    let b = c in point-by _ _ b.head_at.ensures b.opened-array.ensures c.in-Endless.is c.endless_point.ensures
+    let b = c in point_by_lem _ _ b.head_at.ensures b.opened-array.ensures c.in-Endless.is c.endless_point.ensures
 
 pub returns-in-Shut : goal.returns-in-Shut
-returns-in-Shut c = let b = c in point-by _ _ b.head_at.ensures b.opened-array.ensures c.in-Shut.is refl
+returns-in-Shut c = let b = c in point_by_lem _ _ b.head_at.ensures b.opened-array.ensures c.in-Shut.is refl

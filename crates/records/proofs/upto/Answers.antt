@@ -2,7 +2,7 @@
 -- above it. The measure is `looks`, ⌊log2⌋ + 1 of what lies between them: each turn has one look and makes it less.
 use Rattle.std.proofs.Common.{◌+◌, ◌-◌, ◌/◌, ◌<◌, arith}
 use Rattle.point_log.proofs.RecordLaws.{slots_at}
-use Rattle.point_log.proofs.SearchLaws.{between_start, between-up, between-down, between_met}
+use Rattle.point_log.proofs.SearchLaws.{between_start, between_up, between_down, between_met}
 use Rattle.point_log.proofs.LookLaws.{fewer}
 use Rattle.records.proofs.upto.Goals as goal
 
@@ -17,7 +17,7 @@ loop-low-smaller-then-run-mid c =
 pub loop-low-preserved-then-run-mid : goal.loop-low-preserved-then-run-mid
 loop-low-preserved-then-run-mid c =
     let l = c.loop-low in
-    between-up l.invariant ((l.low + l.high) / 2) (omega arith) (omega arith)
+    between_up l.invariant ((l.low + l.high) / 2) (omega arith) (omega arith)
     (let is = slots_at c.args.run.now ((l.low + l.high) / 2) in let at = c.if-run-mid.true in omega arith)
 
 pub loop-low-smaller : goal.loop-low-smaller
@@ -28,7 +28,7 @@ loop-low-smaller c =
 pub loop-low-preserved : goal.loop-low-preserved
 loop-low-preserved c =
     let l = c.loop-low in
-    between-down l.invariant ((l.low + l.high) / 2) (omega arith) (omega arith)
+    between_down l.invariant ((l.low + l.high) / 2) (omega arith) (omega arith)
     (let is = slots_at c.args.run.now ((l.low + l.high) / 2) in let above = c.if-run-mid.false in omega arith)
 
 pub returns : goal.returns

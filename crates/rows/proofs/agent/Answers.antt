@@ -7,7 +7,7 @@ use borrow.Author.Tests.{eq-eqb, ne_eqb}
 use Rattle.rows.specs.Rows.{rows_of, agency_in, place_in}
 use Rattle.rows.specs.Inside.{entries, row_count}
 use Rattle.rows.proofs.ByProtocol.{ends, begun, onward, found, none_found}
-use Rattle.rows.proofs.RowLaws.{state-at, agent-at, holding}
+use Rattle.rows.proofs.RowLaws.{state_at, agent_at, holding}
 use Rattle.rows.proofs.agent.Goals as goal
 
 pub overflow_add-end : goal.overflow_add-end
@@ -27,9 +27,9 @@ returns-then-state_in-state c =
     let n = c.count in
     let l = c.loop-i in
     let in_table : l.i < row_count = search rules in
-    let t = eq-eqb _ _ (sym (state-at l.i in_table) ∙ sym c.state_in.ensures ∙ c.if-state_in-state.true) in
+    let t = eq-eqb _ _ (sym (state_at l.i in_table) ∙ sym c.state_in.ensures ∙ c.if-state_in-state.true) in
     c.agent_in.ensures
-    ∙ agent-at l.i in_table
+    ∙ agent_at l.i in_table
     ∙ found rows_of (holding a.state) a.p f.ensures n.ensures l.invariant (search rules) t
 
 pub loop-i-preserved : goal.loop-i-preserved
@@ -37,7 +37,7 @@ unfolding entries place_in
 loop-i-preserved c =
     let a = c.args in
     let l = c.loop-i in
-    let t = ne_eqb _ _ (λ e. c.if-state_in-state.false (c.state_in.ensures ∙ state-at l.i (search rules) ∙ e)) in
+    let t = ne_eqb _ _ (λ e. c.if-state_in-state.false (c.state_in.ensures ∙ state_at l.i (search rules) ∙ e)) in
     onward rows_of (holding a.state) l.invariant c.loop-i-test.true t
 
 pub returns : goal.returns

@@ -7,7 +7,7 @@ use Rattle.rows.specs.Rows.{rows_of, next_in, place_in}
 use Rattle.rows.specs.declared.Next.TheVariants.{To}
 use Rattle.rows.specs.Inside.{entries, row_count}
 use Rattle.rows.proofs.ByProtocol.{ends, begun, onward, found, none_found}
-use Rattle.rows.proofs.RowLaws.{suits-at, next-at, leading}
+use Rattle.rows.proofs.RowLaws.{suits_at, next_at, leading}
 use Rattle.rows.proofs.find.Goals as goal
 
 pub overflow_add-end : goal.overflow_add-end
@@ -27,8 +27,8 @@ returns-then-is_for c =
     let n = c.count in
     let l = c.loop-i in
     let in_table : l.i < row_count = search rules in
-    let t = sym (suits-at l.i in_table a.state a.kind a.flag) ∙ sym c.is_for.ensures ∙ c.if-is_for.true in
-    ap To (c.next_in.ensures ∙ next-at l.i in_table)
+    let t = sym (suits_at l.i in_table a.state a.kind a.flag) ∙ sym c.is_for.ensures ∙ c.if-is_for.true in
+    ap To (c.next_in.ensures ∙ next_at l.i in_table)
     ∙ found rows_of (leading a.state a.kind a.flag) a.p f.ensures n.ensures l.invariant (search rules) t
 
 pub loop-i-preserved : goal.loop-i-preserved
@@ -36,7 +36,7 @@ unfolding entries place_in
 loop-i-preserved c =
     let a = c.args in
     let l = c.loop-i in
-    let t = sym (suits-at l.i (search rules) a.state a.kind a.flag) ∙ sym c.is_for.ensures ∙ c.if-is_for.false in
+    let t = sym (suits_at l.i (search rules) a.state a.kind a.flag) ∙ sym c.is_for.ensures ∙ c.if-is_for.false in
     onward rows_of (leading a.state a.kind a.flag) l.invariant c.loop-i-test.true t
 
 pub returns : goal.returns

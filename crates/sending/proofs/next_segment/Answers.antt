@@ -21,7 +21,7 @@ use Rattle.ready.specs.declared.Choice.TheVariants.{Instance}
 use Rattle.ready.specs.Inside.{chosen_in}
 use Rattle.sending.specs.NextSegment.{much, by_choice, chosen_of, next_of}
 use Rattle.sending.specs.Inside.{Chosen}
-use Rattle.sending.proofs.SendingLaws.{sent_is, much_small, serve-short, serve-made, next-unranged, next-closed, next-served, by_word, is_chosen}
+use Rattle.sending.proofs.SendingLaws.{sent_is, much_small, serve_short, serve_made, next_unranged, next_closed, next_served, by_word, is_chosen}
 use borrow.Author.Rules.{rules}
 use Rattle.sending.proofs.next_segment.Goals as goal
 use Rattle.sending.proofs.next_segment.Goals.{After-and, After-choose-choice, Else-not-and, Else-not-is_open, In-Instance, In-Instance-unread}
@@ -35,7 +35,7 @@ asks c = c.and.ensures ∙ sends_is c.args.c (length c.args.store.now) c.in_rang
 pub returns-then-not-and : goal.returns-then-not-and
 returns-then-not-and c =
     let a = c.args in
-    rw c.refused.ensures (next-unranged a.c a.store.now a.time a.buf.now (sym (asks (goal.at.returns-then-not-and c).After-and) ∙ c.if-not-and.true))
+    rw c.refused.ensures (next_unranged a.c a.store.now a.time a.buf.now (sym (asks (goal.at.returns-then-not-and c).After-and) ∙ c.if-not-and.true))
 
 -- behind the first test, and behind the second
 fit : (c : Else-not-and) → sends c.args.c (length c.args.store.now) ≡ true
@@ -49,7 +49,7 @@ pub returns-then-not-is_open : goal.returns-then-not-is_open
 returns-then-not-is_open c =
     let a = c.args in
     let o = sym c.is_open.ensures ∙ c.if-not-is_open.true in
-    rw c.refused-then-not-is_open.ensures (next-closed a.c a.store.now a.time a.buf.now (fit (goal.at.returns-then-not-is_open c).Else-not-and) o)
+    rw c.refused-then-not-is_open.ensures (next_closed a.c a.store.now a.time a.buf.now (fit (goal.at.returns-then-not-is_open c).Else-not-and) o)
 
 -- ---- the choice
 -- once it is made, of a record in range: whom the definition chooses
@@ -62,7 +62,7 @@ goes : (c : After-choose-choice) → let a = c.args in sends a.c (length a.store
     → by_choice a.c a.store.now a.time a.buf.now c.choose-choice.result ≡ next_of a.c a.store.now a.time a.buf.now
 goes c f o =
     let a = c.args in
-    next-served a.c a.store.now a.time a.buf.now f o c.choose-choice.result (is_choice c (sends_both a.c (length a.store.now) f).0)
+    next_served a.c a.store.now a.time a.buf.now f o c.choose-choice.result (is_choice c (sends_both a.c (length a.store.now) f).0)
 
 pub returns-in_default : goal.returns-in_default
 returns-in_default c =
@@ -135,7 +135,7 @@ returns-then-buf-len c =
     let at = goal.at.returns-then-buf-len c in
     let a = c.args in
     rw c.refused-then-buf-len.ensures
-    (serve-short a.c a.store.now a.time a.buf.now c.in-Instance.i c.smaller-n.result c.smaller-n.ensures c.if-buf-len.true
+    (serve_short a.c a.store.now a.time a.buf.now c.in-Instance.i c.smaller-n.result c.smaller-n.ensures c.if-buf-len.true
     ∙ sym (ap (by_choice a.c a.store.now a.time a.buf.now) c.in-Instance.is)
     ∙ goes at.After-choose-choice (fit at.Else-not-and) (stands_open at.Else-not-is_open))
 
@@ -181,7 +181,7 @@ returns c =
     let leave = c.leave in
     let count = c.count-many in
     let w : Sending = record { starts = leave.new.starts; waiting = leave.new.counts; turn = c.turn_after.result } in
-    serve-made a.c a.store.now a.time a.buf.now i n c.smaller-n.ensures (with_sending a.c w) w _ c.if-buf-len.false
+    serve_made a.c a.store.now a.time a.buf.now i n c.smaller-n.ensures (with_sending a.c w) w _ c.if-buf-len.false
     (sent_is a.c.settings.party.bundle i n count.result a.c.sending a.c.settings.send _ _ _ leave.ensures.0
     leave.ensures.1 c.turn_after.ensures count.ensures.0)
     refl

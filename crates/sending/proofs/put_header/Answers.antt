@@ -1,6 +1,6 @@
 -- `sending::put_header` meets its contract: the numbers of the instance are those of the header, and they fit.
 use mathlib.Core.Path.{◌∙◌}
-use Rattle.sending.proofs.SendingLaws.{header-fits}
+use Rattle.sending.proofs.SendingLaws.{header_fits}
 use borrow.Author.Rules.{rules}
 use Rattle.sending.proofs.put_header.Goals as goal
 
@@ -10,7 +10,7 @@ write-requires c =
     let a = s.args in (
       s.requires.2,
       rw (c.mode.ensures, c.protocol.ensures.0)
-          (header-fits a.party a.i a.time a.n s.requires.0 (search rules) s.requires.1),
+          (header_fits a.party a.i a.time a.n s.requires.0 (search rules) s.requires.1),
     )
 
 pub returns : goal.returns

@@ -1,14 +1,14 @@
 -- `slices::add` meets its contract: what was found at the slot that was read decides, and the record is put.
 use mathlib.Core.Path.{refl}
 use native.Mathlib.Omega.{arith}
-use Rattle.slices.proofs.CallLaws.{add-fits, add-in, add-not}
+use Rattle.slices.proofs.CallLaws.{add-fits, add_in_lem, add_not}
 use Rattle.slices.proofs.add.Goals as goal
 
 pub returns-then-number-ne0 : goal.returns-then-number-ne0
 returns-then-number-ne0 c =
     let b = c in
     let a = b.args in
-    add-not a.slots.now a.hashes.now a.count a.item.now b.read_point-read.ensures b.slot_of.ensures b.find.ensures
+    add_not a.slots.now a.hashes.now a.count a.item.now b.read_point-read.ensures b.slot_of.ensures b.find.ensures
     refl c.growth-number.ensures c.if-number-ne0.true
 
 pub put-requires : goal.put-requires
@@ -32,5 +32,5 @@ returns c =
     let b = m in
     let a = b.args in
     rw (m.put.ensures.slots, m.put.ensures.hashes, m.point_of.ensures)
-    (add-in a.slots.now a.hashes.now a.count a.item.now b.read_point-read.ensures b.slot_of.ensures b.find.ensures
+    (add_in_lem a.slots.now a.hashes.now a.count a.item.now b.read_point-read.ensures b.slot_of.ensures b.find.ensures
     refl m.growth-number.ensures m.if-number-ne0.false)

@@ -5,11 +5,11 @@ use native.Mathlib.Nat.{le_trans}
 use lib.ListN.{length}
 use borrow.Author.Tests.{eqb-true}
 use Rattle.point_log.proofs.CallLaws.{usable_within}
-use Rattle.slices.proofs.CallLaws.{find_inside, find-not}
+use Rattle.slices.proofs.CallLaws.{find_inside, find_not}
 use Rattle.slices.proofs.find.Goals as goal
 
 pub returns-then-not-matched : goal.returns-then-not-matched
-returns-then-not-matched c = c.lost.ensures ∙ find-not _ _ _ _ c.matched.ensures c.if-not-matched.true
+returns-then-not-matched c = c.lost.ensures ∙ find_not _ _ _ _ c.matched.ensures c.if-not-matched.true
 
 pub rises-good-requires : goal.rises-good-requires
 rises-good-requires c = usable_within _ _ c.usable-n.ensures

@@ -1,6 +1,6 @@
 -- `usual::following` meets its contract: the definition goes by the same numbers.
 use native.Mathlib.Omega.{arith}
-use Rattle.usual.proofs.UsualHeads.{width_24, width_25, width_26, width_27, width-other}
+use Rattle.usual.proofs.UsualHeads.{width_24, width_25, width_26, width_27, width_other}
 use Rattle.usual.proofs.following.Goals as goal
 
 pub returns-in-24 : goal.returns-in-24
@@ -21,4 +21,4 @@ returns-in-27 c =
 
 pub returns-in_default : goal.returns-in_default
 returns-in_default c =
-    width-other c.args.i (λ q. omega arith) (λ q. omega arith) (λ q. omega arith) (λ q. omega arith)
+    width_other c.args.i (λ q. omega arith) (λ q. omega arith) (λ q. omega arith) (λ q. omega arith)

@@ -3,7 +3,7 @@ use mathlib.Core.Path.{sym, subst}
 use native.Mathlib.Omega.{arith}
 use Prim.Native.Nat.{ℕ, ◌+◌, ◌*◌}
 use Rattle.usual.specs.Inside.Usual.{Enters}
-use Rattle.usual.proofs.UsualHeads.{enter-array, enter-map, open_array, open_map}
+use Rattle.usual.proofs.UsualHeads.{enter_array, enter_map, open_array, open_map}
 use Rattle.usual.proofs.nested.Goals as goal
 
 pub returns-then-depth-ge-NESTING : goal.returns-then-depth-ge-NESTING
@@ -16,7 +16,7 @@ returns-then-b-lt-MAPS c =
     let p = c.requires in
     λ xs l e.
     subst (Enters xs a.at a.depth (a.at + 1) 0) (sym c.wide.ensures.0)
-    (enter-array xs a.at a.depth a.b l e (omega arith) (omega arith) p.1 (omega arith))
+    (enter_array xs a.at a.depth a.b l e (omega arith) (omega arith) p.1 (omega arith))
 
 pub returns-then-i-lt-ONE_BYTE : goal.returns-then-i-lt-ONE_BYTE
 returns-then-i-lt-ONE_BYTE c =
@@ -24,7 +24,7 @@ returns-then-i-lt-ONE_BYTE c =
     let p = c.requires in
     λ xs l e.
     subst (λ (v : ℕ). Enters xs a.at a.depth (a.at + 1) 0 (v * 2)) (sym c.wide-then-i-lt-ONE_BYTE.ensures.0)
-    (enter-map xs a.at a.depth a.b l e (omega arith) (omega arith) (omega arith) p.2)
+    (enter_map xs a.at a.depth a.b l e (omega arith) (omega arith) (omega arith) p.2)
 
 pub returns-then-b-eq-OPEN_ARRAY : goal.returns-then-b-eq-OPEN_ARRAY
 returns-then-b-eq-OPEN_ARRAY c =

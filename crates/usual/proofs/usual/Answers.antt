@@ -5,9 +5,9 @@ use native.Mathlib.Omega.{arith}
 use Prim.Native.Nat.{ℕ, ◌+◌, ◌%◌, ◌<◌}
 use lib.ListN.{length, get_or}
 use Rattle.ring.specs.Inside.{around}
-use Rattle.ring.proofs.Around.{around-length}
+use Rattle.ring.proofs.Around.{around_length}
 use Rattle.usual.proofs.Pieces.{spot_here, spot_byte}
-use Rattle.usual.proofs.UsualHeads.{width-most, is-break, pass-number, pass-simple}
+use Rattle.usual.proofs.UsualHeads.{width_most, is_break, pass_number, pass_simple}
 use Rattle.usual.proofs.usual.Goals as goal
 use Rattle.usual.proofs.usual.Goals.{Start}
 
@@ -17,7 +17,7 @@ bytes c = around c.args.s.now c.args.from c.args.n
 
 near : (c : Start) → (c.args.at + 8 < length (bytes c)) × (length (bytes c) ≡ c.args.n) × (c.args.p + 8 < length c.args.s.now)
 near c =
-    let long = around-length c.args.s.now c.args.from c.args.n c.requires.1 in
+    let long = around_length c.args.s.now c.args.from c.args.n c.requires.1 in
     (omega (arith, c.requires.2.more), long, c.requires.2.inside)
 
 first : (c : Start) → get_or c.args.s.now c.args.p 0 ≡ get_or (bytes c) c.args.at 0
@@ -29,12 +29,12 @@ info c = get_or c.args.s.now c.args.p 0 % 32
 pub returns-then-b : goal.returns-then-b
 returns-then-b c =
     let s = (goal.at.returns-then-b c).Start in
-    is-break (bytes s) s.args.at s.args.depth _ (near s).0 (first s) c.if-b.true
+    is_break (bytes s) s.args.at s.args.depth _ (near s).0 (first s) c.if-b.true
 
 pub returns-then-b-lt-STRINGS : goal.returns-then-b-lt-STRINGS
 returns-then-b-lt-STRINGS c =
     let s = (goal.at.returns-then-b-lt-STRINGS c).Start in
-    pass-number (bytes s) s.args.at s.args.depth _ (near s).0 (first s) (s.args.at + 1 + c.following.result)
+    pass_number (bytes s) s.args.at s.args.depth _ (near s).0 (first s) (s.args.at + 1 + c.following.result)
     (ap (λ (w : ℕ). s.args.at + 1 + w) c.following.ensures) (omega arith) (omega arith)
 
 pub returns-then-b-lt-ARRAYS : goal.returns-then-b-lt-ARRAYS
@@ -46,7 +46,7 @@ returns-then-b-lt-ARRAYS c =
 pub returns : goal.returns
 returns c =
     let s = (goal.at.returns c).Start in
-    pass-simple (bytes s) s.args.at s.args.depth _ (near s).0 (first s) (s.args.at + 1 + c.following-2.result)
+    pass_simple (bytes s) s.args.at s.args.depth _ (near s).0 (first s) (s.args.at + 1 + c.following-2.result)
     (ap (λ (w : ℕ). s.args.at + 1 + w) c.following-2.ensures) (omega arith) (omega arith)
     (omega (arith, c.type_inv.s s.args.p))
     c.if-i-eq-ONE_BYTE.false
@@ -61,7 +61,7 @@ pub overflow_add-result-then-b-lt-STRINGS : goal.overflow_add-result-then-b-lt-S
 overflow_add-result-then-b-lt-STRINGS c = omega (arith, near (goal.at.overflow_add-result-then-b-lt-STRINGS c).Start)
 
 pub overflow_add-result-then-b-lt-STRINGS-2 : goal.overflow_add-result-then-b-lt-STRINGS-2
-overflow_add-result-then-b-lt-STRINGS-2 c = omega (arith, near (goal.at.overflow_add-result-then-b-lt-STRINGS-2 c).Start, width-most (info (goal.at.overflow_add-result-then-b-lt-STRINGS-2 c).Start))
+overflow_add-result-then-b-lt-STRINGS-2 c = omega (arith, near (goal.at.overflow_add-result-then-b-lt-STRINGS-2 c).Start, width_most (info (goal.at.overflow_add-result-then-b-lt-STRINGS-2 c).Start))
 
 pub overflow_add-p : goal.overflow_add-p
 overflow_add-p c = omega (arith, near (goal.at.overflow_add-p c).Start)
@@ -88,4 +88,4 @@ pub overflow_add-result-2 : goal.overflow_add-result-2
 overflow_add-result-2 c = omega (arith, near (goal.at.overflow_add-result-2 c).Start)
 
 pub overflow_add-result-3 : goal.overflow_add-result-3
-overflow_add-result-3 c = omega (arith, near (goal.at.overflow_add-result-3 c).Start, width-most (info (goal.at.overflow_add-result-3 c).Start))
+overflow_add-result-3 c = omega (arith, near (goal.at.overflow_add-result-3 c).Start, width_most (info (goal.at.overflow_add-result-3 c).Start))

@@ -5,20 +5,20 @@ use Prim.Native.Nat.{ℕ, ◌+◌, ◌/◌, ◌≤◌}
 use native.Mathlib.Omega.{arith}
 use borrow.Author.Rules.{rules}
 use Rattle.ring.specs.Inside.{around}
-use Rattle.ring.proofs.Around.{around-length}
+use Rattle.ring.proofs.Around.{around_length}
 use Rattle.head.specs.Read.{head_by, head_at}
 use Rattle.head.specs.declared.Major.{Major}
 use Rattle.head.specs.declared.Initial.{Initial}
 use Rattle.head.specs.declared.Initial.TheVariants.{Long}
-use Rattle.head.proofs.ReadLaws.{head_by-around, head-none, long_small}
+use Rattle.head.proofs.ReadLaws.{head_by_around, head_none, long_small}
 use Rattle.head.proofs.read.head_around.Goals as goal
 use Rattle.head.proofs.read.head_around.Goals.{After-initial_of-says}
 
 pub returns-then-n-at : goal.returns-then-n-at
 returns-then-n-at c =
     let a = c.args in
-    let long = around-length a.s.now a.from a.n (omega arith) in
-    sym (head-none (around a.s.now a.from a.n) a.at (omega arith))
+    let long = around_length a.s.now a.from a.n (omega arith) in
+    sym (head_none (around a.s.now a.from a.n) a.at (omega arith))
 
 -- once the byte is told: the bytes, the head by what the byte says, and how many bytes can follow it
 abbrev bytes : After-initial_of-says → List ℕ
@@ -29,7 +29,7 @@ by : (c : After-initial_of-says) {i : Initial} → c.initial_of-says.result ≡ 
     ≡ head_at (bytes c) c.args.at
 by c e =
     let a = c.args in
-    head_by-around a.s.now a.from a.n (omega arith) (omega arith) c.byte_at-b.ensures c.initial_of-says.ensures e
+    head_by_around a.s.now a.from a.n (omega arith) (omega arith) c.byte_at-b.ensures c.initial_of-says.ensures e
 
 few : (c : After-initial_of-says) {M : Major} {k : ℕ} → c.initial_of-says.result ≡ Long M k → k + 1 ≤ 8
 few c e = long_small c.byte_at-b.result c.initial_of-says.ensures e

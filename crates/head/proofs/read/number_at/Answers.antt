@@ -6,7 +6,7 @@ use lib.ListN.{length}
 use Rattle.base.specs.Numbers.{spelled}
 use Rattle.base.proofs.NumberLaws.{number_more, room, grows}
 use Rattle.ring.specs.Inside.{around}
-use Rattle.ring.proofs.Around.{around-length}
+use Rattle.ring.proofs.Around.{around_length}
 use Rattle.head.proofs.read.number_at.Goals as goal
 
 pub loop-j-init : goal.loop-j-init
@@ -28,7 +28,7 @@ loop-j-preserved c =
     let a = c.args in
     let l = c.loop-j in
     let bs = around a.s.now a.from a.n in
-    let long : length bs ≡ a.n = around-length a.s.now a.from a.n (omega arith) in (
+    let long : length bs ≡ a.n = around_length a.s.now a.from a.n (omega arith) in (
       search rules,
       rw (l.invariant.1, c.wide.ensures.0, c.byte_at.ensures, number_more bs a.at l.j (omega arith)),
       grows l.j l.v c.wide.result l.invariant.2 (search rules),

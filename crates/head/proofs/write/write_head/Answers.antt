@@ -4,7 +4,7 @@ use native.Mathlib.Omega.{arith}
 use lib.ListN.{length, length-set}
 use lib.Seq.{length-sets}
 use Rattle.head.specs.declared.write.Width.{Width}
-use Rattle.head.proofs.WriteLaws.{shortest-stored}
+use Rattle.head.proofs.WriteLaws.{shortest_stored}
 use Rattle.head.proofs.write.write_head.Goals as goal
 
 pub write-requires : goal.write-requires
@@ -20,4 +20,4 @@ returns c =
     let a = c.args in
     let width = c.width_of-w.ensures.0 in
     let follow = ap (λ (w : Width). w.bytes) width in
-    (omega arith, shortest-stored a.buf.now a.at a.major a.argument width c.write.ensures)
+    (omega arith, shortest_stored a.buf.now a.at a.major a.argument width c.write.ensures)

@@ -3,7 +3,7 @@ use mathlib.Core.Path.{◌∙◌, sym}
 use mathlib.Core.List.{List}
 use native.Mathlib.Omega.{arith}
 use borrow.Author.Rules.{rules}
-use Rattle.base.proofs.Table.{entry-fits}
+use Rattle.base.proofs.Table.{entry_fits}
 use Rattle.wire.proofs.InstanceLaws.{counts, count_right, none_unknown, at_most}
 use Rattle.wire.proofs.instances.count.Goals as goal
 
@@ -11,7 +11,7 @@ pub returns-then-bundle : goal.returns-then-bundle
 returns-then-bundle c = (sym (none_unknown _ c.if-bundle.true), omega arith)
 
 pub overflow_cast-result : goal.overflow_cast-result
-overflow_cast-result c = record { fits = entry-fits counts tt c.args.bundle (search rules) }
+overflow_cast-result c = record { fits = entry_fits counts tt c.args.bundle (search rules) }
 
 pub returns : goal.returns
 returns c =
