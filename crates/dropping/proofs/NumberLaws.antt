@@ -27,26 +27,26 @@ use Rattle.judging.specs.declared.Judged.{Judged}
 use Rattle.judging.specs.declared.Outcome.{Outcome}
 use Rattle.judging.specs.Judging.{spoken, outcome_number, unjudged, led}
 use Rattle.judging.proofs.HearingLaws.{no_offset}
-use Rattle.judging.proofs.Moving.{moved-ranged, moved_shaped}
+use Rattle.judging.proofs.Moving.{moved_ranged, moved_shaped}
 use Rattle.hearing.specs.Hearing.{seen, shown_by, shut}
 use Rattle.hearing.specs.Besides.Numbers as hearing
 use Rattle.hearing.specs.Besides.Numbers.{Unshown, Found, Tells, refusal, message}
-use Rattle.hearing.proofs.HearingLaws.{asked, held-within}
-use Rattle.hearing.proofs.NumberLaws.{tells, hear_exactly, unshown-number, which_byte_heard, bad_closes, not_fault, shut_keeps}
+use Rattle.hearing.proofs.HearingLaws.{asked, held_within}
+use Rattle.hearing.proofs.NumberLaws.{tells, hear_exactly, unshown_number, which_byte_heard, bad_closes, not_fault, shut_keeps}
 use Rattle.dropping.specs.declared.Dropped.{Dropped}
 use Rattle.dropping.specs.Dropping.{freed_of, handed, drop_of}
 use Rattle.dropping.specs.Besides.Numbers.{When, refused, done, Exactly, Leaves, LeavesAll, Drops, Frees, WhichByte, Keeps}
-use Rattle.dropping.proofs.DroppingLaws.{drop-refused, drop-done}
+use Rattle.dropping.proofs.DroppingLaws.{drop_refused, drop_done}
 
 module _ (c : Connection) (store : List ℕ) (i : ℕ) where
   -- what a call comes to: without a message, and with one
-  pub drop-stays : {o : Outcome} → Unshown c store i o → record { shown = shown_by (unjudged o); connection = shut c i (outcome_number o) } ≡ drop_of c store i
-  drop-stays {o} u =
-      drop-refused c store i (unjudged o) (sym ((hear_exactly c store i (unjudged o)).1 (refusal u))) _ refl _ (λ z. omega (arith, unshown-number u)) refl
+  pub drop_stays : {o : Outcome} → Unshown c store i o → record { shown = shown_by (unjudged o); connection = shut c i (outcome_number o) } ≡ drop_of c store i
+  drop_stays {o} u =
+      drop_refused c store i (unjudged o) (sym ((hear_exactly c store i (unjudged o)).1 (refusal u))) _ refl _ (λ z. omega (arith, unshown_number u)) refl
 
-  pub drop-gone : {n next : ℕ} {m : Message} → Found c store i n m next
+  pub drop_gone : {n next : ℕ} {m : Message} → Found c store i n m next
       → record { shown = hearing.done n m; connection = handed c i (led n m next) } ≡ drop_of c store i
-  drop-gone {n} {next} {m} f = drop-done c store i (led n m next) (sym ((hear_exactly c store i (led n m next)).1 (message f))) _ refl _ refl refl
+  drop_gone {n} {next} {m} f = drop_done c store i (led n m next) (sym ((hear_exactly c store i (led n m next)).1 (message f))) _ refl _ refl refl
 
   -- these are its ways
   pub data Way : ℕ → Type 0 where
@@ -56,16 +56,16 @@ module _ (c : Connection) (store : List ℕ) (i : ℕ) where
         → record { shown = hearing.done n m; connection = handed c i (led n m next) } ≡ drop_of c store i → Way 0
 
   goes : {n : ℕ} → When c store i n → Way n
-  goes (refused {o = o} u) = stays o u (drop-stays u)
-  goes (done {n = n} {next = next} {m = m} f) = gone n m next f (drop-gone f)
+  goes (refused {o = o} u) = stays o u (drop_stays u)
+  goes (done {n = n} {next = next} {m = m} f) = gone n m next f (drop_gone f)
 
   -- one of them holds
-  by-told : {j : Judged} → Tells c store i j → (n : ℕ) × When c store i n
-  by-told (refusal {o = o} u) = (outcome_number o, refused u)
-  by-told (message f) = (0, done f)
+  by_told : {j : Judged} → Tells c store i j → (n : ℕ) × When c store i n
+  by_told (refusal {o = o} u) = (outcome_number o, refused u)
+  by_told (message f) = (0, done f)
 
   when : (n : ℕ) × When c store i n
-  when = by-told (tells c store i)
+  when = by_told (tells c store i)
 
   pub way : (n : ℕ) × Way n
   way = let (n, w) = when in (n, goes w)
@@ -90,7 +90,7 @@ module _ (c : Connection) (store : List ℕ) (i : ℕ) where
   given : {n : ℕ} → Way n → n ≡ 0
       → (k : ℕ) × (m : Message) × (next : ℕ) × Found c store i k m next
       × (drop_of c store i ≡ record { shown = hearing.done k m; connection = handed c i (led k m next) })
-  given (stays o u e) z = absurd (omega (arith, unshown-number u))
+  given (stays o u e) z = absurd (omega (arith, unshown_number u))
   given (gone k m next f e) z = (k, m, next, f, sym e)
 
 pub exactly : Exactly
@@ -131,7 +131,7 @@ pub frees : Frees
 frees c store i s z =
     let (n, m, next, f, e) = drops c store i z in
     let low : i < 9 = (asked c store i f.asked).below in
-    rw e (freed_held c store i (led n m next) (omega (arith, s.receive_starts)) (omega (arith, s.held)) (held-within c store i n f.spells.whole))
+    rw e (freed_held c store i (led n m next) (omega (arith, s.receive_starts)) (omega (arith, s.held)) (held_within c store i n f.spells.whole))
 
 -- ---- the range
 
@@ -152,8 +152,8 @@ module _ (c : Connection) (s : Shaped c) (r : Ranged c) (i : ℕ) (inside : i < 
       leaves_front caps c.receiving.starts c.receiving.held i n (omega arith) (omega (arith, s.receive_starts)) (omega (arith, s.held)) j
       (r.receiving j h).0
 
-  freed-ranged : Ranged after
-  freed-ranged =
+  freed_ranged : Ranged after
+  freed_ranged =
       record {
         set = r.set;
         receiving = λ j h. let q = fewer j h in (q.0, omega (arith, q.1, (r.receiving j h).1));
@@ -166,8 +166,8 @@ module _ (c : Connection) (s : Shaped c) (r : Ranged c) (i : ℕ) (inside : i < 
         closing = r.closing;
       }
 
-  freed-shaped : Shaped after
-  freed-shaped =
+  freed_shaped : Shaped after
+  freed_shaped =
       record {
         receive = s.receive;
         send = s.send;
@@ -187,8 +187,8 @@ keeps_by c store i s r (gone k m next f e) =
     let h = f.asked.1 in
     let protocol = spoken (seen c store i) in
     rw (← e) (
-      is_in_range (handed c i (led k m next)) (moved-ranged d i m.kind (flag_of protocol m) next h s.states (freed-ranged c s r i h k) f.spells.row),
-      moved_shaped d i m.kind next (freed-shaped c s r i h k),
+      is_in_range (handed c i (led k m next)) (moved_ranged d i m.kind (flag_of protocol m) next h s.states (freed_ranged c s r i h k) f.spells.row),
+      moved_shaped d i m.kind next (freed_shaped c s r i h k),
     )
 
 pub keeps : Keeps

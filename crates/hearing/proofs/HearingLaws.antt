@@ -28,7 +28,7 @@ use Rattle.range.proofs.StoreLaws.{receive_area}
 use Rattle.range.proofs.RangeLaws.{ranged, receives_both}
 use Rattle.judging.specs.declared.Outcome.TheVariants.{OutOfRange, NoInstance}
 use Rattle.judging.specs.Judging.{unjudged, heard}
-use Rattle.judging.proofs.JudgingLaws.{whole-within}
+use Rattle.judging.proofs.JudgingLaws.{whole_within}
 use Rattle.hearing.specs.Inside.{Held, of_parts}
 use Rattle.hearing.specs.Hearing.{hear_of}
 
@@ -69,15 +69,15 @@ module _ (c : Connection) (store : List ℕ) (i : ℕ) where
       }
 
   -- the first n of those held
-  pub held-take : (n : ℕ) → n ≤ get_or c.receiving.held i 0 → first_held c store i n ≡ take n (held_of c store i)
-  held-take n l = sym (stream_take store (base_of c.settings.receive i) (get_or c.settings.receive i 0) (get_or c.receiving.starts i 0) n _ l)
+  pub held_take : (n : ℕ) → n ≤ get_or c.receiving.held i 0 → first_held c store i n ≡ take n (held_of c store i)
+  held_take n l = sym (stream_take store (base_of c.settings.receive i) (get_or c.settings.receive i 0) (get_or c.receiving.starts i 0) n _ l)
 
   -- as many are held as the record says, and an item among them is not longer
-  pub held-long : length (held_of c store i) ≡ get_or c.receiving.held i 0
-  held-long = stream_length store (base_of c.settings.receive i) (get_or c.settings.receive i 0) (get_or c.receiving.starts i 0) _
+  pub held_long : length (held_of c store i) ≡ get_or c.receiving.held i 0
+  held_long = stream_length store (base_of c.settings.receive i) (get_or c.settings.receive i 0) (get_or c.receiving.starts i 0) _
 
-  pub held-within : (m : ℕ) → verdict (held_of c store i) ≡ Whole m → m ≤ get_or c.receiving.held i 0
-  held-within m e = omega (arith, whole-within (held_of c store i) m e, held-long)
+  pub held_within : (m : ℕ) → verdict (held_of c store i) ≡ Whole m → m ≤ get_or c.receiving.held i 0
+  held_within m e = omega (arith, whole_within (held_of c store i) m e, held_long)
 
 -- fewer bytes from the same place on
 pub shorter : {caps : List ℕ} {n i first count : ℕ} → Held caps n i first count → (k : ℕ) → k ≤ count → Held caps n i first k
@@ -95,15 +95,15 @@ shorter h k l =
 -- ---- the ways out of the code
 
 module _ (c : Connection) (store : List ℕ) (i : ℕ) where
-  pub hear-range : receives c (length store) ≡ false → unjudged OutOfRange ≡ hear_of c store i
+  pub hear_range : receives c (length store) ≡ false → unjudged OutOfRange ≡ hear_of c store i
   unfolding hear_of
-  hear-range r = rw r
+  hear_range r = rw r
 
-  pub hear-instance : receives c (length store) ≡ true → instances c.settings.party.bundle ≤ i → unjudged NoInstance ≡ hear_of c store i
+  pub hear_instance : receives c (length store) ≡ true → instances c.settings.party.bundle ≤ i → unjudged NoInstance ≡ hear_of c store i
   unfolding hear_of
-  hear-instance r h = rw (r, le-ltb i (instances c.settings.party.bundle) h)
+  hear_instance r h = rw (r, le-ltb i (instances c.settings.party.bundle) h)
 
-  pub hear-heard : InReceive c store i → (closed : Bool) → closed ≡ not (is_open c.gate)
+  pub hear_heard : InReceive c store i → (closed : Bool) → closed ≡ not (is_open c.gate)
       → heard
       (record {
         party = c.settings.party;
@@ -115,7 +115,7 @@ module _ (c : Connection) (store : List ℕ) (i : ℕ) where
       })
       ≡ hear_of c store i
   unfolding hear_of
-  hear-heard a closed o = rw (a.0, lt-ltb i (instances c.settings.party.bundle) a.1, o)
+  hear_heard a closed o = rw (a.0, lt-ltb i (instances c.settings.party.bundle) a.1, o)
 
 -- ---- a record that is taken apart
 

@@ -35,7 +35,7 @@ use Rattle.hearing.specs.declared.Shown.{Shown}
 use Rattle.hearing.specs.Inside.{Held}
 use Rattle.hearing.specs.Hearing.{seen, hear_of, shown_by, shut}
 use Rattle.hearing.specs.Besides.Numbers.{Unshown, out_of_range, no_instance, unheard, Tells, refusal, message, HearExactly, Offset, WhichByte, ShutNames}
-use Rattle.hearing.proofs.HearingLaws.{asked, held-within}
+use Rattle.hearing.proofs.HearingLaws.{asked, held_within}
 
 -- ---- what is heard, exactly when
 
@@ -44,33 +44,33 @@ module _ (c : Connection) (store : List ℕ) (i : ℕ) where
   count = instances c.settings.party.bundle
 
   -- where a "when" holds, that is heard
-  heard-here : InReceive c store i → {j : Judged} → Hears (seen c store i) j → hear_of c store i ≡ j
+  heard_here : InReceive c store i → {j : Judged} → Hears (seen c store i) j → hear_of c store i ≡ j
   unfolding hear_of
-  heard-here a {j} h = rw (a.0, lt-ltb i count a.1) ((heard_exactly (seen c store i) j).1 h)
+  heard_here a {j} h = rw (a.0, lt-ltb i count a.1) ((heard_exactly (seen c store i) j).1 h)
 
-  hear-so : {j : Judged} → Tells c store i j → hear_of c store i ≡ j
+  hear_so : {j : Judged} → Tells c store i j → hear_of c store i ≡ j
   unfolding hear_of
-  hear-so (refusal (out_of_range r)) = rw r
-  hear-so (refusal (no_instance r h)) = rw (r, le-ltb i count h)
-  hear-so (refusal (unheard a u)) = heard-here a (judging.refusal u)
-  hear-so (message f) = heard-here f.asked (judging.message f.spells)
+  hear_so (refusal (out_of_range r)) = rw r
+  hear_so (refusal (no_instance r h)) = rw (r, le-ltb i count h)
+  hear_so (refusal (unheard a u)) = heard_here a (judging.refusal u)
+  hear_so (message f) = heard_here f.asked (judging.message f.spells)
 
   -- and one of them holds
-  of-heard : InReceive c store i → {j : Judged} → Hears (seen c store i) j → Tells c store i j
-  of-heard a (judging.refusal u) = refusal (unheard a u)
-  of-heard a (judging.message s) = message (record { asked = a; spells = s })
+  of_heard : InReceive c store i → {j : Judged} → Hears (seen c store i) j → Tells c store i j
+  of_heard a (judging.refusal u) = refusal (unheard a u)
+  of_heard a (judging.message s) = message (record { asked = a; spells = s })
 
   pub tells : Tells c store i (hear_of c store i)
   unfolding hear_of
   tells =
       cond_cases (Tells c store i) (receives c (length store))
       (λ r.
-      cond_cases (Tells c store i) (ltb i count) (λ t. of-heard (r, ltb-true i count t) (hears (seen c store i)))
+      cond_cases (Tells c store i) (ltb i count) (λ t. of_heard (r, ltb-true i count t) (hears (seen c store i)))
       (λ t. refusal (no_instance r (ltb-false i count t))))
       (λ r. refusal (out_of_range r))
 
 pub hear_exactly : HearExactly
-hear_exactly c store i j = (λ e. subst (Tells c store i) e (tells c store i), hear-so c store i)
+hear_exactly c store i j = (λ e. subst (Tells c store i) e (tells c store i), hear_so c store i)
 
 -- ---- what follows
 
@@ -97,51 +97,51 @@ unheard_room (judging.no_row w e s x) z = omega arith
 
 module _ {c : Connection} {store : List ℕ} {i : ℕ} where
   -- no refusal or notice is 0
-  pub unshown-number : {o : Outcome} → Unshown c store i o → 0 < outcome_number o
-  unshown-number (out_of_range r) = omega arith
-  unshown-number (no_instance r h) = omega arith
-  unshown-number (unheard a u) = (unheard_number u).0
+  pub unshown_number : {o : Outcome} → Unshown c store i o → 0 < outcome_number o
+  unshown_number (out_of_range r) = omega arith
+  unshown_number (no_instance r h) = omega arith
+  unshown_number (unheard a u) = (unheard_number u).0
 
   -- and none is 18
-  pub unshown-room : {o : Outcome} → Unshown c store i o → outcome_number o ≢ 18
-  unshown-room (out_of_range r) z = omega arith
-  unshown-room (no_instance r h) z = omega arith
-  unshown-room (unheard a u) z = unheard_room u z
+  pub unshown_room : {o : Outcome} → Unshown c store i o → outcome_number o ≢ 18
+  unshown_room (out_of_range r) z = omega arith
+  unshown_room (no_instance r h) z = omega arith
+  unshown_room (unheard a u) z = unheard_room u z
 
   -- a fault is of an instance of a record in range
-  pub fault-asked : {o : Outcome} → Unshown c store i o → heard_fault (outcome_number o) ≡ true → InReceive c store i
-  fault-asked (out_of_range r) f = absurd (true≢false (sym f ∙ not_fault.3))
-  fault-asked (no_instance r h) f = absurd (true≢false (sym f ∙ not_fault.1))
-  fault-asked (unheard a u) f = a
+  pub fault_asked : {o : Outcome} → Unshown c store i o → heard_fault (outcome_number o) ≡ true → InReceive c store i
+  fault_asked (out_of_range r) f = absurd (true≢false (sym f ∙ not_fault.3))
+  fault_asked (no_instance r h) f = absurd (true≢false (sym f ∙ not_fault.1))
+  fault_asked (unheard a u) f = a
 
   -- with 14, the offset tells which byte
-  pub unshown-offset : {o : Outcome} → Unshown c store i o → Offset (held_of c store i) (shown_by (unjudged o))
-  unshown-offset (out_of_range r) = record { before = λ z. absurd (omega arith); with_it = λ z. absurd (omega arith); else_none = λ q. refl }
-  unshown-offset (no_instance r h) = record { before = λ z. absurd (omega arith); with_it = λ z. absurd (omega arith); else_none = λ q. refl }
-  unshown-offset (unheard {o = o} a u) =
+  pub unshown_offset : {o : Outcome} → Unshown c store i o → Offset (held_of c store i) (shown_by (unjudged o))
+  unshown_offset (out_of_range r) = record { before = λ z. absurd (omega arith); with_it = λ z. absurd (omega arith); else_none = λ q. refl }
+  unshown_offset (no_instance r h) = record { before = λ z. absurd (omega arith); with_it = λ z. absurd (omega arith); else_none = λ q. refl }
+  unshown_offset (unheard {o = o} a u) =
       let first = (which_byte nesting (held_of c store i) (outcome_offset o)).so in
       record { before = λ z. (first (unheard_bad u z)).0; with_it = λ z. (first (unheard_bad u z)).1; else_none = no_offset o }
 
-  told-offset : {j : Judged} → Tells c store i j → Offset (held_of c store i) (shown_by j)
-  told-offset (refusal u) = unshown-offset u
-  told-offset (message f) = record { before = λ z. absurd (omega arith); with_it = λ z. absurd (omega arith); else_none = λ q. refl }
+  told_offset : {j : Judged} → Tells c store i j → Offset (held_of c store i) (shown_by j)
+  told_offset (refusal u) = unshown_offset u
+  told_offset (message f) = record { before = λ z. absurd (omega arith); with_it = λ z. absurd (omega arith); else_none = λ q. refl }
 
   -- with 0, the instance is one of a record in range, and the message is not longer than what is held
-  told-found : {j : Judged} → Tells c store i j → outcome_number j.outcome ≡ 0 → InReceive c store i × (j.len ≤ get_or c.receiving.held i 0)
-  told-found (refusal u) z = absurd (omega (arith, unshown-number u))
-  told-found (message {n = n} f) z = (f.asked, held-within c store i n f.spells.whole)
+  told_found : {j : Judged} → Tells c store i j → outcome_number j.outcome ≡ 0 → InReceive c store i × (j.len ≤ get_or c.receiving.held i 0)
+  told_found (refusal u) z = absurd (omega (arith, unshown_number u))
+  told_found (message {n = n} f) z = (f.asked, held_within c store i n f.spells.whole)
 
 pub which_byte_heard : WhichByte
-which_byte_heard c store i = told-offset (tells c store i)
+which_byte_heard c store i = told_offset (tells c store i)
 
 -- the number that is shown is that of what was heard; where it is 0, the message is in its area
-pub number-heard : (j : Judged) (s : Shown) → s ≡ shown_by j → s.number ≡ outcome_number j.outcome
-number-heard j s f = ap (λ (x : Shown). x.number) f
+pub number_heard : (j : Judged) (s : Shown) → s ≡ shown_by j → s.number ≡ outcome_number j.outcome
+number_heard j s f = ap (λ (x : Shown). x.number) f
 
 pub found : (c : Connection) (store : List ℕ) (i : ℕ) (j : Judged) → j ≡ hear_of c store i → (s : Shown) → s ≡ shown_by j → s.number ≡ 0
     → Held c.settings.receive (length store) i (get_or c.receiving.starts i 0) (get_or c.receiving.held i 0) × (j.len ≤ get_or c.receiving.held i 0)
 found c store i j e s f z =
-    let (a, l) = told-found (subst (Tells c store i) (sym e) (tells c store i)) (sym (number-heard j s f) ∙ z) in (asked c store i a, l)
+    let (a, l) = told_found (subst (Tells c store i) (sym e) (tells c store i)) (sym (number_heard j s f) ∙ z) in (asked c store i a, l)
 
 -- ---- the closing
 
@@ -199,5 +199,5 @@ shut_keeps c store i s r {o} u =
     by_test (heard_fault n)
     (λ t.
     let g = closed_by c.gate (Of n i) in
-    rw t (is_in_range (with_gate c g) (gated c g r (closed_ok c.settings.party.bundle c.gate n i t (fault-asked u t).1 r.closing)), gated_shaped c g s))
+    rw t (is_in_range (with_gate c g) (gated c g r (closed_ok c.settings.party.bundle c.gate n i t (fault_asked u t).1 r.closing)), gated_shaped c g s))
     (λ t. rw t (is_in_range c r, s))

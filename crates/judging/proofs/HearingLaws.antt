@@ -22,7 +22,7 @@ use Rattle.judging.specs.Judging.{View, spoken, ours_now, barred, at_done, outco
 use Rattle.judging.specs.Besides.Hearing.{Awaited, Unheard, Hears, refusal, message, HeardExactly}
 use Rattle.judging.specs.Besides.Hearing.{no_accept, finished, past_done, our_turn, waiting, closed, are_bad, not_a_message, no_row}
 use Rattle.judging.proofs.JudgingLaws as judging
-use Rattle.judging.proofs.JudgingLaws.{Judges, judges, judged-so, whole-within}
+use Rattle.judging.proofs.JudgingLaws.{Judges, judges, judged_so, whole_within}
 
 module _ (v : View) where
   abbrev by_bytes : Verdict → Judged
@@ -30,50 +30,50 @@ module _ (v : View) where
 
   -- ---- where a "when" holds, that is told
 
-  pub awaited-so : Awaited v → (d : Verdict) → verdict v.bytes ≡ d → heard v ≡ by_bytes d
+  pub awaited_so : Awaited v → (d : Verdict) → verdict v.bytes ≡ d → heard v ≡ by_bytes d
   unfolding heard
-  awaited-so w d e = rw (w.allowed, ne_eqb v.state (done_of (spoken v)) w.going, w.theirs, e)
+  awaited_so w d e = rw (w.allowed, ne_eqb v.state (done_of (spoken v)) w.going, w.theirs, e)
 
-  pub heard-done : barred v ≡ false → v.state ≡ done_of (spoken v) → heard v ≡ unjudged (cond (eqb (length v.bytes) 0) Finished AfterDone)
+  pub heard_done : barred v ≡ false → v.state ≡ done_of (spoken v) → heard v ≡ unjudged (cond (eqb (length v.bytes) 0) Finished AfterDone)
   unfolding heard
-  heard-done b d = rw (b, eq-eqb v.state (done_of (spoken v)) d)
+  heard_done b d = rw (b, eq-eqb v.state (done_of (spoken v)) d)
 
-  judged-as : Awaited v → (n : ℕ) → verdict v.bytes ≡ Whole n → {j : Judged} → Judges (spoken v) v.state (take n v.bytes) j → heard v ≡ j
-  judged-as w n e q = awaited-so w (Whole n) e ∙ judged-so (spoken v) v.state (take n v.bytes) q
+  judged_as : Awaited v → (n : ℕ) → verdict v.bytes ≡ Whole n → {j : Judged} → Judges (spoken v) v.state (take n v.bytes) j → heard v ≡ j
+  judged_as w n e q = awaited_so w (Whole n) e ∙ judged_so (spoken v) v.state (take n v.bytes) q
 
-  unheard-so : {o : Outcome} → Unheard v o → heard v ≡ unjudged o
+  unheard_so : {o : Outcome} → Unheard v o → heard v ≡ unjudged o
   unfolding heard
-  unheard-so (no_accept b) = rw b
-  unheard-so (finished b d z) = heard-done b d ∙ rw (eq-eqb (length v.bytes) 0 z)
-  unheard-so (past_done b d z) = heard-done b d ∙ rw (ne_eqb (length v.bytes) 0 z)
-  unheard-so (our_turn b d o) = rw (b, ne_eqb v.state (done_of (spoken v)) d, o)
-  unheard-so (waiting w e o) = awaited-so w Incomplete e ∙ rw o
-  unheard-so (closed w e o) = awaited-so w Incomplete e ∙ rw o
-  unheard-so (are_bad {at = at} w e) = awaited-so w (Bad at) e
-  unheard-so (not_a_message {n = n} {r = r} w e q none) = judged-as w n e (judging.not-read r q none)
-  unheard-so (no_row {n = n} {m = m} w e s x) = judged-as w n e (judging.not-led m s x)
+  unheard_so (no_accept b) = rw b
+  unheard_so (finished b d z) = heard_done b d ∙ rw (eq-eqb (length v.bytes) 0 z)
+  unheard_so (past_done b d z) = heard_done b d ∙ rw (ne_eqb (length v.bytes) 0 z)
+  unheard_so (our_turn b d o) = rw (b, ne_eqb v.state (done_of (spoken v)) d, o)
+  unheard_so (waiting w e o) = awaited_so w Incomplete e ∙ rw o
+  unheard_so (closed w e o) = awaited_so w Incomplete e ∙ rw o
+  unheard_so (are_bad {at = at} w e) = awaited_so w (Bad at) e
+  unheard_so (not_a_message {n = n} {r = r} w e q none) = judged_as w n e (judging.not_read r q none)
+  unheard_so (no_row {n = n} {m = m} w e s x) = judged_as w n e (judging.not_led m s x)
 
   -- the first n bytes are n, if they are an item
-  pub first-long : (n : ℕ) → verdict v.bytes ≡ Whole n → length (take n v.bytes) ≡ n
-  first-long n e = length-take-le n v.bytes (whole-within v.bytes n e)
+  pub first_long : (n : ℕ) → verdict v.bytes ≡ Whole n → length (take n v.bytes) ≡ n
+  first_long n e = length-take-le n v.bytes (whole_within v.bytes n e)
 
-  heard-so : {j : Judged} → Hears v j → heard v ≡ j
-  heard-so (refusal u) = unheard-so u
-  heard-so (message {n = n} {next = next} {m = m} s) =
-      judged-as s.awaited n s.whole (judging.message m next s.says s.row) ∙ ap (λ (k : ℕ). led k m next) (first-long n s.whole)
+  heard_so : {j : Judged} → Hears v j → heard v ≡ j
+  heard_so (refusal u) = unheard_so u
+  heard_so (message {n = n} {next = next} {m = m} s) =
+      judged_as s.awaited n s.whole (judging.message m next s.says s.row) ∙ ap (λ (k : ℕ). led k m next) (first_long n s.whole)
 
   -- ---- and one of them holds
 
-  by-judged : Awaited v → (n : ℕ) → verdict v.bytes ≡ Whole n → {j : Judged} → Judges (spoken v) v.state (take n v.bytes) j → Hears v j
-  by-judged w n e (judging.not-read r q none) = refusal (not_a_message w e q none)
-  by-judged w n e (judging.not-led m s x) = refusal (no_row w e s x)
-  by-judged w n e (judging.message m next s x) =
-      rw (first-long n e) (message (record { awaited = w; whole = e; says = s; row = x }))
+  by_judged : Awaited v → (n : ℕ) → verdict v.bytes ≡ Whole n → {j : Judged} → Judges (spoken v) v.state (take n v.bytes) j → Hears v j
+  by_judged w n e (judging.not_read r q none) = refusal (not_a_message w e q none)
+  by_judged w n e (judging.not_led m s x) = refusal (no_row w e s x)
+  by_judged w n e (judging.message m next s x) =
+      rw (first_long n e) (message (record { awaited = w; whole = e; says = s; row = x }))
 
-  hears-by_verdict : Awaited v → (d : Verdict) → verdict v.bytes ≡ d → Hears v (by_bytes d)
-  hears-by_verdict w (Whole n) e = by-judged w n e (judges (spoken v) v.state (take n v.bytes))
-  hears-by_verdict w (Bad at) e = refusal (are_bad w e)
-  hears-by_verdict w Incomplete e =
+  hears_by_verdict : Awaited v → (d : Verdict) → verdict v.bytes ≡ d → Hears v (by_bytes d)
+  hears_by_verdict w (Whole n) e = by_judged w n e (judges (spoken v) v.state (take n v.bytes))
+  hears_by_verdict w (Bad at) e = refusal (are_bad w e)
+  hears_by_verdict w Incomplete e =
       cond_cases (λ (o : Outcome). Hears v (unjudged o)) v.closed (λ o. refusal (closed w e o)) (λ o. refusal (waiting w e o))
 
   pub hears : Hears v (heard v)
@@ -91,10 +91,10 @@ module _ (v : View) where
       (λ t.
       let d = eqb-false v.state done t in
       cond_cases (Hears v) (ours_now v) (λ o. refusal (our_turn b d o))
-      (λ o. hears-by_verdict (record { allowed = b; going = d; theirs = o }) (verdict v.bytes) refl)))
+      (λ o. hears_by_verdict (record { allowed = b; going = d; theirs = o }) (verdict v.bytes) refl)))
 
 pub heard_exactly : HeardExactly
-heard_exactly v j = (λ e. subst (Hears v) e (hears v), heard-so v)
+heard_exactly v j = (λ e. subst (Hears v) e (hears v), heard_so v)
 
 -- no refusal or notice is 0, and none is above 20
 pub unheard_number : {v : View} {o : Outcome} → Unheard v o → (0 < outcome_number o) × (outcome_number o ≤ 20)
@@ -137,9 +137,9 @@ no_offset NoInstance h = refl
 no_offset NoRoom h = refl
 
 -- what is judged is not longer than the bytes
-pub heard-within : (v : View) → (heard v).len ≤ length v.bytes
-heard-within v = of (hears v)
+pub heard_within : (v : View) → (heard v).len ≤ length v.bytes
+heard_within v = of (hears v)
   where
     of : {j : Judged} → Hears v j → j.len ≤ length v.bytes
     of (refusal u) = omega arith
-    of (message {n = n} s) = whole-within v.bytes n s.whole
+    of (message {n = n} s) = whole_within v.bytes n s.whole

@@ -38,21 +38,21 @@ initiator_mode true = refl
 initiator_mode false = refl
 
 -- agency in the protocol that an instance speaks
-pub ours-spoken : (us : Party) (i state : ℕ) (p : Protocol) → p ≡ speaks us.bundle i
+pub ours_spoken : (us : Party) (i state : ℕ) (p : Protocol) → p ≡ speaks us.bundle i
     → holds (initiates us.side (role_of us.bundle i)) (agency_of p state) ≡ ours us i state
 unfolding ours
-ours-spoken us i state p e = rw e
+ours_spoken us i state p e = rw e
 
 -- ---- the verdict
 
 -- an item is not longer than the bytes that it begins
-pub whole-within : (bs : List ℕ) (m : ℕ) → verdict bs ≡ Whole m → m ≤ length bs
-whole-within bs m e = ((exactly nesting bs (Whole m)).0 e).0
+pub whole_within : (bs : List ℕ) (m : ℕ) → verdict bs ≡ Whole m → m ≤ length bs
+whole_within bs m e = ((exactly nesting bs (Whole m)).0 e).0
 
 -- the bytes of the item alone are that item
-pub whole-alone : (xs : List ℕ) (from n m : ℕ) → n ≤ length xs → verdict (around xs from n) ≡ Whole m
+pub whole_alone : (xs : List ℕ) (from n m : ℕ) → n ≤ length xs → verdict (around xs from n) ≡ Whole m
     → (m ≤ n) × (verdict (around xs from m) ≡ Whole m)
-whole-alone xs from n m l e =
+whole_alone xs from n m l e =
     let bs : List ℕ = around xs from n in
     let q = (exactly nesting bs (Whole m)).0 e in
     let long : length bs ≡ n = around_length xs from n l in
@@ -65,27 +65,27 @@ whole-alone xs from n m l e =
 
 module _ (p : Protocol) (state : ℕ) (bs : List ℕ) where
   -- no message
-  pub judged-wrong : (a : Answer) → a ≡ message_of p bs → is_read a.reading ≡ false → unjudged (NoMessage a.reading) ≡ judged_of p state bs
+  pub judged_wrong : (a : Answer) → a ≡ message_of p bs → is_read a.reading ≡ false → unjudged (NoMessage a.reading) ≡ judged_of p state bs
   unfolding judged_of
-  judged-wrong a e h = rw (← e, h)
+  judged_wrong a e h = rw (← e, h)
 
   -- a message, with its row or without
-  pub judged-read : (a : Answer) (n f : ℕ) (next : Next) → a ≡ message_of p bs → is_read a.reading ≡ true → n ≡ length bs → f ≡ flag_of p a.message
+  pub judged_read : (a : Answer) (n f : ℕ) (next : Next) → a ≡ message_of p bs → is_read a.reading ≡ true → n ≡ length bs → f ≡ flag_of p a.message
       → next ≡ next_of p state a.message.kind f → by_row n a.message next ≡ judged_of p state bs
   unfolding judged_of
-  judged-read a n f next e h l g q = rw (← e, h, ← g, ← q, ← l)
+  judged_read a n f next e h l g q = rw (← e, h, ← g, ← q, ← l)
 
   -- not exactly one item
-  pub judged-not-one : wholly (verdict bs) (length bs) ≡ false → unjudged (NoMessage NotArray) ≡ judged_of p state bs
+  pub judged_not_one : wholly (verdict bs) (length bs) ≡ false → unjudged (NoMessage NotArray) ≡ judged_of p state bs
   unfolding judged_of message_of
-  judged-not-one h = rw h
+  judged_not_one h = rw h
 
   -- ---- the ways of judging
 
   -- no message, and why; one without a row; or a message, and where its row leads
   pub data Judges : Judged → Type 0 where
-    not-read : (r : Reading) → (message_of p bs).reading ≡ r → ((m : Message) → Says p bs m → ⊥) → Judges (unjudged (NoMessage r))
-    not-led : (m : Message) → Says p bs m → next_of p state m.kind (flag_of p m) ≡ None → Judges (unjudged NoRow)
+    not_read : (r : Reading) → (message_of p bs).reading ≡ r → ((m : Message) → Says p bs m → ⊥) → Judges (unjudged (NoMessage r))
+    not_led : (m : Message) → Says p bs m → next_of p state m.kind (flag_of p m) ≡ None → Judges (unjudged NoRow)
     message : (m : Message) (to : ℕ) → Says p bs m → next_of p state m.kind (flag_of p m) ≡ To to → Judges (led (length bs) m to)
 
   -- bytes that were not read say nothing
@@ -98,10 +98,10 @@ module _ (p : Protocol) (state : ℕ) (bs : List ℕ) where
     where
       row : (m : Message) (x : Next) → Says p bs m → next_of p state m.kind (flag_of p m) ≡ x → Judges (by_row (length bs) m x)
       row m (To to) s q = message m to s q
-      row m None s q = not-led m s q
+      row m None s q = not_led m s q
 
       none : (r : Reading) (m : Message) → message_of p bs ≡ record { reading = r; message = m } → is_read r ≡ false → Judges (unjudged (NoMessage r))
-      none r m e z = let q = ap (λ (x : Answer). x.reading) e in not-read r q (unread q z)
+      none r m e z = let q = ap (λ (x : Answer). x.reading) e in not_read r q (unread q z)
 
       of : (r : Reading) (m : Message) → message_of p bs ≡ record { reading = r; message = m }
           → Judges (by_reading p state (length bs) (record { reading = r; message = m }))
@@ -114,14 +114,14 @@ module _ (p : Protocol) (state : ℕ) (bs : List ℕ) where
   -- and each of them exactly then
   by_row_lem : (m : Message) (x : Next) → Says p bs m → next_of p state m.kind (flag_of p m) ≡ x → judged_of p state bs ≡ by_row (length bs) m x
   by_row_lem m x s q =
-      sym (judged-read (read m) (length bs) (flag_of p m) x (sym ((reads_forms p bs m).1 s)) refl refl refl (sym q))
+      sym (judged_read (read m) (length bs) (flag_of p m) x (sym ((reads_forms p bs m).1 s)) refl refl refl (sym q))
 
-  pub judged-so : {j : Judged} → Judges j → judged_of p state bs ≡ j
-  judged-so (not-led m s q) = by_row_lem m None s q
-  judged-so (message m to s q) = by_row_lem m (To to) s q
-  judged-so (not-read r e none) = of judges
+  pub judged_so : {j : Judged} → Judges j → judged_of p state bs ≡ j
+  judged_so (not_led m s q) = by_row_lem m None s q
+  judged_so (message m to s q) = by_row_lem m (To to) s q
+  judged_so (not_read r e none) = of judges
     where
       of : {j : Judged} → Judges j → j ≡ unjudged (NoMessage r)
-      of (not-read q f n) = ap (λ (x : Reading). unjudged (NoMessage x)) (sym f ∙ e)
-      of (not-led m s q) = absurd (none m s)
+      of (not_read q f n) = ap (λ (x : Reading). unjudged (NoMessage x)) (sym f ∙ e)
+      of (not_led m s q) = absurd (none m s)
       of (message m to s q) = absurd (none m s)

@@ -52,8 +52,8 @@ all_accept : T (every nothing accepts 0 (rows_of Handshake))
 unfolding place_in
 all_accept = tt
 
-accept-ends : (s f n : ℕ) → next_of Handshake s 1 f ≡ To n → n ≡ done_of Handshake
-accept-ends s f n e =
+accept_ends : (s f n : ℕ) → next_of Handshake s 1 f ≡ To n → n ≡ done_of Handshake
+accept_ends s f n e =
     let (j, h, t, q) = rows_say.only Handshake s 1 f n e in
     let r = row_in Handshake j in
     let same = eqb r.kind 1 && eqb r.flag f in
@@ -74,8 +74,8 @@ first_speaks b =
     ap spoken (eqb→eq (protocol_first (bundle_of b)) 0 first))
     (λ t. ap (λ (xs : List Instance). spoken (protocol_first xs)) (unknown_none b (ltb-false b (length bundles) t)))
 
-pub accept-done : (b s f n : ℕ) → next_of (speaks b 0) s 1 f ≡ To n → n ≡ done_of (speaks b 0)
-accept-done b s f n e = rw (first_speaks b) (accept-ends s f n (rw (first_speaks b) at e))
+pub accept_done : (b s f n : ℕ) → next_of (speaks b 0) s 1 f ≡ To n → n ≡ done_of (speaks b 0)
+accept_done b s f n e = rw (first_speaks b) (accept_ends s f n (rw (first_speaks b) at e))
 
 -- a mark that is there bars Handshake from moving, and one that is made now is made by message 1
 marked : (b : ℕ) (t : Talk) (k f n : ℕ) → (t.accepted ≡ true → get_or t.states 0 0 ≡ done_of (speaks b 0))
@@ -83,7 +83,7 @@ marked : (b : ℕ) (t : Talk) (k f n : ℕ) → (t.accepted ≡ true → get_or 
 marked b t k f n d e m =
     by_test t.accepted
     (λ a. let l = (leads_low (speaks b 0) (get_or t.states 0 0) k f n e).0 in let q = d a in absurd (omega arith))
-    (λ a. accept-done b (get_or t.states 0 0) f n (rw (eqb-true k 1 (rw a at m)) at e))
+    (λ a. accept_done b (get_or t.states 0 0) f n (rw (eqb-true k 1 (rw a at m)) at e))
 
 unmarked : (b : Bool) → (b || false) ≡ true → b ≡ true
 unmarked true m = refl
@@ -118,8 +118,8 @@ module _ (c : Connection) (i kind flag next : ℕ) (inside : i < instances c.set
   there : (j : ℕ) → j ≢ i → get_or after.states j 0 ≡ get_or c.talk.states j 0
   there j ne = get_or-set_other c.talk.states i j next 0 ne
 
-  state-low : (j : ℕ) → j < instances b → get_or after.states j 0 ≤ done_of (speaks b j)
-  state-low j h =
+  state_low : (j : ℕ) → j < instances b → get_or after.states j 0 ≤ done_of (speaks b j)
+  state_low j h =
       by_test (eqb j i)
       (λ q. rw (eqb-true j i q, here) (leads_low (speaks b i) (get_or c.talk.states i 0) kind flag next e).1)
       (λ q. rw (there j (eqb-false j i q)) (r.states j h))
@@ -133,13 +133,13 @@ module _ (c : Connection) (i kind flag next : ℕ) (inside : i < instances c.set
       ap (λ (k : ℕ). get_or after.states k 0) (sym z) ∙ here ∙ marked b c.talk kind flag next r.accepted (rw z at e) (rw q at m))
       (λ q. there 0 (λ z. eqb-false i 0 q (sym z)) ∙ r.accepted (unmarked c.talk.accepted (rw q at m)))
 
-  pub moved-ranged : Ranged (with_talk c (moved_by c.talk i kind next))
-  moved-ranged =
+  pub moved_ranged : Ranged (with_talk c (moved_by c.talk i kind next))
+  moved_ranged =
       record {
         set = r.set;
         receiving = r.receiving;
         sending = r.sending;
-        states = state-low;
+        states = state_low;
         turn = r.turn;
         header = r.header;
         under_way = r.under_way;

@@ -11,34 +11,34 @@ use Rattle.judging.specs.Judging.{View, spoken, ours_now, barred, outcome_number
 use Rattle.judging.specs.Besides.Saying.{OurTurn, Unsaid, Utters, refusal, message, SaidExactly}
 use Rattle.judging.specs.Besides.Saying.{closed, no_accept, not_our_turn, not_a_message, no_row}
 use Rattle.judging.proofs.JudgingLaws as judging
-use Rattle.judging.proofs.JudgingLaws.{Judges, judges, judged-so}
+use Rattle.judging.proofs.JudgingLaws.{Judges, judges, judged_so}
 
 module _ (v : View) where
   -- where a "when" holds, that is told
-  pub said-bytes : OurTurn v → said v ≡ judged_of (spoken v) v.state v.bytes
+  pub said_bytes : OurTurn v → said v ≡ judged_of (spoken v) v.state v.bytes
   unfolding said
-  said-bytes t = rw (t.unclosed, t.allowed, t.ours)
+  said_bytes t = rw (t.unclosed, t.allowed, t.ours)
 
-  judged-as : OurTurn v → {j : Judged} → Judges (spoken v) v.state v.bytes j → said v ≡ j
-  judged-as t q = said-bytes t ∙ judged-so (spoken v) v.state v.bytes q
+  judged_as : OurTurn v → {j : Judged} → Judges (spoken v) v.state v.bytes j → said v ≡ j
+  judged_as t q = said_bytes t ∙ judged_so (spoken v) v.state v.bytes q
 
-  unsaid-so : {o : Outcome} → Unsaid v o → said v ≡ unjudged o
+  unsaid_so : {o : Outcome} → Unsaid v o → said v ≡ unjudged o
   unfolding said
-  unsaid-so (closed o) = rw o
-  unsaid-so (no_accept o b) = rw (o, b)
-  unsaid-so (not_our_turn o b u) = rw (o, b, u)
-  unsaid-so (not_a_message {r = r} t e none) = judged-as t (judging.not-read r e none)
-  unsaid-so (no_row {m = m} t s x) = judged-as t (judging.not-led m s x)
+  unsaid_so (closed o) = rw o
+  unsaid_so (no_accept o b) = rw (o, b)
+  unsaid_so (not_our_turn o b u) = rw (o, b, u)
+  unsaid_so (not_a_message {r = r} t e none) = judged_as t (judging.not_read r e none)
+  unsaid_so (no_row {m = m} t s x) = judged_as t (judging.not_led m s x)
 
-  said-so : {j : Judged} → Utters v j → said v ≡ j
-  said-so (refusal u) = unsaid-so u
-  said-so (message {next = next} {m = m} k) = judged-as k.turn (judging.message m next k.says k.row)
+  said_so : {j : Judged} → Utters v j → said v ≡ j
+  said_so (refusal u) = unsaid_so u
+  said_so (message {next = next} {m = m} k) = judged_as k.turn (judging.message m next k.says k.row)
 
   -- and one of them holds
-  by-judged : OurTurn v → {j : Judged} → Judges (spoken v) v.state v.bytes j → Utters v j
-  by-judged t (judging.not-read r e none) = refusal (not_a_message t e none)
-  by-judged t (judging.not-led m s x) = refusal (no_row t s x)
-  by-judged t (judging.message m next s x) = message (record { turn = t; says = s; row = x })
+  by_judged : OurTurn v → {j : Judged} → Judges (spoken v) v.state v.bytes j → Utters v j
+  by_judged t (judging.not_read r e none) = refusal (not_a_message t e none)
+  by_judged t (judging.not_led m s x) = refusal (no_row t s x)
+  by_judged t (judging.message m next s x) = message (record { turn = t; says = s; row = x })
 
   pub utters : Utters v (said v)
   unfolding said
@@ -48,11 +48,11 @@ module _ (v : View) where
       cond_cases (Utters v) (barred v) (λ b. refusal (no_accept o b))
       (λ b.
       cond_cases (Utters v) (ours_now v)
-      (λ u. by-judged (record { unclosed = o; allowed = b; ours = u }) (judges (spoken v) v.state v.bytes))
+      (λ u. by_judged (record { unclosed = o; allowed = b; ours = u }) (judges (spoken v) v.state v.bytes))
       (λ u. refusal (not_our_turn o b u))))
 
 pub said_exactly : SaidExactly
-said_exactly v j = (λ e. subst (Utters v) e (utters v), said-so v)
+said_exactly v j = (λ e. subst (Utters v) e (utters v), said_so v)
 
 -- no refusal is 0, and none is above 21
 pub unsaid_number : {v : View} {o : Outcome} → Unsaid v o → (0 < outcome_number o) × (outcome_number o ≤ 21)

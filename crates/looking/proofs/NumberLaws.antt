@@ -26,13 +26,13 @@ use Rattle.judging.proofs.HearingLaws.{no_offset}
 use Rattle.hearing.specs.Hearing.{shown_by, shut}
 use Rattle.hearing.specs.Besides.Numbers as hearing
 use Rattle.hearing.specs.Besides.Numbers.{Unshown, Found, Tells, refusal, message, Offset, bare}
-use Rattle.hearing.proofs.NumberLaws.{tells, hear_exactly, unshown-number, unshown-offset, bad_closes, not_fault, shut_keeps}
+use Rattle.hearing.proofs.NumberLaws.{tells, hear_exactly, unshown_number, unshown_offset, bad_closes, not_fault, shut_keeps}
 use Rattle.looking.specs.declared.Place.TheVariants.{Store, Scratch, Nowhere}
 use Rattle.looking.specs.Looking.{Told, told, look_of}
 use Rattle.looking.specs.Besides.Numbers as numbers
 use Rattle.looking.specs.Besides.Numbers.{InOneRun, Wrapped, When, refused, no_room, in_one_run, joined, Exactly, Leaves, LeavesAll, ShownWhere, Looks, WhichByte, Keeps}
 use Rattle.looking.proofs.LookingLaws as laws
-use Rattle.looking.proofs.LookingLaws.{look-refused, look-done}
+use Rattle.looking.proofs.LookingLaws.{look_refused, look_done}
 
 -- other places are not scratch
 pub nowhere_else : Nowhere ≡ Scratch → ⊥
@@ -80,35 +80,35 @@ module _ (c : Connection) (store : List ℕ) (i : ℕ) (scratch : List ℕ) wher
   goes : {n : ℕ} → When c store i scratch n → Way n
   goes (refused {o = o} u) =
       stays o u
-      (look-refused c store i scratch (unjudged o) (sym ((hear_exactly c store i (unjudged o)).1 (refusal u))) _ refl _ (λ z. omega (arith, unshown-number u)) refl)
+      (look_refused c store i scratch (unjudged o) (sym ((hear_exactly c store i (unjudged o)).1 (refusal u))) _ refl _ (λ z. omega (arith, unshown_number u)) refl)
   goes (no_room {n = n} {next = next} {m = m} f w l) =
       short n m next f w l
-      (look-done c store i scratch (led n m next) (sym ((hear_exactly c store i (led n m next)).1 (message f))) _ refl Nowhere _ _ refl
-      (sym (laws.wraps-out base cap start n (length scratch) w l)) refl refl)
+      (look_done c store i scratch (led n m next) (sym ((hear_exactly c store i (led n m next)).1 (message f))) _ refl Nowhere _ _ refl
+      (sym (laws.wraps_out base cap start n (length scratch) w l)) refl refl)
   goes (in_one_run {n = n} {next = next} {m = m} f w) =
       lies n m next f w
-      (look-done c store i scratch (led n m next) (sym ((hear_exactly c store i (led n m next)).1 (message f))) _ refl (Store (base + start)) _ _ refl
+      (look_done c store i scratch (led n m next) (sym ((hear_exactly c store i (led n m next)).1 (message f))) _ refl (Store (base + start)) _ _ refl
       (sym (laws.in_one_run base cap start n (length scratch) w)) refl refl)
   goes (joined {n = n} {next = next} {m = m} f w l) =
       joins n m next f w l
-      (look-done c store i scratch (led n m next) (sym ((hear_exactly c store i (led n m next)).1 (message f))) _ refl Scratch _ _ refl
-      (sym (laws.wraps-in base cap start n (length scratch) w l)) refl refl)
+      (look_done c store i scratch (led n m next) (sym ((hear_exactly c store i (led n m next)).1 (message f))) _ refl Scratch _ _ refl
+      (sym (laws.wraps_in base cap start n (length scratch) w l)) refl refl)
 
   -- ---- and one of them holds
 
   abbrev Some : Type 0
   Some = (n : ℕ) × When c store i scratch n
 
-  by-told : {j : Judged} → Tells c store i j → Some
-  by-told (refusal {o = o} u) = (outcome_number o, refused u)
-  by-told (message {n = n} f) =
+  by_told : {j : Judged} → Tells c store i j → Some
+  by_told (refusal {o = o} u) = (outcome_number o, refused u)
+  by_told (message {n = n} f) =
       by_test (leb (start + n) cap) (λ t. (0, in_one_run f (leb-true (start + n) cap t)))
       (λ t.
       let w : cap < start + n = leb-false (start + n) cap t in
       by_test (leb n (length scratch)) (λ l. (0, joined f w (leb-true n (length scratch) l))) (λ l. (18, no_room f w (leb-false n (length scratch) l))))
 
   when : Some
-  when = by-told (tells c store i)
+  when = by_told (tells c store i)
 
   pub way : (n : ℕ) × Way n
   way = let (n, w) = when in (n, goes w)
@@ -124,7 +124,7 @@ module _ (c : Connection) (store : List ℕ) (i : ℕ) (scratch : List ℕ) wher
   -- what a way leaves
   leaves_by : {n : ℕ} → Way n → Leaves c store i scratch out
   leaves_by (stays o u e) =
-      let some = unshown-number u in
+      let some = unshown_number u in
       rw (← e)
       (record {
         fault = λ t. rw t;
@@ -166,17 +166,17 @@ module _ (c : Connection) (store : List ℕ) (i : ℕ) (scratch : List ℕ) wher
   Given = (n : ℕ) × (m : Message) × (next : ℕ) × Found c store i n m next × ShownWhere c i scratch n m out
 
   given : {n : ℕ} → Way n → n ≡ 0 → Given
-  given (stays o u e) z = absurd (omega (arith, unshown-number u))
+  given (stays o u e) z = absurd (omega (arith, unshown_number u))
   given (short n m next f w l e) z = absurd (omega arith)
   given (lies n m next f w e) z = (n, m, next, f, numbers.store w (ap (λ (t : Told). t.answer) (sym e)))
   given (joins n m next f w l e) z = (n, m, next, f, numbers.scratch w l (ap (λ (t : Told). t.answer) (sym e)))
 
   -- which byte
-  offset-by : {n : ℕ} → Way n → Offset (held_of c store i) out.answer.shown
-  offset-by (stays o u e) = rw (← e) (unshown-offset u)
-  offset-by (short n m next f w l e) = rw (← e) (record { before = λ z. absurd (omega arith); with_it = λ z. absurd (omega arith); else_none = λ q. refl })
-  offset-by (lies n m next f w e) = rw (← e) (record { before = λ z. absurd (omega arith); with_it = λ z. absurd (omega arith); else_none = λ q. refl })
-  offset-by (joins n m next f w l e) = rw (← e) (record { before = λ z. absurd (omega arith); with_it = λ z. absurd (omega arith); else_none = λ q. refl })
+  offset_by : {n : ℕ} → Way n → Offset (held_of c store i) out.answer.shown
+  offset_by (stays o u e) = rw (← e) (unshown_offset u)
+  offset_by (short n m next f w l e) = rw (← e) (record { before = λ z. absurd (omega arith); with_it = λ z. absurd (omega arith); else_none = λ q. refl })
+  offset_by (lies n m next f w e) = rw (← e) (record { before = λ z. absurd (omega arith); with_it = λ z. absurd (omega arith); else_none = λ q. refl })
+  offset_by (joins n m next f w l e) = rw (← e) (record { before = λ z. absurd (omega arith); with_it = λ z. absurd (omega arith); else_none = λ q. refl })
 
   -- the range
   keeps_by : Shaped c → Ranged c → {n : ℕ} → Way n → let k = out.answer.connection in (in_range k ≡ true) × Shaped k
@@ -199,7 +199,7 @@ pub looks : Looks
 looks c store i scratch z = let (n, w) = way c store i scratch in given c store i scratch w (sym (answered c store i scratch w) ∙ z)
 
 pub which_byte_looked : WhichByte
-which_byte_looked c store i scratch = let (n, w) = way c store i scratch in offset-by c store i scratch w
+which_byte_looked c store i scratch = let (n, w) = way c store i scratch in offset_by c store i scratch w
 
 pub keeps : Keeps
 keeps c store i scratch s q =

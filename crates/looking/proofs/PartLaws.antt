@@ -17,7 +17,7 @@ use Rattle.connection.specs.declared.Connection.{Connection}
 use Rattle.connection.specs.Parts.{first_held}
 use Rattle.hearing.specs.Besides.Numbers.{Found}
 use Rattle.hearing.proofs.HearingLaws.{asked}
-use Rattle.hearing.proofs.NumberLaws.{unshown-number}
+use Rattle.hearing.proofs.NumberLaws.{unshown_number}
 use Rattle.looking.specs.declared.Place.TheVariants.{Store, Scratch, Nowhere}
 use Rattle.looking.specs.Looking.{look_of, Cut}
 use Rattle.looking.specs.Besides.Numbers.{InOneRun}
@@ -35,12 +35,12 @@ module _ (s : Bor (List ℕ)) (at len : ℕ) (r : Bor (List ℕ)) where
   cut_out h p b = record { memory = rw (lt-leb (at + len) (length s.now) h) p; bytes = rw (lt-leb (at + len) (length s.now) h) b }
 
   -- and back
-  pub cut-had : at + len ≤ length s.now → Cut s at len r → (r.ref_ptr ≡ (s.ref_ptr.0, s.ref_ptr.1 + at)) × (r.now ≡ run s.now at len)
-  cut-had h k = let e = le-leb (at + len) (length s.now) h in (rw e at k.memory, rw e at k.bytes)
+  pub cut_had : at + len ≤ length s.now → Cut s at len r → (r.ref_ptr ≡ (s.ref_ptr.0, s.ref_ptr.1 + at)) × (r.now ≡ run s.now at len)
+  cut_had h k = let e = le-leb (at + len) (length s.now) h in (rw e at k.memory, rw e at k.bytes)
 
 -- no bytes
 pub cut_none : (s r : Bor (List ℕ)) → Cut s 0 0 r → r.now ≡ []
-cut_none s r k = (cut-had s 0 0 r (omega arith) k).1
+cut_none s r k = (cut_had s 0 0 r (omega arith) k).1
 
 -- ---- the part that follows a look
 
@@ -61,7 +61,7 @@ straight c store i {n} f w =
 module _ (c : Connection) (i : ℕ) (before : List ℕ) (store scratch r : Bor (List ℕ)) where
   part_by : {n : ℕ} → Way c store.now i before n → let t = look_of c store.now i before in Follows t store scratch r → PartOf c i t store scratch r
   part_by (stays o u e) f =
-      let some = unshown-number u in
+      let some = unshown_number u in
       let g = rw (← e) at f in
       rw (← e) (record { message = λ z. absurd (omega (arith, some)); memory = λ z. absurd (omega (arith, some)); none = λ q. cut_none store r g.there })
   part_by (short n m next k w l e) f =
@@ -70,14 +70,14 @@ module _ (c : Connection) (i : ℕ) (before : List ℕ) (store scratch r : Bor (
   part_by (lies n m next k w e) f =
       let g = rw (← e) at f in
       let (fits, is) = straight c store.now i k w in
-      let (memory, bytes) = cut-had store (base_of c.settings.receive i + get_or c.receiving.starts i 0) n r fits g.there in
+      let (memory, bytes) = cut_had store (base_of c.settings.receive i + get_or c.receiving.starts i 0) n r fits g.there in
       rw (← e) (record { message = λ z. bytes ∙ is; memory = λ z. in_area w memory; none = λ q. absurd (q refl) })
   part_by (joins n m next k w l e) f =
       let g = rw (← e) at f in
       let xs = first_held c store.now i n in
       let long : length xs ≡ n = stream_length store.now (base_of c.settings.receive i) (get_or c.settings.receive i 0) (get_or c.receiving.starts i 0) n in
       let size : length scratch.now ≡ length before = ap length g.after ∙ length-sets before 0 xs in
-      let (memory, bytes) = cut-had scratch 0 n r (omega arith) g.there in
+      let (memory, bytes) = cut_had scratch 0 n r (omega arith) g.there in
       let front : run (sets before 0 xs) 0 n ≡ xs = ap (λ (k : ℕ). run (sets before 0 xs) 0 k) (sym long) ∙ run_sets before 0 xs (omega arith) in
       rw (← e) (record { message = λ z. bytes ∙ ap (λ (l : List ℕ). run l 0 n) g.after ∙ front; memory = λ z. at_front w memory; none = λ q. absurd (q refl) })
 

@@ -107,17 +107,17 @@ bytes_pieces protocol (suc k) xs b =
     bytes_append (segment 0 protocol (lists.take 4 xs)) _ (bytes_segment 0 protocol (lists.take 4 xs) (bytes_take 4 xs b))
     (bytes_pieces protocol k (lists.drop 4 xs) (bytes_drop 4 xs b))
 
-bytes-propose : Bytes propose
+bytes_propose : Bytes propose
 unfolding Bytes
-bytes-propose = omega arith
+bytes_propose = omega arith
 
-bytes-accept : Bytes accept
+bytes_accept : Bytes accept
 unfolding Bytes
-bytes-accept = omega arith
+bytes_accept = omega arith
 
-bytes-message : Bytes message
+bytes_message : Bytes message
 unfolding Bytes
-bytes-message = (omega arith, (omega arith, (omega arith, (omega arith, (omega arith, bytes_zeros 28)))))
+bytes_message = (omega arith, (omega arith, (omega arith, (omega arith, (omega arith, bytes_zeros 28)))))
 
 real_nexts : (k : ℕ) → AllReal (replicate k (next 0 buffer))
 unfolding AllReal
@@ -127,13 +127,13 @@ real_nexts (suc k) = ((omega arith, bytes_zeros 12), real_nexts k)
 real_dialler : AllReal (before ++ behind)
 unfolding AllReal
 real_dialler =
-    (bytes-propose, ((omega arith, bytes_zeros 12), (bytes_segment 1 0 accept bytes-accept, (tt, (bytes-message, real_nexts 9)))))
+    (bytes_propose, ((omega arith, bytes_zeros 12), (bytes_segment 1 0 accept bytes_accept, (tt, (bytes_message, real_nexts 9)))))
 
 real_accepter : (b : ℕ) → AllReal (answering b)
 unfolding AllReal
 real_accepter b = (
-  bytes_segment 0 0 propose bytes-propose,
-  (tt, (bytes-accept, (bytes_pieces (protocol_of b 1) 9 message bytes-message, tt))),
+  bytes_segment 0 0 propose bytes_propose,
+  (tt, (bytes_accept, (bytes_pieces (protocol_of b 1) 9 message bytes_message, tt))),
 )
 
 -- ---- what they come to

@@ -34,11 +34,11 @@ use Rattle.connection.specs.Parts.{held_of}
 use Rattle.judging.specs.declared.Judged.{Judged}
 use Rattle.judging.specs.declared.Outcome.TheVariants as outcome
 use Rattle.judging.specs.Judging.{View, spoken, ours_now, barred, at_done, outcome_number, unjudged, led, by_row, by_reading, by_verdict, heard}
-use Rattle.judging.proofs.JudgingLaws.{Judges, not-read, not-led, message, judges}
+use Rattle.judging.proofs.JudgingLaws.{Judges, not_read, not_led, message, judges}
 use Rattle.hearing.specs.Hearing.{seen, hear_of, shown_by}
 use Rattle.hearing.specs.declared.Shown.{Shown}
 use Rattle.hearing.specs.Besides.Numbers.{Offset}
-use Rattle.hearing.proofs.HearingLaws.{held-take}
+use Rattle.hearing.proofs.HearingLaws.{held_take}
 use Rattle.hearing.proofs.NumberLaws.{found}
 use Rattle.looking.specs.declared.Place.{Place}
 use Rattle.looking.specs.declared.Place.TheVariants.{Store, Scratch, Nowhere}
@@ -93,8 +93,8 @@ data Turned : Judged → Judged → Type 0 where
   alike : (j : Judged) → outcome_number j.outcome ≢ 1 → Turned j j
 
 judged_alike : {p : Protocol} {state : ℕ} {xs : List ℕ} {j : Judged} → Judges p state xs j → Turned j j
-judged_alike (not-read r e none) = alike (unjudged (outcome.NoMessage r)) (λ z. omega arith)
-judged_alike (not-led m s x) = alike (unjudged outcome.NoRow) (λ z. omega arith)
+judged_alike (not_read r e none) = alike (unjudged (outcome.NoMessage r)) (λ z. omega arith)
+judged_alike (not_led m s x) = alike (unjudged outcome.NoRow) (λ z. omega arith)
 judged_alike {xs = xs} (message m to s x) = alike (led (length xs) m to) (λ z. omega arith)
 
 turned_by_verdict : (v : View) (d : Verdict)
@@ -127,25 +127,25 @@ say_turned turned = refl
 say_turned (alike j h) = stays (say j) h
 
 module _ (bs : List ℕ) (capacity start : ℕ) (scratch : List ℕ) where
-  see-at-other : (j : Judged) (xs : List ℕ) (p : Place) → outcome_number j.outcome ≢ 1 → (see_at j xs scratch p).0 ≢ 1
+  see_at_other : (j : Judged) (xs : List ℕ) (p : Place) → outcome_number j.outcome ≢ 1 → (see_at j xs scratch p).0 ≢ 1
   unfolding see_at
-  see-at-other j xs (Store at) h = h
-  see-at-other j xs Scratch h = h
-  see-at-other j xs Nowhere h = λ z. omega arith
+  see_at_other j xs (Store at) h = h
+  see_at_other j xs Scratch h = h
+  see_at_other j xs Nowhere h = λ z. omega arith
 
-  see-turned : {j k : Judged} → Turned j k → see bs capacity start scratch j ≡ twenty_for_one (see bs capacity start scratch k)
+  see_turned : {j k : Judged} → Turned j k → see bs capacity start scratch j ≡ twenty_for_one (see bs capacity start scratch k)
   unfolding see
-  see-turned turned = refl
-  see-turned (alike j h) =
+  see_turned turned = refl
+  see_turned (alike j h) =
       stays (see bs capacity start scratch j)
-      (cond_cases (λ (a : ℕ × Looked). a.0 ≢ 1) (eqb (outcome_number j.outcome) 0) (λ t. see-at-other j _ _ h) (λ t. h))
+      (cond_cases (λ (a : ℕ × Looked). a.0 ≢ 1) (eqb (outcome_number j.outcome) 0) (λ t. see_at_other j _ _ h) (λ t. h))
 
 -- ---- look and drop, by what is held
 
 -- a place in the store is one in the area, behind those in front of it
-place-moved : (base cap start n room : ℕ) → place_of base cap start n room ≡ place_in base (place_of 0 cap start n room)
+place_moved : (base cap start n room : ℕ) → place_of base cap start n room ≡ place_in base (place_of 0 cap start n room)
 unfolding place_of
-place-moved base cap start n room =
+place_moved base cap start n room =
     let at : base + start ≡ base + (0 + start) = omega arith in
     by_test (leb (start + n) cap) (λ t. rw t (ap Store at))
     (λ t. by_test (leb n room) (λ r. rw (t, r)) (λ r. rw (t, r)))
@@ -175,31 +175,31 @@ module _ (w : World) (i : ℕ) where
   abbrev start : ℕ
   start = get_or c.receiving.starts i 0
 
-  heard-is : Good w → hear_of c w.receive i ≡ judge (seen c w.receive i)
+  heard_is : Good w → hear_of c w.receive i ≡ judge (seen c w.receive i)
   unfolding hear_of judge
-  heard-is g = rw (reached_receives g)
+  heard_is g = rw (reached_receives g)
 
-  drop-is : Good w → (step w (calls.drop i)).answer ≡ drop_answer (seen c w.receive i)
+  drop_is : Good w → (step w (calls.drop i)).answer ≡ drop_answer (seen c w.receive i)
   unfolding step drop_of say
-  drop-is g = ap say (heard-is g)
+  drop_is g = ap say (heard_is g)
 
-  seen-so : (scratch : List ℕ) (j : Judged) → (outcome_number j.outcome ≡ 0 → j.len ≤ get_or c.receiving.held i 0)
+  seen_so : (scratch : List ℕ) (j : Judged) → (outcome_number j.outcome ≡ 0 → j.len ≤ get_or c.receiving.held i 0)
       → answer_of (looking.by_judged c w.receive i scratch j) ≡ looked_in base (see held cap start scratch j)
   unfolding see see_at
-  seen-so scratch j l =
+  seen_so scratch j l =
       let n : ℕ = j.len in
       by_test (eqb (outcome_number j.outcome) 0)
       (λ t.
-      rw (t, held-take c w.receive i n (l (eqb-true _ 0 t)))
-      (ap (see_at j (lists.take n held) scratch) (place-moved base cap start n (length scratch))
+      rw (t, held_take c w.receive i n (l (eqb-true _ 0 t)))
+      (ap (see_at j (lists.take n held) scratch) (place_moved base cap start n (length scratch))
       ∙ see_moved base j (lists.take n held) scratch (place_of 0 cap start n (length scratch))))
       (λ t. rw t)
 
   look_is : Good w → (scratch : List ℕ) → (step w (calls.look i scratch)).answer ≡ looked_in base (see held cap start scratch (judge (seen c w.receive i)))
   unfolding step look_of
   look_is g scratch =
-      seen-so scratch (hear_of c w.receive i) (λ z. (found c w.receive i _ refl _ refl z).1)
-      ∙ ap (λ (j : Judged). looked_in base (see held cap start scratch j)) (heard-is g)
+      seen_so scratch (hear_of c w.receive i) (λ z. (found c w.receive i _ refl _ refl z).1)
+      ∙ ap (λ (j : Judged). looked_in base (see held cap start scratch j)) (heard_is g)
 
 -- ---- by the history
 
@@ -222,20 +222,20 @@ same_view : {us us' : Party} (i : ℕ) {state state' : ℕ} {a a' c c' : Bool} {
     (record { party = us'; instance = i; state = state'; accepted = a'; closed = c'; bytes = bs' })
 same_view i p q r t u = rw (p, q, r, t, u)
 
-same-look : {v v' : View} {caps caps' : List ℕ} {start start' : ℕ} (i : ℕ) (scratch : List ℕ) → v ≡ v' → caps ≡ caps' → start ≡ start'
+same_look : {v v' : View} {caps caps' : List ℕ} {start start' : ℕ} (i : ℕ) (scratch : List ℕ) → v ≡ v' → caps ≡ caps' → start ≡ start'
     → looked_in (base_of caps i) (see v.bytes (get_or caps i 0) start scratch (judge v))
     ≡ looked_in (base_of caps' i) (see v'.bytes (get_or caps' i 0) start' scratch (judge v'))
-same-look i scratch p q r = rw (p, q, r)
+same_look i scratch p q r = rw (p, q, r)
 
 -- of an instance that there is not, nothing is asked
-judge-none : (v : View) → ltb v.instance (instances v.party.bundle) ≡ false → judge v ≡ unjudged outcome.NoInstance
+judge_none : (v : View) → ltb v.instance (instances v.party.bundle) ≡ false → judge v ≡ unjudged outcome.NoInstance
 unfolding judge
-judge-none v y = rw y
+judge_none v y = rw y
 
 see_none : (base : ℕ) (bs : List ℕ) (cap start : ℕ) (scratch : List ℕ) (v : View) → ltb v.instance (instances v.party.bundle) ≡ false
     → looked_in base (see bs cap start scratch (judge v)) ≡ (10, looked (said_by (shown_by (unjudged outcome.NoInstance))) Nowhere scratch)
 unfolding see
-see_none base bs cap start scratch v y = rw (judge-none v y)
+see_none base bs cap start scratch v y = rw (judge_none v y)
 
 module _ (s : Settings) (past : Past) (w : World) (k : Reached s w) (t : Tells s past w) (segments : List Carried) (left : List ℕ)
     (d : Divided (bytes_in past) segments left) (i : ℕ) where
@@ -243,8 +243,8 @@ module _ (s : Settings) (past : Past) (w : World) (k : Reached s w) (t : Tells s
   view = seen_by s.party past segments left i
 
   -- what is held of an instance is what came for it and was not dropped
-  held-seen : i < instances s.party.bundle → held_of w.connection w.receive i ≡ view.bytes
-  held-seen l =
+  held_seen : i < instances s.party.bundle → held_of w.connection w.receive i ≡ view.bytes
+  held_seen l =
       let q = divided_once (bytes_in past) left t.receives.left segments t.receives.carried d t.receives.divided in
       let hs : List ℕ = held_of w.connection w.receive i in
       let m = t.receives.messages i l in
@@ -255,47 +255,47 @@ module _ (s : Settings) (past : Past) (w : World) (k : Reached s w) (t : Tells s
   seen-is : i < instances s.party.bundle → seen w.connection w.receive i ≡ view
   seen-is l =
       same_view i (ap (λ (u : Settings). u.party) k.settings) (state_is (t.talks.states i l)) t.talks.accepted
-      (closed_is w.connection.gate ∙ ap any_closing t.closes) (held-seen l)
+      (closed_is w.connection.gate ∙ ap any_closing t.closes) (held_seen l)
 
   none_here : ltb i (instances s.party.bundle) ≡ false → ltb i (instances w.connection.settings.party.bundle) ≡ false
   none_here y = ap (λ (u : Settings). ltb i (instances u.party.bundle)) k.settings ∙ y
 
   -- a drop and a look in a world that the history tells of
-  drop-seen : (step w (calls.drop i)).answer ≡ drop_answer view
-  drop-seen =
-      drop-is w i (good k)
+  drop_seen : (step w (calls.drop i)).answer ≡ drop_answer view
+  drop_seen =
+      drop_is w i (good k)
       ∙ by_test (ltb i (instances s.party.bundle)) (λ y. ap drop_answer (seen-is (ltb-true i (instances s.party.bundle) y)))
-      (λ y. ap say (judge-none (seen w.connection w.receive i) (none_here y) ∙ sym (judge-none view y)))
+      (λ y. ap say (judge_none (seen w.connection w.receive i) (none_here y) ∙ sym (judge_none view y)))
 
-  look-seen : (scratch : List ℕ)
+  look_seen : (scratch : List ℕ)
       → (step w (calls.look i scratch)).answer ≡ looked_in (base_of s.receive i) (look_answer view (get_or s.receive i 0) (dropped_for i past) scratch)
-  look-seen scratch =
+  look_seen scratch =
       look_is w i (good k) scratch
       ∙ by_test (ltb i (instances s.party.bundle))
       (λ y.
       let l : i < instances s.party.bundle = ltb-true i (instances s.party.bundle) y in
-      same-look i scratch (seen-is l) (ap (λ (u : Settings). u.receive) k.settings) (t.receives.starts i l))
+      same_look i scratch (seen-is l) (ap (λ (u : Settings). u.receive) k.settings) (t.receives.starts i l))
       (λ y.
       see_none _ _ _ _ scratch (seen w.connection w.receive i) (none_here y)
       ∙ sym (see_none (base_of s.receive i) view.bytes _ _ scratch view y))
 
   -- K3: where 14 may be answered, what is held is what came and was not dropped
-  byte-seen : (r : Shown) → (ltb i (instances s.party.bundle) ≡ false → r.number ≡ 10) → Offset (held_of w.connection w.receive i) r → Offset view.bytes r
-  byte-seen r ten o =
+  byte_seen : (r : Shown) → (ltb i (instances s.party.bundle) ≡ false → r.number ≡ 10) → Offset (held_of w.connection w.receive i) r → Offset view.bytes r
+  byte_seen r ten o =
       by_test (ltb i (instances s.party.bundle))
-      (λ y. subst (λ (bs : List ℕ). Offset bs r) (held-seen (ltb-true i (instances s.party.bundle) y)) o)
+      (λ y. subst (λ (bs : List ℕ). Offset bs r) (held_seen (ltb-true i (instances s.party.bundle) y)) o)
       (λ y. let e = ten y in record { before = λ z. absurd (omega arith); with_it = λ z. absurd (omega arith); else_none = o.else_none })
 
-  which-byte-seen : (scratch : List ℕ)
+  which_byte_seen : (scratch : List ℕ)
       → Offset view.bytes (look_of w.connection w.receive i scratch).answer.shown × Offset view.bytes (drop_of w.connection w.receive i).shown
   unfolding step say
-  which-byte-seen scratch =
+  which_byte_seen scratch =
       let c = w.connection in
       let store = w.receive in
       let v : View = seen c store i in (
-        byte-seen (look_of c store i scratch).answer.shown
+        byte_seen (look_of c store i scratch).answer.shown
             (λ y. ap (λ (a : ℕ × Looked). a.0) (look_is w i (good k) scratch ∙ see_none _ _ _ _ scratch v (none_here y))) (which_byte_looked c store i scratch),
-        byte-seen (drop_of c store i).shown (λ y. ap (λ (a : ℕ × Said). a.0) (drop-is w i (good k) ∙ ap say (judge-none v (none_here y))))
+        byte_seen (drop_of c store i).shown (λ y. ap (λ (a : ℕ × Said). a.0) (drop_is w i (good k) ∙ ap say (judge_none v (none_here y))))
             (which_byte_dropped c store i),
       )
 
@@ -306,18 +306,18 @@ alone =
       drop_answer = drop_answer;
       look_answer = look_answer;
       drops = λ s receive send opened cs real.
-          drop-seen s (did (first s receive send) cs) (run (first s receive send) cs) (in_range_for_ever s receive send opened cs real)
+          drop_seen s (did (first s receive send) cs) (run (first s receive send) cs) (in_range_for_ever s receive send opened cs real)
           (history s receive send opened cs real).0;
       looks = λ s receive send opened cs real.
-          look-seen s (did (first s receive send) cs) (run (first s receive send) cs) (in_range_for_ever s receive send opened cs real)
+          look_seen s (did (first s receive send) cs) (run (first s receive send) cs) (in_range_for_ever s receive send opened cs real)
           (history s receive send opened cs real).0;
       drop_closes = λ v. say_turned (closed_turns v);
-      look_closes = λ v capacity dropped scratch. see-turned v.bytes capacity (dropped % capacity) scratch (closed_turns v);
+      look_closes = λ v capacity dropped scratch. see_turned v.bytes capacity (dropped % capacity) scratch (closed_turns v);
     }
 
 pub which_byte : WhichByteCame
 which_byte s receive send opened cs real =
-    which-byte-seen s (did (first s receive send) cs) (run (first s receive send) cs) (in_range_for_ever s receive send opened cs real)
+    which_byte_seen s (did (first s receive send) cs) (run (first s receive send) cs) (in_range_for_ever s receive send opened cs real)
     (history s receive send opened cs real).0
 
 -- the one function, of the same or of what differs in the closing
@@ -333,7 +333,7 @@ two_alike s s' receive send receive' send' o o' cs cs' r r' segments segments' l
     let n = dropped_for i (did (first s receive send) cs) in
     let base' = base_of s'.receive i in (
       λ e. a ∙ ap alone.drop_answer e ∙ sym a',
-      λ e e'. a' ∙ ap alone.drop_answer e' ∙ alone.drop_closes v ∙ ap twenty_for_one (ap alone.drop_answer (sym (open-so v e)) ∙ sym a),
+      λ e e'. a' ∙ ap alone.drop_answer e' ∙ alone.drop_closes v ∙ ap twenty_for_one (ap alone.drop_answer (sym (open_so v e)) ∙ sym a),
       λ p q.
           let same : (x : View) → looked_in base' (alone.look_answer x (get_or s'.receive i 0) (dropped_for i (did (first s' receive' send') cs')) scratch) ≡ looked_in base' (alone.look_answer x cap n scratch) =
           λ x. rw (← p, ← q) in (
@@ -343,9 +343,9 @@ two_alike s s' receive send receive' send' o o' cs cs' r r' segments segments' l
             λ e e'.
                 l' ∙ same v' ∙ ap (λ (x : View). looked_in base' (alone.look_answer x cap n scratch)) e'
                 ∙ ap (looked_in base')
-                (alone.look_closes v cap n scratch ∙ ap (λ (x : View). twenty_for_one (alone.look_answer x cap n scratch)) (sym (open-so v e))),
+                (alone.look_closes v cap n scratch ∙ ap (λ (x : View). twenty_for_one (alone.look_answer x cap n scratch)) (sym (open_so v e))),
           ),
     )
   where
-    open-so : (v : View) → v.closed ≡ false → v ≡ but v false
-    open-so v e = ap (λ (b : Bool). but v b) e
+    open_so : (v : View) → v.closed ≡ false → v ≡ but v false
+    open_so v e = ap (λ (b : Bool). but v b) e

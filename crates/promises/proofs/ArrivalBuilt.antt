@@ -38,7 +38,7 @@ use Rattle.judging.specs.Besides.Hearing.{Awaited}
 use Rattle.judging.specs.Judging.{outcome_number, led}
 use Rattle.hearing.specs.Hearing.{seen, hear_of, shown_by}
 use Rattle.hearing.specs.Besides.Numbers.{Found, message, done}
-use Rattle.hearing.proofs.HearingLaws.{held-take, held-long}
+use Rattle.hearing.proofs.HearingLaws.{held_take, held_long}
 use Rattle.hearing.proofs.NumberLaws.{hear_exactly}
 use Rattle.looking.specs.declared.Place.{Place}
 use Rattle.looking.specs.declared.Place.TheVariants.{Store, Scratch}
@@ -58,16 +58,16 @@ told_kind [] m = refl
 told_kind (number v ∷ xs) m = told_kind xs (with_number m v)
 told_kind (place a l ∷ xs) m = told_kind xs (with_place m a l)
 
-told-numbers : (xs : List Value) (m : Message) → m.count + length (numbers_of xs) ≤ length m.numbers
+told_numbers : (xs : List Value) (m : Message) → m.count + length (numbers_of xs) ≤ length m.numbers
     → numbers_in (said_all m xs) ≡ numbers_in m ++ numbers_of xs
 unfolding said_all
-told-numbers [] m h = sym (append-nil (numbers_in m))
-told-numbers (number v ∷ xs) m h =
+told_numbers [] m h = sym (append-nil (numbers_in m))
+told_numbers (number v ∷ xs) m h =
     let now : numbers_in (with_number m v) ≡ numbers_in m ++ (v ∷ []) = rw add-one (take-suc-set m.numbers m.count v (omega arith)) in
-    told-numbers xs (with_number m v) (omega (arith, length-set m.numbers m.count v))
+    told_numbers xs (with_number m v) (omega (arith, length-set m.numbers m.count v))
     ∙ ap (λ (ns : List ℕ). ns ++ numbers_of xs) now
     ∙ append_assoc (numbers_in m) (v ∷ []) (numbers_of xs)
-told-numbers (place a l ∷ xs) m h = told-numbers xs (with_place m a l) h
+told_numbers (place a l ∷ xs) m h = told_numbers xs (with_place m a l) h
 
 -- a start or length set behind so many places
 runs_stay : (bs places : List ℕ) (n p v : ℕ) → n * 2 ≤ p → runs_at bs (set places p v) n ≡ runs_at bs places n
@@ -93,14 +93,14 @@ runs_next bs places n a l h =
     runs_stay bs once n (n * 2 + 1) l (omega arith) ∙ runs_stay bs places n (n * 2) a (omega arith) in
     ap (runs_at bs (set once (n * 2 + 1) l)) (add-one n) ∙ rw (start, size, same)
 
-told-runs : (bs : List ℕ) (xs : List Value) (m : Message) → (m.parts + length (runs_of bs xs)) * 2 ≤ length m.places
+told_runs : (bs : List ℕ) (xs : List Value) (m : Message) → (m.parts + length (runs_of bs xs)) * 2 ≤ length m.places
     → runs_in bs (said_all m xs) ≡ runs_in bs m ++ runs_of bs xs
 unfolding said_all
-told-runs bs [] m h = sym (append-nil (runs_in bs m))
-told-runs bs (number v ∷ xs) m h = told-runs bs xs (with_number m v) h
-told-runs bs (place a l ∷ xs) m h =
+told_runs bs [] m h = sym (append-nil (runs_in bs m))
+told_runs bs (number v ∷ xs) m h = told_runs bs xs (with_number m v) h
+told_runs bs (place a l ∷ xs) m h =
     let n : ℕ = m.parts in
-    told-runs bs xs (with_place m a l)
+    told_runs bs xs (with_place m a l)
     (omega (arith, length-set (set m.places (n * 2) a) (n * 2 + 1) l, length-set m.places (n * 2) a))
     ∙ ap (λ (rs : List (List ℕ)). rs ++ runs_of bs xs) (runs_next bs m.places n a l (omega arith))
     ∙ append_assoc (runs_in bs m) (ring.run bs a l ∷ []) (runs_of bs xs)
@@ -136,10 +136,10 @@ module _ (w : World) (i : ℕ) (bs : List ℕ) (m : Message) (next : ℕ) (asked
   all = omega (arith, ap length held, length-take n (holding w i))
 
   bytes : first_held c store i n ≡ bs
-  bytes = held-take c store i n (omega (arith, all, held-long c store i)) ∙ held
+  bytes = held_take c store i n (omega (arith, all, held_long c store i)) ∙ held
 
-  first-held : Found c store i n m next
-  first-held =
+  first_held_lem : Found c store i n m next
+  first_held_lem =
       record {
         asked = asked;
         spells =
@@ -151,12 +151,12 @@ module _ (w : World) (i : ℕ) (bs : List ℕ) (m : Message) (next : ℕ) (asked
             };
       }
 
-  is-heard : hear_of c store i ≡ led n m next
-  is-heard = (hear_exactly c store i (led n m next)).1 (message first-held)
+  is_heard : hear_of c store i ≡ led n m next
+  is_heard = (hear_exactly c store i (led n m next)).1 (message first_held_lem)
 
-  drops-it : (step w (calls.drop i)).answer ≡ (0, said_of bs m)
+  drops_it : (step w (calls.drop i)).answer ≡ (0, said_of bs m)
   unfolding step drop_of
-  drops-it = ap (λ (j : Judged). (outcome_number j.outcome, calls.said_by (shown_by j))) is-heard
+  drops_it = ap (λ (j : Judged). (outcome_number j.outcome, calls.said_by (shown_by j))) is_heard
 
   module _ (scratch : List ℕ) (room : n ≤ length scratch) where
     -- what a look answers with the message at a place
@@ -176,13 +176,13 @@ module _ (w : World) (i : ℕ) (bs : List ℕ) (m : Message) (next : ℕ) (asked
         }
     there (nowhere short) so = absurd (omega arith)
 
-    looks-it : ShownAs bs m w i scratch
+    looks_it : ShownAs bs m w i scratch
     unfolding step looking.look_of
-    looks-it =
-        there (placed c store i scratch first-held)
+    looks_it =
+        there (placed c store i scratch first_held_lem)
         (ap (λ (j : Judged).
         let t = looking.by_judged c store i scratch j in (t.answer.shown.number, calls.looked (calls.said_by t.answer.shown) t.answer.place t.scratch))
-        is-heard)
+        is_heard)
 
 pub built_arrives : BuiltArrives
 unfolding runs_at
@@ -206,9 +206,9 @@ built_arrives bundle i p bs b w j same k =
     let said : Message = message_from p.kind xs in
     record {
       message = said;
-      looks = looks-it w j bs said k.next k.asked k.awaited k.held q-item says row;
-      drops = drops-it w j bs said k.next k.asked k.awaited k.held q-item says row;
+      looks = looks_it w j bs said k.next k.asked k.awaited k.held q-item says row;
+      drops = drops_it w j bs said k.next k.asked k.awaited k.held q-item says row;
       kind = told_kind xs (begun p.kind);
-      numbers = told-numbers xs (begun p.kind) (omega arith) ∙ back.2;
-      runs = ap some (told-runs bs xs (begun p.kind) (omega arith)) ∙ sym runs;
+      numbers = told_numbers xs (begun p.kind) (omega arith) ∙ back.2;
+      runs = ap some (told_runs bs xs (begun p.kind) (omega arith)) ∙ sym runs;
     }

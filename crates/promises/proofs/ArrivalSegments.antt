@@ -27,8 +27,8 @@ use Rattle.promises.specs.Reached.{waits}
 use Rattle.promises.specs.Fairness.{queue, header, payload, is_of, sent_by}
 use Rattle.promises.specs.History.{is_for, payload_for, received_in, Segmented}
 use Rattle.promises.proofs.FairSent.{of_same, of_other}
-use Rattle.promises.proofs.HistoryLaws.{all_append, segments-next}
-use Rattle.promises.proofs.HistoryLayout.{for-append, received-head, received-in}
+use Rattle.promises.proofs.HistoryLaws.{all_append, segments_next}
+use Rattle.promises.proofs.HistoryLayout.{for_append, received_head, received_in_lem}
 use Rattle.promises.proofs.HistoryRuns.{along}
 use Rattle.promises.proofs.Effects.{Good, Leaves, still, shut, feeds, faults, drops, queues, serves}
 use Rattle.promises.proofs.HistorySends.{segmented_by}
@@ -74,7 +74,7 @@ pub all_made : {s : Settings} {receive send : List ℕ} → Opened s receive sen
 unfolding segments flat_map
 all_made opened cs real =
     along (λ s past w. All (Made s.party) (segments past))
-    (λ past w g real e w' r l t. rw (segments-next past e) (all_append (Made w.connection.settings.party) (segments past) _ t (made_by w g r l))) opened cs real tt
+    (λ past w g real e w' r l t. rw (segments_next past e) (all_append (Made w.connection.settings.party) (segments past) _ t (made_by w g r l))) opened cs real tt
 
 -- ---- where they lead
 
@@ -162,10 +162,10 @@ no_bytes h r n e = omega (arith, ap length e, length-append h r)
 
 module _ (us : Party) (i : ℕ) (l : i < instances us.bundle) where
   -- the first segment has come in part
-  came-part : (bs h p way : List ℕ) (ss : List (List ℕ)) → Made us bs → length h ≡ header_length → length p < (decoded h).len
+  came_part : (bs h p way : List ℕ) (ss : List (List ℕ)) → Made us bs → length h ≡ header_length → length p < (decoded h).len
       → bs ++ flatten ss ≡ (h ++ p) ++ way → Came us i (bs ∷ ss) [] (h ++ p) way
   unfolding sent_by flat_map
-  came-part bs h p way ss m e n q =
+  came_part bs h p way ss m e n q =
       let f = first_of bs h (flatten ss) (p ++ way) m.long e (q ∙ append_assoc h p way) in
       let body : List ℕ = payload bs in
       let rest : List ℕ = drop (length p) body in
@@ -177,9 +177,9 @@ module _ (us : Party) (i : ℕ) (l : i < instances us.bundle) where
       sym (drop-append-le (length p) body (flatten ss) short) ∙ ap (drop (length p)) f.1 ∙ drop_at p way (length p) refl in
       let to : List ℕ → List ℕ = payload_for (other_of us) (pair_of us.bundle i) (header bs) in
       let now : cond (is_of us i bs) body [] ≡ to p ++ to rest =
-      sym (for_pair us i bs body l m) ∙ ap to split ∙ for-append (other_of us) (pair_of us.bundle i) (header bs) p rest in
+      sym (for_pair us i bs body l m) ∙ ap to split ∙ for_append (other_of us) (pair_of us.bundle i) (header bs) p rest in
       let here : received_in (other_of us) (pair_of us.bundle i) [] (h ++ p) ≡ to p =
-      received-in (other_of us) (pair_of us.bundle i) [] h p e ∙ ap (λ (x : List ℕ). payload_for (other_of us) (pair_of us.bundle i) (decoded x) p) (sym f.0) in
+      received_in_lem (other_of us) (pair_of us.bundle i) [] h p e ∙ ap (λ (x : List ℕ). payload_for (other_of us) (pair_of us.bundle i) (decoded x) p) (sym f.0) in
       record {
         flight = to rest ++ sent_by us i ss;
         sent =
@@ -198,11 +198,11 @@ module _ (us : Party) (i : ℕ) (l : i < instances us.bundle) where
       }
 
   -- the first segment has come, and what came behind it is of the others
-  came-whole : (bs h p ys way left : List ℕ) (ss : List (List ℕ)) (cs : List Carried) → Made us bs → length h ≡ header_length
+  came_whole : (bs h p ys way left : List ℕ) (ss : List (List ℕ)) (cs : List Carried) → Made us bs → length h ≡ header_length
       → length p ≡ (decoded h).len → bs ++ flatten ss ≡ (h ++ (p ++ ys)) ++ way → (flatten ss ≡ ys ++ way → Came us i ss cs left way)
       → Came us i (bs ∷ ss) (record { header = decoded h; payload = p } ∷ cs) left way
   unfolding sent_by flat_map
-  came-whole bs h p ys way left ss cs m e n q others =
+  came_whole bs h p ys way left ss cs m e n q others =
       let f = first_of bs h (flatten ss) (p ++ (ys ++ way)) m.long e
       (q ∙ append_assoc h (p ++ ys) way ∙ ap (λ (x : List ℕ). h ++ x) (append_assoc p ys way)) in
       let body : List ℕ = payload bs in
@@ -230,10 +230,10 @@ module _ (us : Party) (i : ℕ) (l : i < instances us.bundle) where
   came (in_header {bs} h) ss way m q =
       record {
         flight = sent_by us i ss;
-        sent = rw (received-head (other_of us) (pair_of us.bundle i) [] bs (omega arith));
+        sent = rw (received_head (other_of us) (pair_of us.bundle i) [] bs (omega arith));
         few = none_come us i ss bs way m h q;
       }
   came (in_payload h p e n) [] way m q = absurd (no_bytes h (p ++ way) e (q ∙ append_assoc h p way))
-  came (in_payload h p e n) (bs ∷ ss) way (b, m) q = came-part bs h p way ss b e n q
+  came (in_payload h p e n) (bs ∷ ss) way (b, m) q = came_part bs h p way ss b e n q
   came (whole h p {bs = ys} e n d) [] way m q = absurd (no_bytes h ((p ++ ys) ++ way) e (q ∙ append_assoc h (p ++ ys) way))
-  came (whole h p {bs = ys} {left} {cs} e n d) (bs ∷ ss) way (b, m) q = came-whole bs h p ys way left ss cs b e n q (λ r. came d ss way m r)
+  came (whole h p {bs = ys} {left} {cs} e n d) (bs ∷ ss) way (b, m) q = came_whole bs h p ys way left ss cs b e n q (λ r. came d ss way m r)

@@ -47,8 +47,8 @@ use Rattle.feeding.proofs.NumberLaws as feeding_laws
 use Rattle.hearing.specs.Hearing as heard
 use Rattle.hearing.specs.Besides.Numbers as hearing
 use Rattle.hearing.specs.Besides.Numbers.{Unshown, Found, Tells, refusal, message}
-use Rattle.hearing.proofs.HearingLaws.{held-within, held-take}
-use Rattle.hearing.proofs.NumberLaws.{tells, unshown-number, not_fault}
+use Rattle.hearing.proofs.HearingLaws.{held_within, held_take}
+use Rattle.hearing.proofs.NumberLaws.{tells, unshown_number, not_fault}
 use Rattle.looking.specs.declared.Place.{Place}
 use Rattle.looking.specs.declared.Place.TheVariants.{Store, Scratch, Nowhere}
 use Rattle.looking.specs.Looking as looking
@@ -63,7 +63,7 @@ use Rattle.promises.specs.Calls.{Call, feed, look, drop, put, next, status, said
 use Rattle.promises.specs.Effects.{Act, gave, got, read_in, Effect, came, acted, sent, faulted, nothing, effect_of}
 use Rattle.promises.specs.Reached.{Reached}
 use Rattle.promises.specs.History.{theirs, allowed}
-use Rattle.promises.proofs.ReachedFeed.{Tidy, tidy-fed, ends, uses}
+use Rattle.promises.proofs.ReachedFeed.{Tidy, tidy_fed, ends, uses}
 use Rattle.promises.proofs.ReachedHandshake.{Row}
 use Rattle.promises.proofs.SegmentMade.{Made, made_of}
 
@@ -152,17 +152,17 @@ pub record Done (w : World) (a : Call) (o : Out a) : Type 0 where
 -- ---- whose turn it is
 
 -- where the one has no agency, and somebody has, the other has
-other-holds : (b : Bool) (a : Agency) → holds b a ≡ false → a ≢ Nobody → holds (not b) a ≡ true
-other-holds true Initiator e n = absurd (true≢false e)
-other-holds false Initiator e n = refl
-other-holds true Responder e n = refl
-other-holds false Responder e n = absurd (true≢false e)
-other-holds b Nobody e n = absurd (n refl)
+other_holds : (b : Bool) (a : Agency) → holds b a ≡ false → a ≢ Nobody → holds (not b) a ≡ true
+other_holds true Initiator e n = absurd (true≢false e)
+other_holds false Initiator e n = refl
+other_holds true Responder e n = refl
+other_holds false Responder e n = absurd (true≢false e)
+other_holds b Nobody e n = absurd (n refl)
 
 their_turn : (us : Party) (i s k f n : ℕ) → ours us i s ≡ false → next_of (speaks us.bundle i) s k f ≡ To n → theirs us i s ≡ true
 unfolding ours
 their_turn us i s k f n e q =
-    other-holds (initiates us.side (role_of us.bundle i)) (agency_of (speaks us.bundle i) s) e
+    other_holds (initiates us.side (role_of us.bundle i)) (agency_of (speaks us.bundle i) s) e
     (rows_say.going (speaks us.bundle i) s (leads_low (speaks us.bundle i) s k f n q).0)
 
 -- ---- a message that was found
@@ -172,14 +172,14 @@ module _ (c : Connection) (store : List ℕ) (i : ℕ) {n next : ℕ} {m : Messa
   abbrev protocol : Protocol
   protocol = speaks c.settings.party.bundle i
 
-  found-fits : n ≤ get_or c.receiving.held i 0
-  found-fits = held-within c store i n f.spells.whole
+  found_fits : n ≤ get_or c.receiving.held i 0
+  found_fits = held_within c store i n f.spells.whole
 
   pub found_first : first_held c store i n ≡ lists.take n (held_of c store i)
-  found_first = held-take c store i n found-fits
+  found_first = held_take c store i n found_fits
 
-  pub found-reads : message_of protocol (first_held c store i n) ≡ read m
-  found-reads = ap (message_of protocol) found_first ∙ (reads_forms protocol (lists.take n (held_of c store i)) m).1 f.spells.says
+  pub found_reads : message_of protocol (first_held c store i n) ≡ read m
+  found_reads = ap (message_of protocol) found_first ∙ (reads_forms protocol (lists.take n (held_of c store i)) m).1 f.spells.says
 
 -- ---- each call
 
@@ -191,24 +191,24 @@ module _ (w : World) (g : Good w) where
   abbrev Says : (a : Call) → Out a → Type 0
   Says a o = (o.answer.0 ≢ 23) × Leaves w (Real a) (effect_of a o.answer) o.world
 
-  feed-unknown : (xs : List ℕ) → When w.connection w.receive xs 23 → ⊥
-  feed-unknown xs (out_of_range out) = true≢false (sym (reached_receives g) ∙ out)
+  feed_unknown : (xs : List ℕ) → When w.connection w.receive xs 23 → ⊥
+  feed_unknown xs (out_of_range out) = true≢false (sym (reached_receives g) ∙ out)
 
   -- what bytes fed leave of the arrays and of the header
-  pub fed-tidy : (xs : List ℕ) → Tidy w.connection.receiving.starts (ends w.connection w.receive xs)
-  fed-tidy xs =
+  pub fed_tidy : (xs : List ℕ) → Tidy w.connection.receiving.starts (ends w.connection w.receive xs)
+  fed_tidy xs =
       let s = w.connection.settings in
-      tidy-fed s.party s.receive w.connection.receiving.starts (feeding.given w.connection w.receive) xs
+      tidy_fed s.party s.receive w.connection.receiving.starts (feeding.given w.connection w.receive) xs
       (record { places = refl; many = g.shaped.held; blank = g.blank; idle = g.idle })
 
-  fed-shaped : (xs : List ℕ) → Spelt (ends w.connection w.receive xs).receiving.header
+  fed_shaped : (xs : List ℕ) → Spelt (ends w.connection w.receive xs).receiving.header
       → Shaped (fed_world w (ends w.connection w.receive xs)).connection
-  fed-shaped xs spelt =
+  fed_shaped xs spelt =
       record {
         receive = g.shaped.receive;
         send = g.shaped.send;
-        receive_starts = rw (fed-tidy xs).places g.shaped.receive_starts;
-        held = (fed-tidy xs).many;
+        receive_starts = rw (fed_tidy xs).places g.shaped.receive_starts;
+        held = (fed_tidy xs).many;
         header = spelt.0;
         send_starts = g.shaped.send_starts;
         waiting = g.shaped.waiting;
@@ -218,12 +218,12 @@ module _ (w : World) (g : Good w) where
   unchanged : Fits w w
   unchanged = record { ranged = g.ranged; shaped = g.shaped; receive = refl; send = refl }
 
-  feed-done : (xs : List ℕ)
+  feed_done : (xs : List ℕ)
       → let v = (step w (feed xs)).world in
       (feeding.feed_of w.connection w.receive xs).answer.number ≢ 23
       → (Bytes xs → (receives v.connection (length v.receive) ≡ true) × Spelt v.connection.receiving.header) → Done w (feed xs) (step w (feed xs))
   unfolding step feeding.feed_of feeding.feed_open
-  feed-done xs =
+  feed_done xs =
       rw (reached_receives g)
       (by_test (is_open w.connection.gate)
       (λ o.
@@ -233,16 +233,16 @@ module _ (w : World) (g : Good w) where
         known = known;
         fits = λ real.
             let q = both_true (in_range _) (receive_store_ok w.connection.settings (length (ends w.connection w.receive xs).store)) (keeps real).0 in
-            record { ranged = q.0; shaped = fed-shaped xs (keeps real).1; receive = eqb-true _ _ q.1 ∙ sym g.receive; send = refl };
+            record { ranged = q.0; shaped = fed_shaped xs (keeps real).1; receive = eqb-true _ _ q.1 ∙ sym g.receive; send = refl };
         leaves = feeds xs o (λ real. (keeps real).1);
       }))
       (λ o. rw o (λ known keeps. record { known = known; fits = λ real. unchanged; leaves = shut o })))
 
   -- what is told without a message: no 23; a fault closes, and any other number does nothing
-  no-23 : {i : ℕ} {o : Outcome} → Unshown w.connection w.receive i o → outcome_number o ≢ 23
-  no-23 (hearing.out_of_range q) e = true≢false (sym (reached_receives g) ∙ q)
-  no-23 (hearing.no_instance q h) e = omega arith
-  no-23 (hearing.unheard a u) e = let (low, high) = unheard_number u in omega arith
+  no_23 : {i : ℕ} {o : Outcome} → Unshown w.connection w.receive i o → outcome_number o ≢ 23
+  no_23 (hearing.out_of_range q) e = true≢false (sym (reached_receives g) ∙ q)
+  no_23 (hearing.no_instance q h) e = omega arith
+  no_23 (hearing.unheard a u) e = let (low, high) = unheard_number u in omega arith
 
   undone : (i n : ℕ) {real : Type 0} → Leaves w real (cond (heard_fault n) (faulted n i) nothing) (world (heard.shut w.connection i n) w.receive w.send)
   undone i n = by_test (heard_fault n) (λ f. rw f (faults n i)) (λ f. rw f still)
@@ -263,8 +263,8 @@ module _ (w : World) (g : Good w) where
         answer = (r.answer.shown.number, looked (said_by r.answer.shown) r.answer.place r.scratch);
       })
   look_says i scratch (refusal {o = o} u) =
-      let low = unshown-number u in
-      rw (ne_eqb (outcome_number o) 0 (λ q. omega arith)) (no-23 u, undone i (outcome_number o))
+      let low = unshown_number u in
+      rw (ne_eqb (outcome_number o) 0 (λ q. omega arith)) (no_23 u, undone i (outcome_number o))
   look_says i scratch (message {n = n} {m = m} f) =
       shown_at_lem i scratch n m (first_held w.connection w.receive i n) (looking.message_place w.connection i n (length scratch))
 
@@ -272,13 +272,13 @@ module _ (w : World) (g : Good w) where
       → let r = dropping.by_judged w.connection i j in
       Says (drop i) (record { world = world r.connection w.receive w.send; answer = (r.shown.number, said_by r.shown) })
   drop_says i (refusal {o = o} u) =
-      let low = unshown-number u in
-      rw (ne_eqb (outcome_number o) 0 (λ q. omega arith)) (no-23 u, undone i (outcome_number o))
+      let low = unshown_number u in
+      rw (ne_eqb (outcome_number o) 0 (λ q. omega arith)) (no_23 u, undone i (outcome_number o))
   drop_says i (message {n = n} {next = to} {m = m} f) =
       let s = f.spells in (
         λ q. omega arith,
         drops i n to m (record { within = f.asked.1; reads = refl; agency = their_turn _ i _ _ _ to s.awaited.theirs s.row; row = s.row })
-            (found-fits w.connection w.receive i f) (found-reads w.connection w.receive i f),
+            (found_fits w.connection w.receive i f) (found_reads w.connection w.receive i f),
       )
 
   put_says : (i : ℕ) (xs : List ℕ) {k : ℕ} → putting_laws.Way w.connection w.send i xs k
@@ -295,17 +295,17 @@ module _ (w : World) (g : Good w) where
             t.allowed v.short f,
       )
 
-  next-says : (time : ℕ) (buf : List ℕ) → sending_laws.Way w.connection w.send time buf
+  next_says : (time : ℕ) (buf : List ℕ) → sending_laws.Way w.connection w.send time buf
       → Says (next time buf) (step w (next time buf))
   unfolding step
-  next-says time buf (sending_laws.stays n z k v e) = rw (← e) ((λ q. true≢false (sym (reached_sends g) ∙ k q)), rw (ne_eqb n 0 z) still)
-  next-says time buf (sending_laws.gone i u who l e) =
+  next_says time buf (sending_laws.stays n z k v e) = rw (← e) ((λ q. true≢false (sym (reached_sends g) ∙ k q)), rw (ne_eqb n 0 z) still)
+  next_says time buf (sending_laws.gone i u who l e) =
       rw (← e) ((λ z. omega arith), serves i time _ u.1 who (λ real. made_of g time buf i real.0 who l))
 
   pub done : (a : Call) → Done w a (step w a)
   unfolding step looking.look_of dropping.drop_of
   done (feed xs) =
-      feed-done xs (λ e. feed-unknown xs ((feeding_laws.exactly w.connection w.receive xs 23).0 e))
+      feed_done xs (λ e. feed_unknown xs ((feeding_laws.exactly w.connection w.receive xs 23).0 e))
       (λ real. feeding_laws.keeps w.connection w.receive xs g.spelt real (reached_receives g))
   done (look i scratch) =
       let q = looking_laws.keeps w.connection w.receive i scratch g.shaped (reached_receives g) in
@@ -325,7 +325,7 @@ module _ (w : World) (g : Good w) where
       }
   done (next time buf) =
       let q = sending_laws.keeps w.connection w.send time buf g.shaped g.ranged in
-      let (known, leaves) = next-says time buf (sending_laws.way w.connection w.send time buf) in
+      let (known, leaves) = next_says time buf (sending_laws.way w.connection w.send time buf) in
       record { known = known; fits = λ real. record { ranged = q.0; shaped = q.1; receive = refl; send = refl }; leaves = leaves }
   done status =
       record { known = λ e. omega (arith, telling_laws.answered w.connection (telling.done g.ranged)); fits = λ real. unchanged; leaves = still }

@@ -32,22 +32,22 @@ use Rattle.promises.specs.Calls.{Call, World, step, run, AllReal, first}
 use Rattle.promises.specs.Effects.{did, segments}
 use Rattle.promises.specs.Reached.{waits, Reached}
 use Rattle.promises.specs.Fairness.{queue, payload, Sent, enough, FairFrom, Serves, Fair}
-use Rattle.promises.proofs.ReachedHandshake.{spare, spare-none}
+use Rattle.promises.proofs.ReachedHandshake.{spare, spare_none}
 use Rattle.promises.proofs.Effects.{good, reached_sends}
 use Rattle.promises.proofs.Effects as effects
 use Rattle.promises.proofs.Reached.{to_put, handshake, Sound, sound_first, sound_step, sound_run}
-use Rattle.promises.proofs.FairRound.{rounds, reach, Found, it, nearer, chosen_found, chosen-zero}
+use Rattle.promises.proofs.FairRound.{rounds, reach, Found, it, nearer, chosen_found, chosen_zero}
 use Rattle.promises.proofs.FairCalls.{Quiet, Served, share, Moves, quiet, served, moves}
-use Rattle.promises.proofs.FairSent.{of_same, of_other, sent-now, sent-other, sent-later}
+use Rattle.promises.proofs.FairSent.{of_same, of_other, sent_now, sent_other, sent_later}
 
 -- ---- queues
 
 -- as many bytes wait as the queue has
-waits-queue : (w : World) (i : ℕ) → length (queue w i) ≡ waits w i
-waits-queue w i = stream_length w.send _ _ (get_or w.connection.sending.starts i 0) (waits w i)
+waits_queue : (w : World) (i : ℕ) → length (queue w i) ≡ waits w i
+waits_queue w i = stream_length w.send _ _ (get_or w.connection.sending.starts i 0) (waits w i)
 
-same-waits : (w w' : World) (i : ℕ) → queue w' i ≡ queue w i → waits w' i ≡ waits w i
-same-waits w w' i e = sym (waits-queue w' i) ∙ ap {A = List ℕ} length e ∙ waits-queue w i
+same_waits : (w w' : World) (i : ℕ) → queue w' i ≡ queue w i → waits w' i ≡ waits w i
+same_waits w w' i e = sym (waits_queue w' i) ∙ ap {A = List ℕ} length e ∙ waits_queue w i
 
 -- the byte with p bytes in front of it
 abbrev byte_at : World → ℕ → ℕ → ℕ
@@ -62,8 +62,8 @@ stays : (s : Settings) (w w' : World) (i p : ℕ) → Quiet s w w' → i < insta
 stays s w w' i p q l h =
     let (xs, e) = q.grows i l in
     record {
-      there = omega (arith, waits-queue w i, waits-queue w' i, ap {A = List ℕ} length e, length-append (queue w i) xs);
-      same = ap (λ (bs : List ℕ). get_or bs p 0) e ∙ get_or-append (queue w i) xs 0 p (omega (arith, waits-queue w i));
+      there = omega (arith, waits_queue w i, waits_queue w' i, ap {A = List ℕ} length e, length-append (queue w i) xs);
+      same = ap (λ (bs : List ℕ). get_or bs p 0) e ∙ get_or-append (queue w i) xs 0 p (omega (arith, waits_queue w i));
     }
 
 -- ---- what a segment takes away
@@ -82,8 +82,8 @@ record Due (s : Settings) (w : World) (i p k : ℕ) : Type 0 where
   budget : (instances s.party.bundle - 1) * m + d + z + 1 ≤ k
 
 module _ (s : Settings) (w w' : World) (i : ℕ) (some : 1 ≤ i) (inside : i < instances s.party.bundle) where
-  due-quiet : {p k : ℕ} → Quiet s w w' → Due s w i p k → Due s w' i p k
-  due-quiet {p} q D =
+  due_quiet : {p k : ℕ} → Quiet s w w' → Due s w i p k → Due s w' i p k
+  due_quiet {p} q D =
       record {
         m = D.m;
         d = D.d;
@@ -102,15 +102,15 @@ module _ (s : Settings) (w w' : World) (i : ℕ) (some : 1 ≤ i) (inside : i < 
     put_same = ap (λ (t : Talk). spare s.party.side (get_or t.states 0 0) s.limit) q.talk
 
     -- a segment of another instance that brings i nearer, or that is Handshake's
-    due-other : (p k z d : ℕ) (D : Due s w i p (suc k)) → i ≢ j → z ≤ 1 → (z ≡ 0 → handshake s w' ≡ 0)
+    due_other : (p k z d : ℕ) (D : Due s w i p (suc k)) → i ≢ j → z ≤ 1 → (z ≡ 0 → handshake s w' ≡ 0)
         → rounds (instances s.party.bundle) d (turn_after (instances s.party.bundle) j w.connection.sending.turn) ≡ i → d + z < D.d + D.z → d + 2 ≤ instances s.party.bundle
         → Due s w' i p k
-    due-other p k z d D ne bit fit near less short =
+    due_other p k z d D ne bit fit near less short =
         record {
           m = D.m;
           d = d;
           z = z;
-          there = rw (same-waits w w' i (q.others i ne)) D.there;
+          there = rw (same_waits w w' i (q.others i ne)) D.there;
           turns = D.turns;
           near = ap (rounds (instances s.party.bundle) d) q.turn ∙ near;
           short = short;
@@ -120,15 +120,15 @@ module _ (s : Settings) (w w' : World) (i : ℕ) (some : 1 ≤ i) (inside : i < 
         }
 
     -- Handshake's one segment
-    due-zero : (p k : ℕ) → Sound s w → j ≡ 0 → 0 < waits w 0 → Due s w i p (suc k) → Due s w' i p k
-    due-zero p k sound e has D =
-        let none : to_put s w ≡ 0 = spare-none s.party.side _ s.limit (omega (arith, sound.bound)) in
+    due_zero : (p k : ℕ) → Sound s w → j ≡ 0 → 0 < waits w 0 → Due s w i p (suc k) → Due s w' i p k
+    due_zero p k sound e has D =
+        let none : to_put s w ≡ 0 = spare_none s.party.side _ s.limit (omega (arith, sound.bound)) in
         let cut : length (queue w' 0) ≡ length (queue w 0) - share s w 0 =
         subst (λ (n : ℕ). length (queue w' n) ≡ length (queue w n) - share s w n) e
         (ap {A = List ℕ} length q.rest ∙ length-drop (share s w j) (queue w j)) in
-        let gone : waits w' 0 ≡ 0 = omega (arith, waits-queue w 0, waits-queue w' 0, sound.bound) in
+        let gone : waits w' 0 ≡ 0 = omega (arith, waits_queue w 0, waits_queue w' 0, sound.bound) in
         let one : 1 ≤ D.z = by_bit D.z D.fit in
-        due-other p k 0 D.d D (λ same. omega arith) (omega arith) (λ _. omega (arith, put_same))
+        due_other p k 0 D.d D (λ same. omega arith) (omega arith) (λ _. omega (arith, put_same))
         (ap (λ (n : ℕ). rounds (instances s.party.bundle) D.d (turn_after (instances s.party.bundle) n w.connection.sending.turn)) e ∙ D.near) (omega arith) D.short
       where
         by_bit : (z : ℕ) → (z ≡ 0 → handshake s w ≡ 0) → 1 ≤ z
@@ -136,23 +136,23 @@ module _ (s : Settings) (w w' : World) (i : ℕ) (some : 1 ≤ i) (inside : i < 
         by_bit (suc z) fit = omega arith
 
     -- what may come of Handshake stays where another is served
-    handshake-same : j ≢ 0 → handshake s w' ≡ handshake s w
-    handshake-same ne = omega (arith, put_same, same-waits w w' 0 (q.others 0 (λ e. ne (sym e))))
+    handshake_same : j ≢ 0 → handshake s w' ≡ handshake s w
+    handshake_same ne = omega (arith, put_same, same_waits w w' 0 (q.others 0 (λ e. ne (sym e))))
 
 -- a segment of i's own has the front of its queue
 module _ (s : Settings) (w w' : World) (i : ℕ) (bs : List ℕ) (q : Served s w w' i bs) where
   own_long : length (payload bs) ≡ share s w i
-  own_long = ap {A = List ℕ} length q.front ∙ length-take (share s w i) (queue w i) ∙ omega (arith, waits-queue w i)
+  own_long = ap {A = List ℕ} length q.front ∙ length-take (share s w i) (queue w i) ∙ omega (arith, waits_queue w i)
 
-  own-left : waits w' i ≡ waits w i - share s w i
-  own-left =
-      sym (waits-queue w' i) ∙ ap {A = List ℕ} length q.rest ∙ length-drop (share s w i) (queue w i) ∙ omega (arith, waits-queue w i)
+  own_left : waits w' i ≡ waits w i - share s w i
+  own_left =
+      sym (waits_queue w' i) ∙ ap {A = List ℕ} length q.rest ∙ length-drop (share s w i) (queue w i) ∙ omega (arith, waits_queue w i)
 
   -- the byte is in it
-  own-now : (p : ℕ) (ss : List (List ℕ)) → p < waits w i → p < s.limit → Sent s.party i p (byte_at w i p) (bs ∷ ss)
-  own-now p ss there lt =
+  own_now : (p : ℕ) (ss : List (List ℕ)) → p < waits w i → p < s.limit → Sent s.party i p (byte_at w i p) (bs ∷ ss)
+  own_now p ss there lt =
       let within : p < share s w i = omega arith in
-      sent-now s.party i (byte_at w i p) bs ss p (of_same s.party i bs q.mode q.protocol) q.whole (rw own_long within)
+      sent_now s.party i (byte_at w i p) bs ss p (of_same s.party i bs q.mode q.protocol) q.whole (rw own_long within)
       (ap (λ (l : List ℕ). get_or l p 0) q.front ∙ get_or-take (share s w i) (queue w i) p 0 within)
 
 -- the rest of the segments has every byte of i that is due
@@ -165,15 +165,15 @@ module _ (s : Settings) (w w' : World) (i : ℕ) (some : 1 ≤ i) (inside : i < 
   other_step : (j p k : ℕ) (bs : List ℕ) → Served s w w' j bs → i ≢ j → Due s w' i p k → k ≤ length ss
       → Sent s.party i p (byte_at w i p) (bs ∷ list.take k ss)
   other_step j p k bs q ne D h =
-      sent-other s.party i (byte_at w i p) bs (list.take k ss) p
+      sent_other s.party i (byte_at w i p) bs (list.take k ss) p
       (of_other s.party i j bs inside (rw sound.reached.settings at (sending.chosen_waiting _ sound.reached.shaped j q.who).0) ne q.mode q.protocol)
       (subst (λ (b : ℕ). Sent s.party i p b (list.take k ss)) (ap (λ (l : List ℕ). get_or l p 0) (q.others i ne)) (rest p k D h))
 
   -- a segment of i's own
   module _ (bs : List ℕ) (q : Served s w w' i bs) where
     -- the byte is not in it, and S bytes fewer are in front of it
-    due-own : (p k : ℕ) → s.limit ≤ p → Due s w i p (suc k) → Due s w' i (p - s.limit) k
-    due-own p k h D = go D.m D.turns D.budget
+    due_own : (p k : ℕ) → s.limit ≤ p → Due s w i p (suc k) → Due s w' i (p - s.limit) k
+    due_own p k h D = go D.m D.turns D.budget
       where
         go : (m : ℕ) → p < s.limit * suc m → (instances s.party.bundle - 1) * m + D.d + D.z + 1 ≤ suc k → Due s w' i (p - s.limit) k
         go zero t b = absurd (omega arith)
@@ -184,55 +184,55 @@ module _ (s : Settings) (w w' : World) (i : ℕ) (some : 1 ≤ i) (inside : i < 
               m = m;
               d = r.0;
               z = D.z;
-              there = omega (arith, own-left s w w' i bs q, D.there);
+              there = omega (arith, own_left s w w' i bs q, D.there);
               turns = omega arith;
               near = r.2;
               short = r.1;
               bit = D.bit;
-              fit = λ e. handshake-same s w w' i some inside i bs q (λ z. omega arith) ∙ D.fit e;
+              fit = λ e. handshake_same s w w' i some inside i bs q (λ z. omega arith) ∙ D.fit e;
               budget = omega (arith, r.1);
             }
 
-    own-step : (p k : ℕ) → Due s w i p (suc k) → k ≤ length ss → Sent s.party i p (byte_at w i p) (bs ∷ list.take k ss)
-    own-step p k D h =
+    own_step : (p k : ℕ) → Due s w i p (suc k) → k ≤ length ss → Sent s.party i p (byte_at w i p) (bs ∷ list.take k ss)
+    own_step p k D h =
         elim (dec_lt p s.limit) [
-          | yes lt ↦ own-now s w w' i bs q p (list.take k ss) D.there lt
+          | yes lt ↦ own_now s w w' i bs q p (list.take k ss) D.there lt
           | no ge ↦
               let all : share s w i ≡ s.limit = omega (arith, D.there) in
               let same : byte_at w' i (p - s.limit) ≡ byte_at w i p =
               ap (λ (l : List ℕ). get_or l (p - s.limit) 0) q.rest ∙ get_or-drop (share s w i) (queue w i) (p - s.limit) 0
               ∙ ap (λ (n : ℕ). get_or (queue w i) n 0) (omega arith) in
               let long : length (payload bs) ≡ s.limit = own_long s w w' i bs q ∙ all in
-              sent-later s.party i (byte_at w i p) bs (list.take k ss) p (of_same s.party i bs q.mode q.protocol) (rw long (omega arith))
-              (rw (long, ← same) (rest (p - s.limit) k (due-own p k (omega arith) D) h))
+              sent_later s.party i (byte_at w i p) bs (list.take k ss) p (of_same s.party i bs q.mode q.protocol) (rw long (omega arith))
+              (rw (long, ← same) (rest (p - s.limit) k (due_own p k (omega arith) D) h))
         ]
 
-  serve-step : (j p k : ℕ) (bs : List ℕ) → Served s w w' j bs → Due s w i p (suc k) → k ≤ length ss
+  serve_step : (j p k : ℕ) (bs : List ℕ) → Served s w w' j bs → Due s w i p (suc k) → k ≤ length ss
       → Sent s.party i p (byte_at w i p) (bs ∷ list.take k ss)
-  serve-step j p k bs q D h =
+  serve_step j p k bs q D h =
       let ws = sending.counts w.connection in
       let turn = w.connection.sending.turn in
       let long : length ws ≡ instances s.party.bundle = sending.counts_long w.connection sound.reached.shaped ∙ ap (λ (x : Settings). instances x.party.bundle) sound.reached.settings in
       let at : (n : ℕ) → n < instances s.party.bundle → get_or ws n 0 ≡ waits w n = λ n l. sending.counts_at w.connection n (rw sound.reached.settings l) in
       elim (dec_lt 0 (waits w 0)) [
         | yes has ↦
-            let e : j ≡ 0 = chosen-zero ws turn j (omega (arith, at 0 (omega arith))) q.who in
-            other_step j p k bs q (λ same. omega arith) (due-zero s w w' i some inside j bs q p k sound e has D) h
+            let e : j ≡ 0 = chosen_zero ws turn j (omega (arith, at 0 (omega arith))) q.who in
+            other_step j p k bs q (λ same. omega arith) (due_zero s w w' i some inside j bs q p k sound e has D) h
         | no none ↦
-            by-found bs q
+            by_found bs q
             (chosen_found ws (instances s.party.bundle) turn i D.d j long (omega (arith, at 0 (omega arith)))
             (ranged w.connection sound.reached.ranged).turn.0 D.near D.short (omega (arith, D.there, at i inside)) q.who)
       ]
     where
-      by-found : {j : ℕ} (bs : List ℕ) → Served s w w' j bs → Found (instances s.party.bundle) i D.d j → Sent s.party i p (byte_at w i p) (bs ∷ list.take k ss)
-      by-found bs q it = own-step bs q p k D h
-      by-found bs q (nearer j e one lt r) = elim (ℕ_discrete i j) [
-        | yes same ↦ own-step bs (subst (λ (n : ℕ). Served s w w' n bs) (sym same) q) p k D h
+      by_found : {j : ℕ} (bs : List ℕ) → Served s w w' j bs → Found (instances s.party.bundle) i D.d j → Sent s.party i p (byte_at w i p) (bs ∷ list.take k ss)
+      by_found bs q it = own_step bs q p k D h
+      by_found bs q (nearer j e one lt r) = elim (ℕ_discrete i j) [
+        | yes same ↦ own_step bs (subst (λ (n : ℕ). Served s w w' n bs) (sym same) q) p k D h
         | no ne ↦
             let on : rounds (instances s.party.bundle) e (turn_after (instances s.party.bundle) j w.connection.sending.turn) ≡ i = rw (ne_eqb j 0 (λ z. omega arith)) r in
-            let same : handshake s w' ≡ handshake s w = handshake-same s w w' i some inside j bs q (λ z. omega arith) in
+            let same : handshake s w' ≡ handshake s w = handshake_same s w w' i some inside j bs q (λ z. omega arith) in
             other_step j p k bs q ne
-            (due-other s w w' i some inside j bs q p k D.z e D ne D.bit (λ z. same ∙ D.fit z) on (omega arith) (omega (arith, D.short))) h
+            (due_other s w w' i some inside j bs q p k D.z e D ne D.bit (λ z. same ∙ D.fit z) on (omega arith) (omega (arith, D.short))) h
       ]
 
 -- ---- one call, and the rest
@@ -241,9 +241,9 @@ by_move : (s : Settings) (w : World) (i : ℕ) → 1 ≤ i → i < instances s.p
     → Sound s w → Sound s w' → (ss : List (List ℕ)) → Rest s w' i ss → Rest s w i (made ++ ss)
 by_move s w i some inside {w'} (quiet q) k k' ss rest p n D h =
     subst (λ (b : ℕ). Sent s.party i p b (list.take n ss)) (stays s w w' i p q inside D.there).same
-    (rest p n (due-quiet s w w' i some inside q D) h)
+    (rest p n (due_quiet s w w' i some inside q D) h)
 by_move s w i some inside (served j bs q) k k' ss rest p zero D h = absurd (omega (arith, D.budget))
-by_move s w i some inside {w'} (served j bs q) k k' ss rest p (suc n) D h = serve-step s w w' i some inside k k' ss rest j p n bs q D (omega arith)
+by_move s w i some inside {w'} (served j bs q) k k' ss rest p (suc n) D h = serve_step s w w' i some inside k k' ss rest j p n bs q D (omega arith)
 
 -- a byte of instance 0 is in the very next segment
 abbrev Next : Settings → World → List (List ℕ) → Type 0
@@ -263,8 +263,8 @@ by_next s w {w'} (quiet q) k ss rest p n there h =
     subst (λ (b : ℕ). Sent s.party 0 p b (list.take (suc n) ss)) t.same (rest p n t.there h)
 by_next s w {w'} (served j bs q) k ss rest p n there h =
     let at = sending.counts_at w.connection 0 (rw k.reached.settings (zeroth_of s w k.reached)) in
-    let e : j ≡ 0 = chosen-zero (sending.counts w.connection) w.connection.sending.turn j (omega (arith, at)) q.who in
-    own-now s w w' 0 bs (subst (λ (m : ℕ). Served s w w' m bs) e q) p (list.take n ss) there (omega (arith, k.reached.single))
+    let e : j ≡ 0 = chosen_zero (sending.counts w.connection) w.connection.sending.turn j (omega (arith, at)) q.who in
+    own_now s w w' 0 bs (subst (λ (m : ℕ). Served s w w' m bs) e q) p (list.take n ss) there (omega (arith, k.reached.single))
 
 -- ---- the theorems, by what every call keeps
 

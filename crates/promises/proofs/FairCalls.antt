@@ -28,7 +28,7 @@ use Rattle.promises.specs.Effects.{Effect, segment_of}
 use Rattle.promises.specs.Reached.{waits, Reached}
 use Rattle.promises.specs.Fairness.{queue, header, payload}
 use Rattle.promises.proofs.Effects.{good, send_some, row_of, Leaves, still, shut, feeds, faults, drops, queues, serves}
-use Rattle.promises.proofs.Reached.{handshake, Sound, moved, put-bound}
+use Rattle.promises.proofs.Reached.{handshake, Sound, moved, put_bound}
 use Rattle.promises.proofs.SegmentMade.{Made}
 
 -- no segment: every queue stays or grows at its end, and no more of Handshake is to come
@@ -83,8 +83,8 @@ module _ (s : Settings) (w : World) (k : Sound s w) where
     abbrev left : World
     left = world (with_sending c (sending.sent_of c.settings.party.bundle c.sending caps j n)) w.receive w.send
 
-    same-share : n ≡ share s w j
-    same-share = ap (λ (x : Settings). min x.limit (waits w j)) r.settings
+    same_share : n ≡ share s w j
+    same_share = ap (λ (x : Settings). min x.limit (waits w j)) r.settings
 
     -- what goes of each queue
     goes : (i : ℕ) → queue w i ≡ cond (eqb j i) (sending.payload_of c w.send j) [] ++ queue left i
@@ -104,8 +104,8 @@ module _ (s : Settings) (w : World) (k : Sound s w) where
           mode = ap (λ (h : Segment). h.mode) one.reads ∙ ap (λ (x : Settings). mode_of x.party j) r.settings;
           protocol = ap (λ (h : Segment). h.protocol) one.reads ∙ ap (λ (x : Settings). protocol_of x.party.bundle j) r.settings;
           whole = ap (λ (h : Segment). h.len) one.reads ∙ sym (ap {A = List ℕ} length one.carries ∙ stream_length w.send _ _ _ n);
-          front = one.first ∙ ap (λ (m : ℕ). list.take m (queue w j)) same-share;
-          rest = rest ∙ ap (λ (m : ℕ). drop m (queue w j)) same-share;
+          front = one.first ∙ ap (λ (m : ℕ). list.take m (queue w j)) same_share;
+          rest = rest ∙ ap (λ (m : ℕ). drop m (queue w j)) same_share;
           others = λ i ne. sym (rw (ne_eqb j i (λ e. ne (sym e))) at (goes i));
           turn = ap (λ (x : Settings). turn_after (instances x.party.bundle) j c.sending.turn) r.settings;
           talk = refl;
@@ -131,6 +131,6 @@ module _ (s : Settings) (w : World) (k : Sound s w) where
               (r.send ∙ ap send_length (sym r.settings)) (send_some (good r)) q.within (omega (arith, q.within, r.shaped.waiting, at_most c.settings.party.bundle)) room j
               (rw r.settings h),
         );
-        bound = put-bound s w k i to (length xs) q.agency (row_of q) short;
+        bound = put_bound s w k i to (length xs) q.agency (row_of q) short;
       })
   moves real (serves j time bs o who q) = served j bs (serving time j bs who (q real))

@@ -48,8 +48,8 @@ reach n t i low high some within = elim (dec_lt i t) [
       )
 ]
 
-after-some : (n i : ℕ) → 1 ≤ after_of n i
-after-some n i = cond_cases (λ (k : ℕ). 1 ≤ k) (eqb (i + 1) n) (λ t. omega arith) (λ t. omega arith)
+after_some : (n i : ℕ) → 1 ≤ after_of n i
+after_some n i = cond_cases (λ (k : ℕ). 1 ≤ k) (eqb (i + 1) n) (λ t. omega arith) (λ t. omega arith)
 
 -- instance j, found on the way to i, is i, or i is nearer to the one after j
 pub data Found (n i d : ℕ) : ℕ → Type 0 where
@@ -71,7 +71,7 @@ sought ws zero (suc k) t i some r h has =
 sought ws (suc d) (suc k) t i some r h has =
     by_test (ltb 0 (get_or ws t 0)) (λ e. (t, rw e, nearer t d some (omega arith) r))
     (λ e.
-    let (j, q, f) = sought ws d k (after_of (length ws) t) i (after-some (length ws) t) r (omega arith) has in
+    let (j, q, f) = sought ws d k (after_of (length ws) t) i (after_some (length ws) t) r (omega arith) has in
     (j, rw e q, found_later f))
 
 -- whoever is chosen, where instance 0 has nothing waiting
@@ -85,5 +85,5 @@ chosen_found ws n turn i d j e none some r h has who =
     subst (λ (m : ℕ). Found m i d j) e (subst (λ (m : ℕ). Found (length ws) i d m) same f)
 
 -- and where it has
-pub chosen-zero : (ws : List ℕ) (turn j : ℕ) → 0 < get_or ws 0 0 → chosen ws turn ≡ Instance j → j ≡ 0
-chosen-zero ws turn j h who = let one : Instance 0 ≡ Instance j = rw (lt-ltb 0 (get_or ws 0 0) h) at who in cc
+pub chosen_zero : (ws : List ℕ) (turn j : ℕ) → 0 < get_or ws 0 0 → chosen ws turn ≡ Instance j → j ≡ 0
+chosen_zero ws turn j h who = let one : Instance 0 ≡ Instance j = rw (lt-ltb 0 (get_or ws 0 0) h) at who in cc

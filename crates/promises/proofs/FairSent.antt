@@ -37,10 +37,10 @@ of_other us i j bs h l ne m p =
     (λ t. t)
 
 module _ (us : Party) (i b : ℕ) (bs : List ℕ) (ss : List (List ℕ)) where
-  pub sent-now : (p : ℕ) → is_of us i bs ≡ true → (header bs).len ≡ length (payload bs) → p < length (payload bs) → get_or (payload bs) p 0 ≡ b
+  pub sent_now : (p : ℕ) → is_of us i bs ≡ true → (header bs).len ≡ length (payload bs) → p < length (payload bs) → get_or (payload bs) p 0 ≡ b
       → Sent us i p b (bs ∷ ss)
   unfolding sent_by flat_map
-  sent-now p of whole h e =
+  sent_now p of whole h e =
       record {
         front = [];
         segment = bs;
@@ -55,9 +55,9 @@ module _ (us : Party) (i b : ℕ) (bs : List ℕ) (ss : List (List ℕ)) where
       }
 
   -- a byte that the segments behind carry is as much further behind as this one has of i
-  sent-behind : (p q : ℕ) → p ≡ length (cond (is_of us i bs) (payload bs) []) + q → Sent us i q b ss → Sent us i p b (bs ∷ ss)
+  sent_behind : (p q : ℕ) → p ≡ length (cond (is_of us i bs) (payload bs) []) + q → Sent us i q b ss → Sent us i p b (bs ∷ ss)
   unfolding sent_by flat_map
-  sent-behind p q e k =
+  sent_behind p q e k =
       record {
         front = bs ∷ k.front;
         segment = k.segment;
@@ -71,8 +71,8 @@ module _ (us : Party) (i b : ℕ) (bs : List ℕ) (ss : List (List ℕ)) where
         byte = k.byte;
       }
 
-  pub sent-other : (p : ℕ) → is_of us i bs ≡ false → Sent us i p b ss → Sent us i p b (bs ∷ ss)
-  sent-other p of k = sent-behind p p (rw of (omega arith)) k
+  pub sent_other : (p : ℕ) → is_of us i bs ≡ false → Sent us i p b ss → Sent us i p b (bs ∷ ss)
+  sent_other p of k = sent_behind p p (rw of (omega arith)) k
 
-  pub sent-later : (p : ℕ) → is_of us i bs ≡ true → length (payload bs) ≤ p → Sent us i (p - length (payload bs)) b ss → Sent us i p b (bs ∷ ss)
-  sent-later p of h k = sent-behind p (p - length (payload bs)) (rw of (omega arith)) k
+  pub sent_later : (p : ℕ) → is_of us i bs ≡ true → length (payload bs) ≤ p → Sent us i (p - length (payload bs)) b ss → Sent us i p b (bs ∷ ss)
+  sent_later p of h k = sent_behind p (p - length (payload bs)) (rw of (omega arith)) k

@@ -20,10 +20,10 @@ use Rattle.promises.specs.History.{dropped_for, sent_for, Talks, Closes, Tells, 
 use Rattle.promises.proofs.Effects.{Good, good, Leaves}
 use Rattle.promises.proofs.Reached.{in_range_for_ever}
 use Rattle.promises.proofs.HistoryRuns.{along}
-use Rattle.promises.proofs.HistoryTalks.{talks_first, talks-by}
+use Rattle.promises.proofs.HistoryTalks.{talks_first, talks_by}
 use Rattle.promises.proofs.HistoryReceives.{Held, held_first, held_by, receives_of}
 use Rattle.promises.proofs.HistoryCloses.{closes_first, closes_by}
-use Rattle.promises.proofs.HistorySends.{Waits, waits_first, waits-by, sends_of, makes}
+use Rattle.promises.proofs.HistorySends.{Waits, waits_first, waits_by, sends_of, makes}
 use Rattle.promises.proofs.HistoryLooks.{looks}
 
 -- all that each effect keeps
@@ -38,8 +38,8 @@ ties_next : (past : Past) (w : World) → Good w → (real : Type 0) (e : Effect
 ties_next past w g real e w' r l t =
     record {
       held = held_by w g past t.held l;
-      waits = waits-by w g past t.waits r l;
-      talks = talks-by w g past t.talks l;
+      waits = waits_by w g past t.waits r l;
+      talks = talks_by w g past t.talks l;
       closes = closes_by w g past t.held l t.closes;
     }
 
@@ -100,18 +100,18 @@ module _ (s : Settings) (receive send : List ℕ) (opened : Opened s receive sen
       along Ties ties_next opened cs real
       (record { held = held_first opened; waits = waits_first opened; talks = talks_first opened; closes = closes_first opened })
 
-  told-so : Tells s past w
-  told-so = subst (λ (u : Settings). Ties u past w → Tells u past w) reached.settings (tells_of past w) ties
+  told_so : Tells s past w
+  told_so = subst (λ (u : Settings). Ties u past w → Tells u past w) reached.settings (tells_of past w) ties
 
   reports : Reports s past (status_of w.connection)
-  reports = subst (λ (u : Settings). Tells u past w → Reports u past (status_of w.connection)) reached.settings (reports_of past w (good reached)) told-so
+  reports = subst (λ (u : Settings). Tells u past w → Reports u past (status_of w.connection)) reached.settings (reports_of past w (good reached)) told_so
 
 -- T11
 pub history : History
 history s receive send o cs real =
     let w : World = run (first s receive send) cs in
     let k = reached s receive send o cs real in
-    (told-so s receive send o cs real, makes s w k, looks s w k)
+    (told_so s receive send o cs real, makes s w k, looks s w k)
 
 -- T13
 pub status_tells : StatusTells

@@ -27,7 +27,7 @@ use Rattle.feeding.specs.Feeding.{Reception, admitted, admission, settled, heade
 use Rattle.feeding.proofs.Bytes.{step_headed, step_kept, fed_closed}
 use Rattle.feeding.proofs.Keeping.{Kept, kept_fed}
 use Rattle.promises.specs.History.{payload_for, received_in}
-use Rattle.promises.proofs.HistoryLayout.{none-for, for-append, received-head, received-in, received-whole}
+use Rattle.promises.proofs.HistoryLayout.{none_for, for_append, received_head, received_in_lem, received_whole}
 
 -- the bytes held for instance i
 abbrev pub held_in : List ℕ → Reception → ℕ → List ℕ
@@ -58,9 +58,9 @@ module _ (us : Party) (bs : List ℕ) (b : ℕ) (cs : List Carried) (left : List
   head_part : length H < header_length → Divided (bs ++ (b ∷ [])) cs H
   head_part h = rw append-nil at (divided_on (b ∷ []) d (in_header h))
 
-  head-part-for : (i : ℕ) → length H ≤ header_length → received_in us i cs H ≡ received_in us i cs left
-  head-part-for i h =
-      received-head us i cs H h ∙ sym (received-head us i cs left (omega (arith, length-append left (b ∷ []))))
+  head_part_for : (i : ℕ) → length H ≤ header_length → received_in us i cs H ≡ received_in us i cs left
+  head_part_for i h =
+      received_head us i cs H h ∙ sym (received_head us i cs left (omega (arith, length-append left (b ∷ []))))
 
   module _ (whole : length H ≡ header_length) where
     short : length left ≤ header_length
@@ -70,40 +70,40 @@ module _ (us : Party) (bs : List ℕ) (b : ℕ) (cs : List Carried) (left : List
     head_none : (decoded H).len ≡ 0 → Divided (bs ++ (b ∷ [])) (cs ++ (record { header = decoded H; payload = [] } ∷ [])) []
     head_none z = divided_on (b ∷ []) d (rw append-nil at (divided_whole H [] whole (sym z)))
 
-    head-none-for : (i : ℕ) → received_in us i (cs ++ (record { header = decoded H; payload = [] } ∷ [])) [] ≡ received_in us i cs left
-    head-none-for i = received-whole us i cs H [] ∙ rw (none-for us i (decoded H), append-nil) (sym (received-head us i cs left short))
+    head_none_for : (i : ℕ) → received_in us i (cs ++ (record { header = decoded H; payload = [] } ∷ [])) [] ≡ received_in us i cs left
+    head_none_for i = received_whole us i cs H [] ∙ rw (none_for us i (decoded H), append-nil) (sym (received_head us i cs left short))
 
     -- and of another
-    head-some : 0 < (decoded H).len → Divided (bs ++ (b ∷ [])) cs H
-    head-some p = rw append-nil at (divided_on (b ∷ []) d (rw append-nil at (in_payload H [] whole p)))
+    head_some : 0 < (decoded H).len → Divided (bs ++ (b ∷ [])) cs H
+    head_some p = rw append-nil at (divided_on (b ∷ []) d (rw append-nil at (in_payload H [] whole p)))
 
 -- in a payload
 module _ (us : Party) (bs : List ℕ) (b : ℕ) (cs : List Carried) (h p : List ℕ) (d : Divided bs cs (h ++ p)) (eight : length h ≡ header_length) where
-  pay-long : length (p ++ (b ∷ [])) ≡ suc (length p)
-  pay-long = length-append p (b ∷ []) ∙ omega arith
+  pay_long : length (p ++ (b ∷ [])) ≡ suc (length p)
+  pay_long = length-append p (b ∷ []) ∙ omega arith
 
   -- its last byte
-  pay-last : suc (length p) ≡ (decoded h).len → Divided (bs ++ (b ∷ [])) (cs ++ (record { header = decoded h; payload = p ++ (b ∷ []) } ∷ [])) []
-  pay-last n = divided_on (b ∷ []) d (rw append_assoc (divided_whole h (p ++ (b ∷ [])) eight (pay-long ∙ n)))
+  pay_last : suc (length p) ≡ (decoded h).len → Divided (bs ++ (b ∷ [])) (cs ++ (record { header = decoded h; payload = p ++ (b ∷ []) } ∷ [])) []
+  pay_last n = divided_on (b ∷ []) d (rw append_assoc (divided_whole h (p ++ (b ∷ [])) eight (pay_long ∙ n)))
 
-  pay-last-for : (i : ℕ)
+  pay_last_for : (i : ℕ)
       → received_in us i (cs ++ (record { header = decoded h; payload = p ++ (b ∷ []) } ∷ [])) []
       ≡ received_in us i cs (h ++ p) ++ payload_for us i (decoded h) (b ∷ [])
-  pay-last-for i =
-      received-whole us i cs h (p ++ (b ∷ []))
-      ∙ rw (for-append us i (decoded h) p (b ∷ []), received-in us i cs h p eight, append_assoc)
+  pay_last_for i =
+      received_whole us i cs h (p ++ (b ∷ []))
+      ∙ rw (for_append us i (decoded h) p (b ∷ []), received_in_lem us i cs h p eight, append_assoc)
 
   -- another byte
-  pay-more : suc (length p) < (decoded h).len → Divided (bs ++ (b ∷ [])) cs (h ++ (p ++ (b ∷ [])))
-  pay-more n =
+  pay_more : suc (length p) < (decoded h).len → Divided (bs ++ (b ∷ [])) cs (h ++ (p ++ (b ∷ [])))
+  pay_more n =
       let whole-left : List ℕ = h ++ (p ++ (b ∷ [])) in
-      let q : Divided ((h ++ p) ++ (b ∷ [])) [] whole-left = rw append_assoc (in_payload h (p ++ (b ∷ [])) eight (rw pay-long n)) in
+      let q : Divided ((h ++ p) ++ (b ∷ [])) [] whole-left = rw append_assoc (in_payload h (p ++ (b ∷ [])) eight (rw pay_long n)) in
       rw append-nil at (divided_on (b ∷ []) d q)
 
-  pay-more-for : (i : ℕ) → received_in us i cs (h ++ (p ++ (b ∷ []))) ≡ received_in us i cs (h ++ p) ++ payload_for us i (decoded h) (b ∷ [])
-  pay-more-for i =
-      received-in us i cs h (p ++ (b ∷ [])) eight
-      ∙ rw (for-append us i (decoded h) p (b ∷ []), received-in us i cs h p eight, append_assoc)
+  pay_more_for : (i : ℕ) → received_in us i cs (h ++ (p ++ (b ∷ []))) ≡ received_in us i cs (h ++ p) ++ payload_for us i (decoded h) (b ∷ [])
+  pay_more_for i =
+      received_in_lem us i cs h (p ++ (b ∷ [])) eight
+      ∙ rw (for_append us i (decoded h) p (b ∷ []), received_in_lem us i cs h p eight, append_assoc)
 
 -- ---- one byte
 
@@ -115,11 +115,11 @@ module _ (us : Party) (caps : List ℕ) (dropped : ℕ → List ℕ) (some : (i 
     new = t.left ++ (b ∷ [])
 
     -- the division, however long the payload, with what stands behind it
-    tied-with : (s' : Reception) → s'.store ≡ s.store → s'.receiving.starts ≡ s.receiving.starts → s'.receiving.held ≡ s.receiving.held
+    tied_with : (s' : Reception) → s'.store ≡ s.store → s'.receiving.starts ≡ s.receiving.starts → s'.receiving.held ≡ s.receiving.held
         → ((decoded new).len ≡ 0 → is_open s'.gate ≡ true → Reading us s'.receiving [])
         → (0 < (decoded new).len → is_open s'.gate ≡ true → Reading us s'.receiving new)
         → Tied us caps dropped (bs ++ (b ∷ [])) s'
-    tied-with s' e f g none more =
+    tied_with s' e f g none more =
         by_test (eqb (decoded new).len 0)
         (λ q.
         let z : (decoded new).len ≡ 0 = eqb-true (decoded new).len 0 q in
@@ -127,7 +127,7 @@ module _ (us : Party) (caps : List ℕ) (dropped : ℕ → List ℕ) (some : (i 
           carried = t.carried ++ (record { header = decoded new; payload = [] } ∷ []);
           left = [];
           divided = head_none us bs b t.carried t.left t.divided eight z;
-          received = λ i l. head-none-for us bs b t.carried t.left t.divided eight i ∙ t.received i l ∙ rw (e, f, g);
+          received = λ i l. head_none_for us bs b t.carried t.left t.divided eight i ∙ t.received i l ∙ rw (e, f, g);
           reading = none z;
           many = rw g t.many;
         })
@@ -136,8 +136,8 @@ module _ (us : Party) (caps : List ℕ) (dropped : ℕ → List ℕ) (some : (i 
         record {
           carried = t.carried;
           left = new;
-          divided = head-some us bs b t.carried t.left t.divided eight z;
-          received = λ i l. head-part-for us bs b t.carried t.left t.divided i (omega arith) ∙ t.received i l ∙ rw (e, f, g);
+          divided = head_some us bs b t.carried t.left t.divided eight z;
+          received = λ i l. head_part_for us bs b t.carried t.left t.divided i (omega arith) ∙ t.received i l ∙ rw (e, f, g);
           reading = more z;
           many = rw g t.many;
         })
@@ -145,23 +145,23 @@ module _ (us : Party) (caps : List ℕ) (dropped : ℕ → List ℕ) (some : (i 
     never : {P : Type 0} → false ≡ true → P
     never e = absurd (true≢false (sym e))
 
-    tied-settled : is_open s.gate ≡ true → (r : Route) → route_of us (decoded new).protocol (decoded new).mode ≡ r
+    tied_settled : is_open s.gate ≡ true → (r : Route) → route_of us (decoded new).protocol (decoded new).mode ≡ r
         → Tied us caps dropped (bs ++ (b ∷ [])) (settled s (admitted caps s.receiving.held (decoded new).len r))
-    tied-settled o Unknown e = tied-with _ refl refl refl (λ z q. never q) (λ z q. never q)
-    tied-settled o (Wrong i) e = tied-with _ refl refl refl (λ z q. never q) (λ z q. never q)
-    tied-settled o (To i) e =
+    tied_settled o Unknown e = tied_with _ refl refl refl (λ z q. never q) (λ z q. never q)
+    tied_settled o (Wrong i) e = tied_with _ refl refl refl (λ z q. never q) (λ z q. never q)
+    tied_settled o (To i) e =
         let n = (decoded new).len in
         cond_cases (λ (a : Admission). Tied us caps dropped (bs ++ (b ∷ [])) (settled s a)) (leb (get_or s.receiving.held i 0 + n) (get_or caps i 0))
         (λ q.
-        tied-with _ refl refl refl (λ z y. in_head z (omega arith) refl)
+        tied_with _ refl refl refl (λ z y. in_head z (omega arith) refl)
         (λ z y. in_pay new [] (sym (append-nil new)) eight z (omega arith) refl (rw (ne_eqb n 0 (λ x. omega arith)) e)))
-        (λ q. tied-with _ refl refl refl (λ z y. never y) (λ z y. never y))
+        (λ q. tied_with _ refl refl refl (λ z y. never y) (λ z y. never y))
 
   -- a byte of a header
-  tied-headed : (bs : List ℕ) (b : ℕ) (s : Reception) (t : Tied us caps dropped bs s) → is_open s.gate ≡ true → s.receiving.rest ≡ 0
+  tied_headed : (bs : List ℕ) (b : ℕ) (s : Reception) (t : Tied us caps dropped bs s) → is_open s.gate ≡ true → s.receiving.rest ≡ 0
       → length t.left < header_length → s.receiving.header ≡ part t.left → Tied us caps dropped (bs ++ (b ∷ [])) (headed us caps s b)
   unfolding headed admission
-  tied-headed bs b s t o z short e =
+  tied_headed bs b s t o z short e =
       let new : List ℕ = t.left ++ (b ∷ []) in
       let long : length new ≡ suc (length t.left) = length-append t.left (b ∷ []) ∙ omega arith in
       let f : added s.receiving.header b ≡ part new = ap (λ (h : Header). added h b) e ∙ add_part t.left b short in
@@ -169,14 +169,14 @@ module _ (us : Party) (caps : List ℕ) (dropped : ℕ → List ℕ) (some : (i 
       (cond_cases (Tied us caps dropped (bs ++ (b ∷ []))) (leb header_length (length new))
       (λ q.
       let eight : length new ≡ header_length = omega (arith, leb-true header_length (length new) q) in
-      rw (part_whole new eight) (tied-settled bs b s t short eight o (route_of us (decoded new).protocol (decoded new).mode) refl))
+      rw (part_whole new eight) (tied_settled bs b s t short eight o (route_of us (decoded new).protocol (decoded new).mode) refl))
       (λ q.
       let less : length new < header_length = leb-false header_length (length new) q in
       record {
         carried = t.carried;
         left = new;
         divided = head_part us bs b t.carried t.left t.divided less;
-        received = λ i l. head-part-for us bs b t.carried t.left t.divided i (omega arith) ∙ t.received i l;
+        received = λ i l. head_part_for us bs b t.carried t.left t.divided i (omega arith) ∙ t.received i l;
         reading = λ y. in_head z less refl;
         many = t.many;
       }))
@@ -210,54 +210,54 @@ module _ (us : Party) (caps : List ℕ) (dropped : ℕ → List ℕ) (some : (i 
         let r : received_in us i t.carried (h ++ p) ≡ dropped i ++ held_in caps s i = rw e at (t.received i l) in
         rw (q, r, to, held_more b s t.many areas inside room i l, append_assoc)
 
-    many-after : length after.receiving.held ≡ most
+    many_after : length after.receiving.held ≡ most
     unfolding kept
-    many-after = rw length-set t.many
+    many_after = rw length-set t.many
 
-    tied-kept : Tied us caps dropped (bs ++ (b ∷ [])) after
+    tied_kept : Tied us caps dropped (bs ++ (b ∷ [])) after
     unfolding kept
-    tied-kept =
+    tied_kept =
         by_test (eqb (s.receiving.rest - 1) 0)
         (λ q.
         let y : s.receiving.rest - 1 ≡ 0 = eqb-true (s.receiving.rest - 1) 0 q in
         record {
           carried = t.carried ++ (record { header = decoded h; payload = p ++ (b ∷ []) } ∷ []);
           left = [];
-          divided = pay-last us bs b t.carried h p was eight (omega arith);
-          received = λ i l. grown i l _ (pay-last-for us bs b t.carried h p was eight i);
+          divided = pay_last us bs b t.carried h p was eight (omega arith);
+          received = λ i l. grown i l _ (pay_last_for us bs b t.carried h p was eight i);
           reading = λ o. in_head y (omega arith) z;
-          many = many-after;
+          many = many_after;
         })
         (λ q.
         let y = eqb-false (s.receiving.rest - 1) 0 q in
         record {
           carried = t.carried;
           left = h ++ (p ++ (b ∷ []));
-          divided = pay-more us bs b t.carried h p was eight (omega arith);
-          received = λ i l. grown i l _ (pay-more-for us bs b t.carried h p was eight i);
+          divided = pay_more us bs b t.carried h p was eight (omega arith);
+          received = λ i l. grown i l _ (pay_more_for us bs b t.carried h p was eight i);
           reading = λ o.
-              in_pay h (p ++ (b ∷ [])) refl eight (omega arith) (omega (arith, pay-long us bs b t.carried h p was eight)) z (rw q to);
-          many = many-after;
+              in_pay h (p ++ (b ∷ [])) refl eight (omega arith) (omega (arith, pay_long us bs b t.carried h p was eight)) z (rw q to);
+          many = many_after;
         })
 
-  tied-read : (bs : List ℕ) (b : ℕ) (s : Reception) (starts : List ℕ) (n : ℕ) (t : Tied us caps dropped bs s) → is_open s.gate ≡ true
+  tied_read : (bs : List ℕ) (b : ℕ) (s : Reception) (starts : List ℕ) (n : ℕ) (t : Tied us caps dropped bs s) → is_open s.gate ≡ true
       → Kept us.bundle caps starts n s → n ≡ base_of caps (instances us.bundle) → Reading us s.receiving t.left → Tied us caps dropped (bs ++ (b ∷ [])) (step us caps s b)
-  tied-read bs b s starts n t o k long (in_head z short e) =
-      rw (step_headed us caps s b o z) (tied-headed bs b s t o z short e)
-  tied-read bs b s starts n t o k long (in_pay h p e eight more m z to) =
+  tied_read bs b s starts n t o k long (in_head z short e) =
+      rw (step_headed us caps s b o z) (tied_headed bs b s t o z short e)
+  tied_read bs b s starts n t o k long (in_pay h p e eight more m z to) =
       let (none, inside, fit) = k.under_way more in
-      rw (step_kept us caps s b o more) (tied-kept bs b s t (k.long ∙ long) inside (omega (arith, fit)) h p e eight more m z to)
+      rw (step_kept us caps s b o more) (tied_kept bs b s t (k.long ∙ long) inside (omega (arith, fit)) h p e eight more m z to)
 
   -- ---- a run: the bytes that are used
-  pub tied-fed : (xs bs : List ℕ) (s : Reception) (starts : List ℕ) (n : ℕ) → Tied us caps dropped bs s → Kept us.bundle caps starts n s → n ≡ base_of caps (instances us.bundle)
+  pub tied_fed : (xs bs : List ℕ) (s : Reception) (starts : List ℕ) (n : ℕ) → Tied us caps dropped bs s → Kept us.bundle caps starts n s → n ≡ base_of caps (instances us.bundle)
       → Tied us caps dropped (bs ++ take (used us caps s xs) xs) (fed us caps s xs)
   unfolding fed used
-  tied-fed [] bs s starts n t k long = rw append-nil t
-  tied-fed (x ∷ xs) bs s starts n t k long =
+  tied_fed [] bs s starts n t k long = rw append-nil t
+  tied_fed (x ∷ xs) bs s starts n t k long =
       by_test (is_open s.gate)
       (λ o.
-      let t' : Tied us caps dropped (bs ++ (x ∷ [])) (step us caps s x) = tied-read bs x s starts n t o k long (t.reading o) in
+      let t' : Tied us caps dropped (bs ++ (x ∷ [])) (step us caps s x) = tied_read bs x s starts n t o k long (t.reading o) in
       let k' : Kept us.bundle caps starts n (step us caps s x) = kept_fed us caps starts n s (x ∷ []) k in
       rw (o, ← append_assoc bs (x ∷ []) (take (used us caps (step us caps s x) xs) xs))
-      (tied-fed xs (bs ++ (x ∷ [])) (step us caps s x) starts n t' k' long))
+      (tied_fed xs (bs ++ (x ∷ [])) (step us caps s x) starts n t' k' long))
       (λ o. rw (o, append-nil, fed_closed us caps s (x ∷ xs) o) t)

@@ -35,8 +35,8 @@ use Rattle.promises.specs.Effects.{Effect, came, Past, used_by, bytes_in}
 use Rattle.promises.specs.History.{last_route, routed, fault_by, first_fault, Closes}
 use Rattle.promises.proofs.ReachedFeed.{ends, uses}
 use Rattle.promises.proofs.Effects.{Good, receive_some, Leaves, still, shut, feeds, faults, drops, queues, serves}
-use Rattle.promises.proofs.Reached.{opens-fresh}
-use Rattle.promises.proofs.HistoryBytes.{Reading, in_head, in_pay, Tied, tied-fed}
+use Rattle.promises.proofs.Reached.{opens_fresh}
+use Rattle.promises.proofs.HistoryBytes.{Reading, in_head, in_pay, Tied, tied_fed}
 use Rattle.promises.proofs.HistoryReceives.{Held}
 
 -- ---- the header that is refused
@@ -50,10 +50,10 @@ last_at us front h e =
 module _ (us : Party) (caps : List ℕ) (dropped : ℕ → List ℕ)
     (some : (i : ℕ) → i < instances us.bundle → 0 < get_or caps i 0) where
   -- a byte that makes a header whole
-  header-last : (bs : List ℕ) (b : ℕ) (m : Reception) (t : Tied us caps dropped bs m) → Reading us m.receiving t.left → m.receiving.rest ≡ 0
+  header_last : (bs : List ℕ) (b : ℕ) (m : Reception) (t : Tied us caps dropped bs m) → Reading us m.receiving t.left → m.receiving.rest ≡ 0
       → header_length ≤ (added m.receiving.header b).count
       → let d = decoded (added m.receiving.header b).bytes in last_route us (bs ++ (b ∷ [])) ≡ route_of us d.protocol d.mode
-  header-last bs b m t (in_head z short e) idle enough =
+  header_last bs b m t (in_head z short e) idle enough =
       let h : List ℕ = t.left ++ (b ∷ []) in
       let f : added m.receiving.header b ≡ part h = ap (λ (x : Header). added x b) e ∙ add_part t.left b short in
       let n : header_length ≤ length h = rw f at enough in
@@ -61,20 +61,20 @@ module _ (us : Party) (caps : List ℕ) (dropped : ℕ → List ℕ)
       let q = divided_ends t.divided in
       let all : bs ++ (b ∷ []) ≡ q.0 ++ h = ap (λ (l : List ℕ). l ++ (b ∷ [])) q.1 ∙ append_assoc q.0 t.left (b ∷ []) in
       rw (f, part_whole h eight) (ap (last_route us) all ∙ last_at us q.0 h eight)
-  header-last bs b m t (in_pay h p e eight more n z to) idle enough = absurd (omega arith)
+  header_last bs b m t (in_pay h p e eight more n z to) idle enough = absurd (omega arith)
 
   -- it stands at the end of the bytes that were used
-  refused-last : (xs bs : List ℕ) (s : Reception) (starts : List ℕ) (n : ℕ) (x : Closing) → Tied us caps dropped bs s
+  refused_last : (xs bs : List ℕ) (s : Reception) (starts : List ℕ) (n : ℕ) (x : Closing) → Tied us caps dropped bs s
       → Kept us.bundle caps starts n s → n ≡ base_of caps (instances us.bundle)
       → is_open s.gate ≡ true → (feeding.fed us caps s xs).gate ≡ Closed x
       → (held : List ℕ) × (m : ℕ) × Cause caps held m (last_route us (bs ++ lists.take (used us caps s xs) xs)) x
-  refused-last xs bs s starts n x t k long o e =
+  refused_last xs bs s starts n x t k long o e =
       let f : Eighth us caps s xs (Refuses caps x) = fault_found us caps s xs x o e in
       let front : List ℕ = f.front in
       let m : Reception = feeding.fed us caps s front in
       let all : used us caps s front ≡ length front = used_all us caps s front f.reached in
       let t' : Tied us caps dropped (bs ++ front) m =
-      rw (all, take-length) at (tied-fed us caps dropped some front bs s starts n t k long) in
+      rw (all, take-length) at (tied_fed us caps dropped some front bs s starts n t k long) in
       let count : used us caps s xs ≡ length front + 1 = omega (arith, (fault_leaves us caps s xs x f).1) in
       let these : lists.take (used us caps s xs) xs ≡ front ++ (f.byte ∷ []) =
       ap (λ (j : ℕ). lists.take j xs) count ∙ ap (lists.take (length front + 1)) f.run ∙ take-append-add front (f.byte ∷ f.back) 1 in
@@ -82,7 +82,7 @@ module _ (us : Party) (caps : List ℕ) (dropped : ℕ → List ℕ)
       append_assoc bs front (f.byte ∷ []) ∙ ap (λ (l : List ℕ). bs ++ l) (sym these) in
       let d = decoded (added m.receiving.header f.byte).bytes in
       let last : last_route us (bs ++ lists.take (used us caps s xs) xs) ≡ route_of us d.protocol d.mode =
-      ap (last_route us) (sym bytes) ∙ header-last (bs ++ front) f.byte m t' (t'.reading f.reached) f.idle f.whole in (
+      ap (last_route us) (sym bytes) ∙ header_last (bs ++ front) f.byte m t' (t'.reading f.reached) f.idle f.whole in (
         m.receiving.held,
         d.len,
         subst (λ (r : Route). Cause caps m.receiving.held d.len r x) (sym last)
@@ -143,7 +143,7 @@ module _ (w : World) (g : Good w) (past : Past) (t : Held w.connection.settings 
       of Open e = refl
       of (Closed x) e =
           cause_tells
-          (refused-last us w.connection.settings.receive (λ i. flatten (t.messages i))
+          (refused_last us w.connection.settings.receive (λ i. flatten (t.messages i))
           (receive_some g) xs (bytes_in past)
           (given w.connection w.receive) w.connection.receiving.starts (length w.receive) x t.tied
           (kept_given w.connection w.receive g.ranged) g.receive o e).2
@@ -159,4 +159,4 @@ module _ (w : World) (g : Good w) (past : Past) (t : Held w.connection.settings 
 
 pub closes_first : {s : Settings} {receive send : List ℕ} → Opened s receive send → Closes s [] (first s receive send)
 unfolding first_fault
-closes_first o = rw (opens-fresh o)
+closes_first o = rw (opens_fresh o)

@@ -23,8 +23,8 @@ use Rattle.promises.specs.History.{dropped, Spells, Spelled, no_act, a_put, a_dr
 -- ---- one item
 
 -- what reads as a message is one item
-pub message-item : (p : Protocol) (bs : List ℕ) (m : Message) → message_of p bs ≡ read m → Item nesting bs
-message-item p bs m e = let (kind, xs, k, q) = (reads_forms p bs m).0 e in message_is_item p bs kind xs k
+pub message_item : (p : Protocol) (bs : List ℕ) (m : Message) → message_of p bs ≡ read m → Item nesting bs
+message_item p bs m e = let (kind, xs, k, q) = (reads_forms p bs m).0 e in message_is_item p bs kind xs k
 
 -- ---- as the answers spelled them
 
@@ -39,10 +39,10 @@ pub spelled_put : (p : Protocol) (xs : List ℕ) (mine : Bool) → Spelled p (co
 spelled_put p xs true = a_put no_act
 spelled_put p xs false = no_act
 
-pub spelled-drop : (p : Protocol) (n : ℕ) (m : Message) (bs : List ℕ) (mine : Bool) → (mine ≡ true → Spells p n m bs)
+pub spelled_drop : (p : Protocol) (n : ℕ) (m : Message) (bs : List ℕ) (mine : Bool) → (mine ≡ true → Spells p n m bs)
     → Spelled p (cond mine (got n m ∷ []) []) (cond mine (bs ∷ []) [])
-spelled-drop p n m bs true h = a_drop (h refl) no_act
-spelled-drop p n m bs false h = no_act
+spelled_drop p n m bs true h = a_drop (h refl) no_act
+spelled_drop p n m bs false h = no_act
 
 -- as many bytes are dropped as the messages have
 pub spelled_long : {p : Protocol} {done : List Act} {ms : List (List ℕ)} → Spelled p done ms → dropped done ≡ length (flatten ms)

@@ -44,15 +44,15 @@ all_append P (x ∷ xs) ys (h, m) n = (h, all_append P xs ys m n)
 
 -- what an act adds to what is gathered by f: what it has; nothing, if f sees nothing in it
 module _ {B : Type 0} (f : Act → List B) where
-  pub act-adds : (mine : Bool) (a : Act) → flat_map f (cond mine (a ∷ []) []) ≡ cond mine (f a) []
+  pub act_adds : (mine : Bool) (a : Act) → flat_map f (cond mine (a ∷ []) []) ≡ cond mine (f a) []
   unfolding flat_map
-  act-adds true a = append-nil (f a)
-  act-adds false a = refl
+  act_adds true a = append-nil (f a)
+  act_adds false a = refl
 
-  pub act-unseen : (mine : Bool) (a : Act) → f a ≡ [] → flat_map f (cond mine (a ∷ []) []) ≡ []
+  pub act_unseen : (mine : Bool) (a : Act) → f a ≡ [] → flat_map f (cond mine (a ∷ []) []) ≡ []
   unfolding flat_map
-  act-unseen true a e = rw e
-  act-unseen false a e = refl
+  act_unseen true a e = rw e
+  act_unseen false a e = refl
 
 -- the bytes at the front of a buffer
 pub front : (buf xs : List ℕ) (n : ℕ) → length xs ≡ n → n ≤ length buf → take n (sets buf 0 xs) ≡ xs
@@ -65,22 +65,22 @@ unfolding sent_by
 sent_append us i ss ts = flat_append (λ (bs : List ℕ). cond (is_of us i bs) (payload bs) []) ss ts
 
 module _ (past : Past) (e : Effect) where
-  pub segments-next : segments (past ++ (e ∷ [])) ≡ segments past ++ segment_of e
+  pub segments_next : segments (past ++ (e ∷ [])) ≡ segments past ++ segment_of e
   unfolding segments
-  segments-next = flat_next segment_of past e
+  segments_next = flat_next segment_of past e
 
   pub bytes_next : bytes_in (past ++ (e ∷ [])) ≡ bytes_in past ++ used_by e
   unfolding bytes_in
   bytes_next = flat_next used_by past e
 
   module _ (i : ℕ) where
-    pub sent-next : (us : Party) → sent_for us i (past ++ (e ∷ [])) ≡ sent_for us i past ++ sent_by us i (segment_of e)
-    sent-next us = rw (segments-next, sent_append us i (segments past) (segment_of e))
+    pub sent_next : (us : Party) → sent_for us i (past ++ (e ∷ [])) ≡ sent_for us i past ++ sent_by us i (segment_of e)
+    sent_next us = rw (segments_next, sent_append us i (segments past) (segment_of e))
 
-    pub acts-next : acts i (past ++ (e ∷ [])) ≡ acts i past ++ acts_by i e
+    pub acts_next : acts i (past ++ (e ∷ [])) ≡ acts i past ++ acts_by i e
     unfolding acts
-    acts-next = flat_next (acts_by i) past e
+    acts_next = flat_next (acts_by i) past e
 
     pub put_next : put_for i (past ++ (e ∷ [])) ≡ put_for i past ++ flat_map put_by (acts_by i e)
     unfolding put_for
-    put_next = rw (acts-next, flat_append put_by (acts i past) (acts_by i e))
+    put_next = rw (acts_next, flat_append put_by (acts i past) (acts_by i e))

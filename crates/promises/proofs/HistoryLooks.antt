@@ -21,7 +21,7 @@ use Rattle.connection.specs.Parts.{first_held}
 use Rattle.judging.specs.declared.Judged.{Judged}
 use Rattle.judging.specs.Judging.{outcome_number, led}
 use Rattle.hearing.specs.Besides.Numbers.{Found, Tells, refusal, message}
-use Rattle.hearing.proofs.NumberLaws.{tells, unshown-number}
+use Rattle.hearing.proofs.NumberLaws.{tells, unshown_number}
 use Rattle.looking.specs.declared.Place.{Place}
 use Rattle.looking.specs.declared.Place.TheVariants.{Store, Scratch, Nowhere}
 use Rattle.looking.specs.Looking.{place_of, message_place, shown_in, by_judged, look_of}
@@ -30,8 +30,8 @@ use Rattle.looking.proofs.PartLaws.{straight}
 use Rattle.promises.specs.Calls.{look, said_by, looked, World, world, step}
 use Rattle.promises.specs.Reached.{Reached}
 use Rattle.promises.specs.History.{Spells, cut_of, Sees, SeesNothing, Looks}
-use Rattle.promises.proofs.Effects.{found_first, found-reads}
-use Rattle.promises.proofs.HistoryItems.{message-item}
+use Rattle.promises.proofs.Effects.{found_first, found_reads}
+use Rattle.promises.proofs.HistoryItems.{message_item}
 
 -- ---- parts
 
@@ -89,8 +89,8 @@ module _ (w : World) (i : ℕ) (scratch : List ℕ) where
 
     says : Spells p n m xs
     says =
-        let reads = found-reads c w.receive i f in
-        record { long = stream_length _ _ _ _ n; item = message-item p xs m reads; reads = reads }
+        let reads = found_reads c w.receive i f in
+        record { long = stream_length _ _ _ _ n; item = message_item p xs m reads; reads = reads }
 
     -- at its place
     told_at : {q : Place} → At c w.receive i scratch n q → Told (shown_in c w.receive i scratch (led n m next) q)
@@ -113,7 +113,7 @@ module _ (w : World) (i : ℕ) (scratch : List ℕ) where
 
   told : {j : Judged} → Tells c w.receive i j → Told (by_judged c w.receive i scratch j)
   told (refusal {o = o} u) =
-      let low = unshown-number u in
+      let low = unshown_number u in
       rw (ne_eqb (outcome_number o) 0 (λ z. omega arith)) (λ same. ((λ z. absurd (omega arith)), λ ne. (refl, refl)))
   told (message f) = told_at f (placed c w.receive i scratch f)
 

@@ -33,11 +33,11 @@ use Rattle.promises.specs.Calls.{World, Opened, first}
 use Rattle.promises.specs.Effects.{gave, Effect, came, acted, sent, faulted, nothing, Past, used_by, bytes_in, acts_by, acts}
 use Rattle.promises.specs.History.{dropped_for, received_in, Spells, Spelled, no_act, Receives}
 use Rattle.promises.proofs.Effects.{Good, receive_some, Leaves, still, shut, feeds, faults, drops, queues, serves}
-use Rattle.promises.proofs.Reached.{opens-fresh}
-use Rattle.promises.proofs.HistoryLaws.{flatten_append, flatten_one, bytes_next, acts-next}
-use Rattle.promises.proofs.HistoryItems.{message-item, spelled_append, spelled_put, spelled-drop, spelled_long, messages}
-use Rattle.promises.proofs.HistoryLayout.{none-for}
-use Rattle.promises.proofs.HistoryBytes.{held_in, Reading, in_head, in_pay, Tied, tied-fed}
+use Rattle.promises.proofs.Reached.{opens_fresh}
+use Rattle.promises.proofs.HistoryLaws.{flatten_append, flatten_one, bytes_next, acts_next}
+use Rattle.promises.proofs.HistoryItems.{message_item, spelled_append, spelled_put, spelled_drop, spelled_long, messages}
+use Rattle.promises.proofs.HistoryLayout.{none_for}
+use Rattle.promises.proofs.HistoryBytes.{held_in, Reading, in_head, in_pay, Tied, tied_fed}
 
 -- the messages dropped of each instance, the tie of the bytes, and where each instance's first held byte is
 pub record Held (s : Settings) (past : Past) (w : World) : Type 0 where
@@ -84,7 +84,7 @@ module _ (w : World) (g : Good w) (past : Past) (t : Held w.connection.settings 
   spelled_same : (e : Effect) → ((i : ℕ) → Spelled (speaks s.party.bundle i) (acts_by i e) []) → (i : ℕ)
       → Spelled (speaks s.party.bundle i) (acts i (past ++ (e ∷ []))) (t.messages i)
   spelled_same e none i =
-      rw (acts-next past e i)
+      rw (acts_next past e i)
       (subst (Spelled (speaks s.party.bundle i) (acts i past ++ acts_by i e)) (append-nil (t.messages i)) (spelled_append (t.spelled i) (none i)))
 
   -- and one that changes nothing of receiving
@@ -109,7 +109,7 @@ module _ (w : World) (g : Good w) (past : Past) (t : Held w.connection.settings 
       let st : Reception = given c w.receive in
       let n : ℕ = used s.party s.receive st xs in
       let q : Tied s.party s.receive before (bytes_in past ++ take n xs) (fed s.party s.receive st xs) =
-      tied-fed s.party s.receive before (receive_some g) xs (bytes_in past) st c.receiving.starts (length w.receive) t.tied
+      tied_fed s.party s.receive before (receive_some g) xs (bytes_in past) st c.receiving.starts (length w.receive) t.tied
       (kept_given c w.receive g.ranged) g.receive in
       let k = kept_fed s.party s.receive c.receiving.starts (length w.receive) st xs (kept_given c w.receive g.ranged) in
       record {
@@ -122,7 +122,7 @@ module _ (w : World) (g : Good w) (past : Past) (t : Held w.connection.settings 
   held_by {e = e} {w' = w'} (drops j n to m q fits reads) =
       let xs : List ℕ = first_held c w.receive j n in
       let says : Spells (speaks s.party.bundle j) n m xs =
-      record { long = stream_length _ _ _ _ n; item = message-item _ xs m reads; reads = reads } in
+      record { long = stream_length _ _ _ _ n; item = message_item _ xs m reads; reads = reads } in
       let ms : ℕ → List (List ℕ) = λ i. t.messages i ++ cond (eqb j i) (xs ∷ []) [] in
       let now : (i : ℕ) → flatten (ms i) ≡ flatten (t.messages i) ++ cond (eqb j i) xs [] =
       λ i. flatten_append (t.messages i) _ ∙ ap (λ (r : List ℕ). flatten (t.messages i) ++ r) (flatten_one (eqb j i) xs) in
@@ -132,9 +132,9 @@ module _ (w : World) (g : Good w) (past : Past) (t : Held w.connection.settings 
       record {
         messages = ms;
         spelled = λ i.
-            rw (acts-next past e i)
+            rw (acts_next past e i)
             (spelled_append (t.spelled i)
-            (spelled-drop _ n m xs (eqb j i) (λ y. subst (λ (k : ℕ). Spells (speaks s.party.bundle k) n m xs) (eqb-true j i y) says)));
+            (spelled_drop _ n m xs (eqb j i) (λ y. subst (λ (k : ℕ). Spells (speaks s.party.bundle k) n m xs) (eqb-true j i y) says)));
         tied =
             tied_to (given w'.connection w.receive) t.tied (bytes_next past e ∙ append-nil (bytes_in past))
             (λ i l.
@@ -151,7 +151,7 @@ module _ (w : World) (g : Good w) (past : Past) (t : Held w.connection.settings 
 pub held_first : {s : Settings} {receive send : List ℕ} → Opened s receive send → Held s [] (first s receive send)
 unfolding bytes_in acts flat_map flatten received_in stream
 held_first {s} {receive} {send} o =
-    rw (opens-fresh o)
+    rw (opens_fresh o)
     (record {
       messages = λ i. [];
       spelled = λ i. no_act;
@@ -160,7 +160,7 @@ held_first {s} {receive} {send} o =
             carried = [];
             left = [];
             divided = in_header {bs = []} (omega arith);
-            received = λ i l. rw (get_or-replicate {A = ℕ} most i 0 0 (omega (arith, at_most s.party.bundle))) (none-for s.party i (decoded []));
+            received = λ i l. rw (get_or-replicate {A = ℕ} most i 0 0 (omega (arith, at_most s.party.bundle))) (none_for s.party i (decoded []));
             reading = λ q. in_head refl (omega arith) refl;
             many = refl;
           };

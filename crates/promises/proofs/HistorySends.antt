@@ -28,8 +28,8 @@ use Rattle.promises.specs.History.{put_by, put_for, sent_for, Sends, Segmented, 
 use Rattle.promises.proofs.FairSent.{of_same, of_other}
 use Rattle.promises.proofs.SegmentMade.{Made}
 use Rattle.promises.proofs.Effects.{Good, good, send_some, Leaves, still, shut, feeds, faults, drops, queues, serves, done}
-use Rattle.promises.proofs.Reached.{opens-fresh}
-use Rattle.promises.proofs.HistoryLaws.{act-adds, act-unseen, put_next, sent-next}
+use Rattle.promises.proofs.Reached.{opens_fresh}
+use Rattle.promises.proofs.HistoryLaws.{act_adds, act_unseen, put_next, sent_next}
 
 -- ---- whose segment it is
 
@@ -62,27 +62,27 @@ module _ (w : World) (g : Good w) (past : Past) (t : Waits w.connection.settings
   s = w.connection.settings
 
   -- an effect that changes nothing of sending, and puts and sends nothing
-  waits-same : (e : Effect) {w' : World} → segment_of e ≡ [] → ((i : ℕ) → flat_map put_by (acts_by i e) ≡ []) → w'.connection.sending ≡ c.sending
+  waits_same : (e : Effect) {w' : World} → segment_of e ≡ [] → ((i : ℕ) → flat_map put_by (acts_by i e) ≡ []) → w'.connection.sending ≡ c.sending
       → w'.connection.settings ≡ c.settings → w'.send ≡ w.send → Waits s (past ++ (e ∷ [])) w'
   unfolding sent_by flat_map
-  waits-same e none unput f k h =
+  waits_same e none unput f k h =
       let puts-same : (i : ℕ) → put_for i (past ++ (e ∷ [])) ≡ put_for i past = λ i. put_next past e i ∙ rw (unput i, append-nil) in
       let sent-same : (i : ℕ) → sent_for s.party i (past ++ (e ∷ [])) ≡ sent_for s.party i past =
-      λ i. sent-next past e i s.party ∙ rw (none, append-nil) in
+      λ i. sent_next past e i s.party ∙ rw (none, append-nil) in
       record { put = λ i l. rw (puts-same i, sent-same i, f, k, h) (t.put i l); starts = λ i l. rw (sent-same i, f) (t.starts i l) }
 
-  pub waits-by : {real : Type 0} {e : Effect} {w' : World} → real → Leaves w real e w' → Waits s (past ++ (e ∷ [])) w'
+  pub waits_by : {real : Type 0} {e : Effect} {w' : World} → real → Leaves w real e w' → Waits s (past ++ (e ∷ [])) w'
   unfolding sent_by flat_map
-  waits-by real still = waits-same nothing refl (λ i. refl) refl refl refl
-  waits-by real (shut o) = waits-same (came 20 []) refl (λ i. refl) refl refl refl
-  waits-by {e = e} real (feeds xs o spelt) = waits-same e refl (λ i. refl) refl refl refl
-  waits-by real (faults n j) = waits-same (faulted n j) refl (λ i. refl) refl refl refl
-  waits-by real (drops j n to m q fits reads) = waits-same (acted j (got n m)) refl (λ i. act-unseen put_by (eqb j i) (got n m) refl) refl refl refl
-  waits-by {e = e} real (queues j to m xs q o free short room) =
+  waits_by real still = waits_same nothing refl (λ i. refl) refl refl refl
+  waits_by real (shut o) = waits_same (came 20 []) refl (λ i. refl) refl refl refl
+  waits_by {e = e} real (feeds xs o spelt) = waits_same e refl (λ i. refl) refl refl refl
+  waits_by real (faults n j) = waits_same (faulted n j) refl (λ i. refl) refl refl refl
+  waits_by real (drops j n to m q fits reads) = waits_same (acted j (got n m)) refl (λ i. act_unseen put_by (eqb j i) (got n m) refl) refl refl refl
+  waits_by {e = e} real (queues j to m xs q o free short room) =
       let now : (i : ℕ) → put_for i (past ++ (e ∷ [])) ≡ put_for i past ++ cond (eqb j i) xs [] =
-      λ i. put_next past e i ∙ rw (act-adds put_by (eqb j i) (gave xs)) in
+      λ i. put_next past e i ∙ rw (act_adds put_by (eqb j i) (gave xs)) in
       let sent-same : (i : ℕ) → sent_for s.party i (past ++ (e ∷ [])) ≡ sent_for s.party i past =
-      λ i. sent-next past e i s.party ∙ append-nil (sent_for s.party i past) in
+      λ i. sent_next past e i s.party ∙ append-nil (sent_for s.party i past) in
       record {
         put = λ i l.
             rw (now i, sent-same i, t.put i l, append_assoc)
@@ -92,30 +92,30 @@ module _ (w : World) (g : Good w) (past : Past) (t : Waits w.connection.settings
             (omega (arith, q.within, g.shaped.waiting, at_most s.party.bundle)) room i l)));
         starts = λ i l. rw (sent-same i) (t.starts i l);
       }
-  waits-by {e = e} real (serves j time bs o who q) =
+  waits_by {e = e} real (serves j time bs o who q) =
       let n : ℕ = sending.much c j in
       let xs : List ℕ = sending.payload_of c w.send j in
       let m : Made w time j bs = q real in
-      let sent-now : (i : ℕ) → i < instances s.party.bundle → sent_for s.party i (past ++ (e ∷ [])) ≡ sent_for s.party i past ++ cond (eqb j i) xs [] =
-      λ i k. sent-next past e i s.party ∙ ap (λ (r : List ℕ). sent_for s.party i past ++ r) (payload_is w time j bs m i k) in
+      let sent_now : (i : ℕ) → i < instances s.party.bundle → sent_for s.party i (past ++ (e ∷ [])) ≡ sent_for s.party i past ++ cond (eqb j i) xs [] =
+      λ i k. sent_next past e i s.party ∙ ap (λ (r : List ℕ). sent_for s.party i past ++ r) (payload_is w time j bs m i k) in
       let puts-same : (i : ℕ) → put_for i (past ++ (e ∷ [])) ≡ put_for i past = λ i. put_next past e i ∙ append-nil (put_for i past) in
       let waiting = c.sending.waiting in
       let start = c.sending.starts in
       let in-starts : j < length start = omega (arith, m.within, g.shaped.send_starts, at_most s.party.bundle) in
       record {
         put = λ i k.
-            rw (puts-same i, sent-now i k, t.put i k, append_assoc)
+            rw (puts-same i, sent_now i k, t.put i k, append_assoc)
             (ap (λ (r : List ℕ). sent_for s.party i past ++ r)
             (queue_freed w.send s.send start waiting j n in-starts (omega (arith, m.within, g.shaped.waiting, at_most s.party.bundle)) (omega arith) i));
         starts = λ i k.
-            rw (sent-now i k)
+            rw (sent_now i k)
             (starts_freed w.send s.send start waiting j n in-starts (sent_for s.party i past) xs (stream_length _ _ _ _ n) i (t.starts i k));
       }
 
 pub waits_first : {s : Settings} {receive send : List ℕ} → Opened s receive send → Waits s [] (first s receive send)
 unfolding put_for acts segments sent_by flat_map stream
 waits_first {s} {receive} {send} o =
-    rw (opens-fresh o)
+    rw (opens_fresh o)
     (record {
       put = λ i l. rw (get_or-replicate {A = ℕ} most i 0 0 (omega (arith, at_most s.party.bundle)));
       starts = λ i l. rw (get_or-replicate {A = ℕ} most i 0 0 (omega (arith, at_most s.party.bundle))) (sym (zero-mod _));

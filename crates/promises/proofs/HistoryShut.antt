@@ -21,22 +21,22 @@ use Rattle.promises.specs.Calls.{feed, put, next, made, World, step, run, first}
 use Rattle.promises.specs.Effects.{Act, got, Effect, acted, Past, did, used_by, bytes_in, acts_by, acts, segment_of, segments}
 use Rattle.promises.specs.History.{put_by, put_for, Shut, Nothing, AfterFault}
 use Rattle.promises.proofs.Effects.{Good, good, reached_receives, reached_sends, Leaves, still, shut, feeds, faults, drops, queues, serves, done}
-use Rattle.promises.proofs.HistoryLaws.{act-unseen, bytes_next, put_next, segments-next}
+use Rattle.promises.proofs.HistoryLaws.{act_unseen, bytes_next, put_next, segments_next}
 use Rattle.promises.proofs.Reached.{Sound, sound_first, sound_run}
 use Rattle.promises.proofs.HistoryRuns.{on}
 
 module _ (w : World) (g : Good w) (closed : is_open w.connection.gate ≡ false) where
-  shut-feeds : (xs : List ℕ) → step w (feed xs) ≡ record { world = w; answer = (20, 0) }
+  shut_feeds : (xs : List ℕ) → step w (feed xs) ≡ record { world = w; answer = (20, 0) }
   unfolding step feeding.feed_of
-  shut-feeds xs = rw (reached_receives g, closed)
+  shut_feeds xs = rw (reached_receives g, closed)
 
-  shut-puts : (i : ℕ) (xs : List ℕ) → step w (put i xs) ≡ record { world = w; answer = (cond (ltb i (instances w.connection.settings.party.bundle)) 20 10, tt) }
+  shut_puts : (i : ℕ) (xs : List ℕ) → step w (put i xs) ≡ record { world = w; answer = (cond (ltb i (instances w.connection.settings.party.bundle)) 20 10, tt) }
   unfolding step putting.put_of said
-  shut-puts i xs = rw (reached_sends g) (by_test (ltb i (instances w.connection.settings.party.bundle)) (λ t. rw (t, closed)) (λ t. rw t))
+  shut_puts i xs = rw (reached_sends g) (by_test (ltb i (instances w.connection.settings.party.bundle)) (λ t. rw (t, closed)) (λ t. rw t))
 
-  shut-makes : (time : ℕ) (buf : List ℕ) → step w (next time buf) ≡ record { world = w; answer = (20, made 0 buf) }
+  shut_makes : (time : ℕ) (buf : List ℕ) → step w (next time buf) ≡ record { world = w; answer = (20, made 0 buf) }
   unfolding step sending.next_of
-  shut-makes time buf = rw (reached_sends g, closed)
+  shut_makes time buf = rw (reached_sends g, closed)
 
   -- what an effect on it does, and the world that it leaves
   record Idle (e : Effect) (w' : World) : Type 0 where
@@ -71,7 +71,7 @@ module _ (w : World) (g : Good w) (closed : is_open w.connection.gate ≡ false)
   idle (drops i n to m q fits reads) =
       record {
         comes = refl;
-        put = λ j. act-unseen put_by (eqb i j) (got n m) refl;
+        put = λ j. act_unseen put_by (eqb i j) (got n m) refl;
         sent = refl;
         leaves = (refl, refl, refl, refl);
         refuses = λ ne. absurd (ne i (got n m) refl);
@@ -79,12 +79,12 @@ module _ (w : World) (g : Good w) (closed : is_open w.connection.gate ≡ false)
   idle (queues i to m xs q o free short room) = never o
   idle (serves i time bs o who q) = never o
 
-  shut-all : Shut w
-  shut-all =
+  shut_all : Shut w
+  shut_all =
       record {
-        feeds = shut-feeds;
-        puts = shut-puts;
-        makes = shut-makes;
+        feeds = shut_feeds;
+        puts = shut_puts;
+        makes = shut_makes;
         leaves = λ c. (idle (done w g c).leaves).leaves;
         refuses = λ c. (idle (done w g c).leaves).refuses;
       }
@@ -106,7 +106,7 @@ since_next x past w g real e w' r l t =
           record {
             comes = rw (bytes_next past e, t.nothing.comes) n.comes;
             put = λ i. rw (put_next past e i, t.nothing.put i) (n.put i);
-            sent = rw (segments-next past e, t.nothing.sent) n.sent;
+            sent = rw (segments_next past e, t.nothing.sent) n.sent;
           };
     }
 
@@ -120,4 +120,4 @@ after_fault s receive send opened cs ds r q x e =
     let w : World = run (first s receive send) cs in
     let k : Sound s w = sound_run s (first s receive send) cs r (sound_first s receive send opened) in
     let t : Since x (did w ds) (run w ds) = on (λ s. Since x) (since_next x) s ds [] w q k (record { same = e; nothing = nothing_yet }) in
-    (shut-all w (good k.reached) (closed_so w.connection.gate x e), t.nothing, t.same)
+    (shut_all w (good k.reached) (closed_so w.connection.gate x e), t.nothing, t.same)

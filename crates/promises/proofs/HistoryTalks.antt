@@ -27,8 +27,8 @@ use Rattle.promises.specs.Calls.{World, Opened, first}
 use Rattle.promises.specs.Effects.{Act, gave, got, read_in, Effect, came, sent, faulted, nothing, acted, Past, acts_by, acts}
 use Rattle.promises.specs.History.{Moves, Walks, rests, moves, ends_in_accept, Talks}
 use Rattle.promises.proofs.Effects.{Good, Steps, Leaves, still, shut, feeds, faults, drops, queues, serves}
-use Rattle.promises.proofs.Reached.{opens-fresh}
-use Rattle.promises.proofs.HistoryLaws.{acts-next}
+use Rattle.promises.proofs.Reached.{opens_fresh}
+use Rattle.promises.proofs.HistoryLaws.{acts_next}
 
 -- ---- T11 (c)
 
@@ -48,17 +48,17 @@ module _ (w : World) (k : Good w) (past : Past) (t : Talks w.connection.settings
   given = w.connection.settings
 
   -- the states of all after an act of j
-  walks-on : (j to : ℕ) (a : Act) → j < instances given.party.bundle → Moves given.party j (get_or w.connection.talk.states j 0) a to → (i : ℕ) → i < instances given.party.bundle
+  walks_on : (j to : ℕ) (a : Act) → j < instances given.party.bundle → Moves given.party j (get_or w.connection.talk.states j 0) a to → (i : ℕ) → i < instances given.party.bundle
       → Walks given.party i 0 (acts i past ++ cond (eqb j i) (a ∷ []) []) (get_or (lists.set w.connection.talk.states j to) i 0)
-  walks-on j to a h m i =
+  walks_on j to a h m i =
       at_set (λ n state. n < instances given.party.bundle → Walks given.party n 0 (acts n past ++ cond (eqb j n) (a ∷ []) []) state) w.connection.talk.states j to
       (omega (arith, k.shaped.states, at_most given.party.bundle)) (λ l. rw (eq-eqb j j refl) (walk-next (t.states j h) m))
       (λ n ne l. rw (ne_eqb j n (λ e. ne (sym e)), append-nil) (t.states n l)) i
 
   -- and whether Accept is marked: no state with a row is Handshake's last
-  marks-on : (j to : ℕ) (a : Act) (m : Moves given.party j (get_or w.connection.talk.states j 0) a to)
+  marks_on : (j to : ℕ) (a : Act) (m : Moves given.party j (get_or w.connection.talk.states j 0) a to)
       → (w.connection.talk.accepted || (eqb j 0 && eqb m.message.kind 1)) ≡ ends_in_accept (acts 0 past ++ cond (eqb j 0) (a ∷ []) [])
-  marks-on j to a m =
+  marks_on j to a m =
       by_test (eqb j 0)
       (λ q.
       let e : j ≡ 0 = eqb-true j 0 q in
@@ -77,34 +77,34 @@ module _ (w : World) (k : Good w) (past : Past) (t : Talks w.connection.settings
   quiet : (e : Effect) {w' : World} → w'.connection.talk ≡ w.connection.talk → ((i : ℕ) → acts_by i e ≡ []) → Talks given (past ++ (e ∷ [])) w'
   quiet e {w'} f n =
       record {
-        states = λ i l. rw (acts-next past e i, n i, append-nil, f) (t.states i l);
-        accepted = rw (acts-next past e 0, n 0, append-nil, f) t.accepted;
+        states = λ i l. rw (acts_next past e i, n i, append-nil, f) (t.states i l);
+        accepted = rw (acts_next past e 0, n 0, append-nil, f) t.accepted;
       }
 
   -- and an act
-  acts-on : {w' : World} (j to : ℕ) (a : Act) (m : Message) → Steps w j a m to → w'.connection.talk ≡ moved_by w.connection.talk j m.kind to
+  acts_on : {w' : World} (j to : ℕ) (a : Act) (m : Message) → Steps w j a m to → w'.connection.talk ≡ moved_by w.connection.talk j m.kind to
       → Talks given (past ++ (acted j a ∷ [])) w'
-  acts-on {w'} j to a m q f =
+  acts_on {w'} j to a m q f =
       let k : Moves given.party j (get_or w.connection.talk.states j 0) a to =
       record { message = m; reads = q.reads; agency = q.agency; row = q.row } in
       record {
-        states = λ i l. rw (acts-next past (acted j a) i, f) (walks-on j to a q.within k i l);
-        accepted = rw (acts-next past (acted j a) 0, f) (marks-on j to a k);
+        states = λ i l. rw (acts_next past (acted j a) i, f) (walks_on j to a q.within k i l);
+        accepted = rw (acts_next past (acted j a) 0, f) (marks_on j to a k);
       }
 
-  pub talks-by : {real : Type 0} {e : Effect} {w' : World} → Leaves w real e w' → Talks given (past ++ (e ∷ [])) w'
-  talks-by still = quiet nothing refl (λ i. refl)
-  talks-by (shut o) = quiet (came 20 []) refl (λ i. refl)
-  talks-by {e = e} (feeds xs o spelt) = quiet e refl (λ i. refl)
-  talks-by (faults n j) = quiet (faulted n j) refl (λ i. refl)
-  talks-by (drops j n to m q fits reads) = acts-on j to (got n m) m q refl
-  talks-by (queues j to m xs q o free short room) = acts-on j to (gave xs) m q refl
-  talks-by (serves j time bs o who q) = quiet (sent time bs) refl (λ i. refl)
+  pub talks_by : {real : Type 0} {e : Effect} {w' : World} → Leaves w real e w' → Talks given (past ++ (e ∷ [])) w'
+  talks_by still = quiet nothing refl (λ i. refl)
+  talks_by (shut o) = quiet (came 20 []) refl (λ i. refl)
+  talks_by {e = e} (feeds xs o spelt) = quiet e refl (λ i. refl)
+  talks_by (faults n j) = quiet (faulted n j) refl (λ i. refl)
+  talks_by (drops j n to m q fits reads) = acts_on j to (got n m) m q refl
+  talks_by (queues j to m xs q o free short room) = acts_on j to (gave xs) m q refl
+  talks_by (serves j time bs o who q) = quiet (sent time bs) refl (λ i. refl)
 
 pub talks_first : {s : Settings} {receive send : List ℕ} → Opened s receive send → Talks s [] (first s receive send)
 unfolding acts ends_in_accept flat_map
 talks_first {s} {receive} {send} o =
     record {
-      states = λ i l. rw (opens-fresh o, get_or-replicate {A = ℕ} most i 0 0 (omega (arith, at_most s.party.bundle))) rests;
-      accepted = rw (opens-fresh o);
+      states = λ i l. rw (opens_fresh o, get_or-replicate {A = ℕ} most i 0 0 (omega (arith, at_most s.party.bundle))) rests;
+      accepted = rw (opens_fresh o);
     }

@@ -30,9 +30,9 @@ use Rattle.sending.proofs.NumberLaws.{chosen_waiting}
 use Rattle.promises.specs.Calls.{Call, World, step, run, Real, AllReal, Opened, first}
 use Rattle.promises.specs.Effects.{Effect}
 use Rattle.promises.specs.Reached.{waits, Reached, InRangeForEver, Never23}
-use Rattle.promises.proofs.ReachedHandshake.{Row, shakes, spare, spare_put, spare-moved, spare_first}
-use Rattle.promises.proofs.ReachedFeed.{Blank, blank-empty}
-use Rattle.promises.proofs.Effects.{good, row_of, Leaves, still, shut, feeds, faults, drops, queues, serves, Fits, fed-tidy, done}
+use Rattle.promises.proofs.ReachedHandshake.{Row, shakes, spare, spare_put, spare_moved, spare_first}
+use Rattle.promises.proofs.ReachedFeed.{Blank, blank_empty}
+use Rattle.promises.proofs.Effects.{good, row_of, Leaves, still, shut, feeds, faults, drops, queues, serves, Fits, fed_tidy, done}
 
 -- ---- what every call keeps
 
@@ -62,17 +62,17 @@ module _ (s : Settings) (w : World) (k : Sound s w) where
       → spare s.party.side (get_or (set c.talk.states i after) 0 0) s.limit ≤ to_put s w
   moved zero after row =
       rw (get_or-set_same c.talk.states 0 after 0 (omega (arith, r.shaped.states)))
-      (spare-moved s.party.side s.limit (shakes (get_or c.talk.states 0 0) after (rw (first_speaks c.settings.party.bundle) at row)))
+      (spare_moved s.party.side s.limit (shakes (get_or c.talk.states 0 0) after (rw (first_speaks c.settings.party.bundle) at row)))
   moved (suc i) after row = rw (get_or-set_other c.talk.states (suc i) 0 after 0 (λ e. omega arith)) (omega arith)
 
   abbrev more : ℕ → ℕ → List ℕ
   more i n = set c.sending.waiting i (get_or c.sending.waiting i 0 + n)
 
   -- our message of Handshake, of at most S bytes, is the only one
-  pub put-bound : (i after n : ℕ) → ours c.settings.party i (get_or c.talk.states i 0) ≡ true → Row (speaks c.settings.party.bundle i) (get_or c.talk.states i 0) after
+  pub put_bound : (i after n : ℕ) → ours c.settings.party i (get_or c.talk.states i 0) ≡ true → Row (speaks c.settings.party.bundle i) (get_or c.talk.states i 0) after
       → (i ≡ 0 → n ≤ c.settings.limit)
       → get_or (more i n) 0 0 + spare s.party.side (get_or (set c.talk.states i after) 0 0) s.limit ≤ handshake s w
-  put-bound zero after n mine row short =
+  put_bound zero after n mine row short =
       let state = get_or c.talk.states 0 0 in
       let k = shakes state after (rw (first_speaks c.settings.party.bundle) at row) in
       let q = rw r.settings at (spare_put c.settings.party s.limit (ranged c r.ranged).set.bundle k mine) in
@@ -81,7 +81,7 @@ module _ (s : Settings) (w : World) (k : Sound s w) where
         get_or-set_same c.talk.states 0 after 0 (omega (arith, r.shaped.states)),
       )
       (omega (arith, q.0, q.1, short refl, ap (λ (x : Settings). x.limit) r.settings))
-  put-bound (suc i) after n mine row short =
+  put_bound (suc i) after n mine row short =
       rw (
         get_or-set_other c.sending.waiting (suc i) 0 (waits w (suc i) + n) 0 (λ e. omega arith),
         get_or-set_other c.talk.states (suc i) 0 after 0 (λ e. omega arith),
@@ -89,8 +89,8 @@ module _ (s : Settings) (w : World) (k : Sound s w) where
       (omega arith)
 
   -- whoever puts is not barred
-  put-accepted : (i n : ℕ) → (not (eqb i 0) && not c.talk.accepted) ≡ false → (j : ℕ) → 0 < j → 0 < get_or (more i n) j 0 → c.talk.accepted ≡ true
-  put-accepted i n free j some waiting =
+  put_accepted : (i n : ℕ) → (not (eqb i 0) && not c.talk.accepted) ≡ false → (j : ℕ) → 0 < j → 0 < get_or (more i n) j 0 → c.talk.accepted ≡ true
+  put_accepted i n free j some waiting =
       by_test (eqb j i)
       (λ t.
       let e : j ≡ i = eqb-true j i t in
@@ -128,27 +128,27 @@ module _ (s : Settings) (w : World) (k : Sound s w) where
         bound = omega (arith, bound, k.bound);
       }
 
-  sound-by : {real : Type 0} {e : Effect} {w' : World} → real → Fits w w' → Leaves w real e w' → Sound s w'
-  sound-by real fits still = k
-  sound-by real fits (shut o) = k
-  sound-by real fits (feeds xs o spelt) =
-      let t = fed-tidy w (good r) xs in kept fits refl (spelt real) t.blank t.idle (omega arith) r.accepted
-  sound-by real fits (faults n i) = kept fits refl r.spelt r.blank r.idle (omega arith) r.accepted
-  sound-by real fits (drops i n to m q held reads) =
+  sound_by : {real : Type 0} {e : Effect} {w' : World} → real → Fits w w' → Leaves w real e w' → Sound s w'
+  sound_by real fits still = k
+  sound_by real fits (shut o) = k
+  sound_by real fits (feeds xs o spelt) =
+      let t = fed_tidy w (good r) xs in kept fits refl (spelt real) t.blank t.idle (omega arith) r.accepted
+  sound_by real fits (faults n i) = kept fits refl r.spelt r.blank r.idle (omega arith) r.accepted
+  sound_by real fits (drops i n to m q held reads) =
       kept fits refl r.spelt r.blank r.idle (omega (arith, moved i to (row_of q))) (λ j some waiting. rw (r.accepted j some waiting))
-  sound-by real fits (queues i to m xs q o free short room) =
-      kept fits refl r.spelt r.blank r.idle (put-bound i to (length xs) q.agency (row_of q) short)
-      (λ j some waiting. rw (put-accepted i (length xs) free j some waiting))
-  sound-by real fits (serves i time bs o who q) =
+  sound_by real fits (queues i to m xs q o free short room) =
+      kept fits refl r.spelt r.blank r.idle (put_bound i to (length xs) q.agency (row_of q) short)
+      (λ j some waiting. rw (put_accepted i (length xs) free j some waiting))
+  sound_by real fits (serves i time bs o who q) =
       let less = fewer i (sending.much c i) (chosen_waiting c r.shaped i who).0 in
       kept fits refl r.spelt r.blank r.idle (omega (arith, less 0)) (λ j some waiting. r.accepted j some (omega (arith, less j)))
 
 -- ---- open
 
 -- what an open answered 0 leaves
-pub opens-fresh : {s : Settings} {receive send : List ℕ} → Opened s receive send → (first s receive send).connection ≡ fresh s 1
+pub opens_fresh : {s : Settings} {receive send : List ℕ} → Opened s receive send → (first s receive send).connection ≡ fresh s 1
 unfolding open_of
-opens-fresh {s} {receive} {send} o =
+opens_fresh {s} {receive} {send} o =
     cond_cases (λ (x : opening.Opened.Opened). x.number ≡ 0 → x.connection ≡ fresh s 1)
     (settings_ok s && (receive_store_ok s (length receive) && send_store_ok s (length send))) (λ t z. refl) (λ t z. absurd (omega arith)) o.done
 
@@ -163,7 +163,7 @@ sound_fresh s receive send o =
       reached =
           record {
             settings = refl;
-            ranged = subst (λ (c : Connection). in_range c ≡ true) (opens-fresh o) ((opening_laws.opening).opened s n m o.done);
+            ranged = subst (λ (c : Connection). in_range c ≡ true) (opens_fresh o) ((opening_laws.opening).opened s n m o.done);
             shaped =
                 record {
                   receive = o.receives;
@@ -178,7 +178,7 @@ sound_fresh s receive send o =
             receive = long;
             send = wide;
             spelt = spelt_empty;
-            blank = blank-empty;
+            blank = blank_empty;
             idle = λ z. refl;
             single = omega (arith, zero_at 0);
             accepted = λ i some waiting. absurd (omega (arith, zero_at i));
@@ -188,13 +188,13 @@ sound_fresh s receive send o =
 
 pub sound_first : (s : Settings) (receive send : List ℕ) → Opened s receive send → Sound s (first s receive send)
 sound_first s receive send o =
-    subst (λ (c : Connection). Sound s (record { connection = c; receive = receive; send = send })) (sym (opens-fresh o))
+    subst (λ (c : Connection). Sound s (record { connection = c; receive = receive; send = send })) (sym (opens_fresh o))
     (sound_fresh s receive send o)
 
 -- ---- the theorem
 
 pub sound_step : (s : Settings) (w : World) (c : Call) → Real c → Sound s w → Sound s (step w c).world
-sound_step s w c real k = let d = done w (good k.reached) c in sound-by s w k real (d.fits real) d.leaves
+sound_step s w c real k = let d = done w (good k.reached) c in sound_by s w k real (d.fits real) d.leaves
 
 pub sound_run : (s : Settings) (w : World) (cs : List Call) → AllReal cs → Sound s w → Sound s (run w cs)
 unfolding run AllReal

@@ -31,12 +31,12 @@ pub record Tidy (starts : List ℕ) (s : Reception) : Type 0 where
   pub blank : Blank s.receiving.header
   pub idle : s.receiving.rest ≡ 0 → s.receiving.instance ≡ 0
 
-pub blank-empty : Blank empty
-blank-empty k h = zeros header_length k
+pub blank_empty : Blank empty
+blank_empty k h = zeros header_length k
 
-blank-added : (h : Header) (b : ℕ) → Blank h → Blank (added h b)
+blank_added : (h : Header) (b : ℕ) → Blank h → Blank (added h b)
 unfolding added
-blank-added h b q =
+blank_added h b q =
     cond_cases Blank (ltb h.count header_length)
     (λ t k l. get_or-set_other h.bytes h.count k b 0 (λ e. omega arith) ∙ q k (omega arith)) (λ t. q)
 
@@ -45,21 +45,21 @@ idle_for : (n i : ℕ) → n ≡ 0 → cond (eqb n 0) 0 i ≡ 0
 idle_for n i z = rw (eq-eqb n 0 z)
 
 module _ (us : Party) (caps starts : List ℕ) where
-  tidy-settled : (s : Reception) (a : Admission) → Tidy starts s → Tidy starts (settled s a)
-  tidy-settled s (Fault x) t = record { places = t.places; many = t.many; blank = blank-empty; idle = t.idle }
-  tidy-settled s (Payload i n) t = record { places = t.places; many = t.many; blank = blank-empty; idle = idle_for n i }
+  tidy_settled : (s : Reception) (a : Admission) → Tidy starts s → Tidy starts (settled s a)
+  tidy_settled s (Fault x) t = record { places = t.places; many = t.many; blank = blank_empty; idle = t.idle }
+  tidy_settled s (Payload i n) t = record { places = t.places; many = t.many; blank = blank_empty; idle = idle_for n i }
 
-  tidy-step : (s : Reception) (b : ℕ) → Tidy starts s → Tidy starts (step us caps s b)
+  tidy_step : (s : Reception) (b : ℕ) → Tidy starts s → Tidy starts (step us caps s b)
   unfolding step headed kept
-  tidy-step s b t =
+  tidy_step s b t =
       let r = s.receiving in
       let h = added r.header b in
       cond_cases (Tidy starts) (is_open s.gate)
       (λ o.
       cond_cases (Tidy starts) (eqb r.rest 0)
       (λ z.
-      cond_cases (Tidy starts) (leb header_length h.count) (λ w. tidy-settled s (admission us caps r.held h) t)
-      (λ w. record { places = t.places; many = t.many; blank = blank-added r.header b t.blank; idle = t.idle }))
+      cond_cases (Tidy starts) (leb header_length h.count) (λ w. tidy_settled s (admission us caps r.held h) t)
+      (λ w. record { places = t.places; many = t.many; blank = blank_added r.header b t.blank; idle = t.idle }))
       (λ z.
       record {
         places = t.places;
@@ -69,10 +69,10 @@ module _ (us : Party) (caps starts : List ℕ) where
       }))
       (λ o. t)
 
-  pub tidy-fed : (s : Reception) (xs : List ℕ) → Tidy starts s → Tidy starts (fed us caps s xs)
+  pub tidy_fed : (s : Reception) (xs : List ℕ) → Tidy starts s → Tidy starts (fed us caps s xs)
   unfolding fed
-  tidy-fed s [] t = t
-  tidy-fed s (x ∷ xs) t = tidy-fed (step us caps s x) xs (tidy-step s x t)
+  tidy_fed s [] t = t
+  tidy_fed s (x ∷ xs) t = tidy_fed (step us caps s x) xs (tidy_step s x t)
 
 -- ---- a call
 

@@ -84,22 +84,22 @@ pub spare_put : (us : Party) (limit : ℕ) {state next : ℕ} → known us.bundl
 unfolding ours
 spare_put us limit known-bundle k o = by_side us.side limit k (rw (first_role us.bundle known-bundle, first_speaks us.bundle) at o)
 
-pub spare-moved : (side : Side) (limit : ℕ) {state next : ℕ} → Shakes state next → spare side next limit ≤ spare side state limit
+pub spare_moved : (side : Side) (limit : ℕ) {state next : ℕ} → Shakes state next → spare side next limit ≤ spare side state limit
 unfolding spare
-spare-moved Dialler limit proposes = omega arith
-spare-moved Dialler limit confirms = omega arith
-spare-moved Accepter limit proposes = omega arith
-spare-moved Accepter limit confirms = omega arith
+spare_moved Dialler limit proposes = omega arith
+spare_moved Dialler limit confirms = omega arith
+spare_moved Accepter limit proposes = omega arith
+spare_moved Accepter limit confirms = omega arith
 
 pub spare_first : (side : Side) (limit : ℕ) → spare side 0 limit ≤ limit
 unfolding spare
 spare_first Dialler limit = omega arith
 spare_first Accepter limit = omega arith
 
-pub spare-none : (side : Side) (state limit : ℕ) → spare side state limit < limit → spare side state limit ≡ 0
+pub spare_none : (side : Side) (state limit : ℕ) → spare side state limit < limit → spare side state limit ≡ 0
 unfolding spare
-spare-none Dialler zero limit h = absurd (omega arith)
-spare-none Dialler (suc state) limit h = refl
-spare-none Accepter zero limit h = absurd (omega arith)
-spare-none Accepter (suc zero) limit h = absurd (omega arith)
-spare-none Accepter (suc (suc state)) limit h = refl
+spare_none Dialler zero limit h = absurd (omega arith)
+spare_none Dialler (suc state) limit h = refl
+spare_none Accepter zero limit h = absurd (omega arith)
+spare_none Accepter (suc zero) limit h = absurd (omega arith)
+spare_none Accepter (suc (suc state)) limit h = refl

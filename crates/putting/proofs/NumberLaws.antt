@@ -30,12 +30,12 @@ use Rattle.judging.specs.declared.Judged.{Judged}
 use Rattle.judging.specs.Judging.{outcome_number, View, view_of, spoken, led, said}
 use Rattle.judging.specs.Besides.Saying.{Moves, Utters, refusal, message}
 use Rattle.judging.proofs.SayingLaws.{utters, said_exactly, unsaid_number}
-use Rattle.judging.proofs.Moving.{moved-ranged, moved_shaped}
+use Rattle.judging.proofs.Moving.{moved_ranged, moved_shaped}
 use Rattle.putting.specs.declared.Queued.{Queued}
 use Rattle.putting.specs.Putting.{Told, told, refused, longer_of, queued, stored, put_of}
 use Rattle.putting.specs.Besides.Numbers.{InOneSegment, When, Exactly, Untouched, Kept, Keeps}
 use Rattle.putting.specs.Besides.Numbers.{out_of_range, no_instance, unsaid, above_limit, above_capacity, done}
-use Rattle.putting.proofs.PuttingLaws.{put-range, put-instance, put_refused, put-judged, too_long, no_room, has_room}
+use Rattle.putting.proofs.PuttingLaws.{put_range, put_instance, put_refused, put_judged, too_long, no_room, has_room}
 
 module _ (c : Connection) (store : List ℕ) (i : ℕ) (xs : List ℕ) where
   abbrev out : Told
@@ -68,37 +68,37 @@ module _ (c : Connection) (store : List ℕ) (i : ℕ) (xs : List ℕ) where
 
   -- ---- where a "when" holds, the call goes that way
 
-  said-as : {j : Judged} → Utters view j → j ≡ said view
-  said-as {j} u = sym ((said_exactly view j).1 u)
+  said_as : {j : Judged} → Utters view j → j ≡ said view
+  said_as {j} u = sym ((said_exactly view j).1 u)
 
   -- a Handshake message is in one segment
   in_one : (i ≡ handshake → length xs ≤ c.settings.limit) → (eqb i handshake && ltb c.settings.limit (length xs)) ≡ false
   in_one l = by_test (eqb i 0) (λ q. rw (q, le-ltb c.settings.limit (length xs) (l (eqb-true i 0 q)))) (λ q. rw q)
 
   goes : {n : ℕ} → When c store i xs n → Way n
-  goes (out_of_range r) = unfit r (put-range c store i xs r)
-  goes (no_instance r h) = stays 10 (λ z. omega arith) (λ z. omega arith) (put-instance c store i xs r h)
+  goes (out_of_range r) = unfit r (put_range c store i xs r)
+  goes (no_instance r h) = stays 10 (λ z. omega arith) (λ z. omega arith) (put_instance c store i xs r h)
   goes (unsaid {o = o} a u) =
       let (low, high) = unsaid_number u in
-      stays (outcome_number o) (λ z. omega arith) (λ z. omega arith) (put_refused c store i xs a _ (said-as (refusal u)) (λ z. omega arith))
+      stays (outcome_number o) (λ z. omega arith) (λ z. omega arith) (put_refused c store i xs a _ (said_as (refusal u)) (λ z. omega arith))
   goes (above_limit a v z l) =
       stays 24 (λ z. omega arith) (λ z. omega arith)
-      (too_long c store i xs _ (rw (eq-eqb i 0 z, lt-ltb c.settings.limit (length xs) l)) ∙ put-judged c store i xs a _ (said-as (message v)) refl)
+      (too_long c store i xs _ (rw (eq-eqb i 0 z, lt-ltb c.settings.limit (length xs) l)) ∙ put_judged c store i xs a _ (said_as (message v)) refl)
   goes (above_capacity v f) =
       stays 22 (λ z. omega arith) (λ z. omega arith)
-      (no_room c store i xs _ (in_one v.short) (lt-leb sum cap f) ∙ put-judged c store i xs v.asked _ (said-as (message v.moves)) refl)
+      (no_room c store i xs _ (in_one v.short) (lt-leb sum cap f) ∙ put_judged c store i xs v.asked _ (said_as (message v.moves)) refl)
   goes (done {m = m} {next = next} v f) =
       gone m next v f
       (has_room c store i xs _ (in_one v.short) _ _ (le-leb sum cap f) refl refl
-      ∙ put-judged c store i xs v.asked _ (said-as (message v.moves)) refl)
+      ∙ put_judged c store i xs v.asked _ (said_as (message v.moves)) refl)
 
   -- ---- and one of them holds
 
   abbrev Some : Type 0
   Some = (n : ℕ) × When c store i xs n
 
-  by-area : {m : Message} {next : ℕ} → InOneSegment c store i xs m next → Some
-  by-area v = by_test (leb sum cap) (λ f. (0, done v (leb-true sum cap f))) (λ f. (22, above_capacity v (leb-false sum cap f)))
+  by_area : {m : Message} {next : ℕ} → InOneSegment c store i xs m next → Some
+  by_area v = by_test (leb sum cap) (λ f. (0, done v (leb-true sum cap f))) (λ f. (22, above_capacity v (leb-false sum cap f)))
 
   by_length : InSend c store i → {m : Message} {next : ℕ} → Moves view m next → Some
   by_length a v =
@@ -106,8 +106,8 @@ module _ (c : Connection) (store : List ℕ) (i : ℕ) (xs : List ℕ) where
       (λ q.
       by_test (ltb c.settings.limit (length xs))
       (λ l. (24, above_limit a v (eqb-true i 0 q) (ltb-true c.settings.limit (length xs) l)))
-      (λ l. by-area (record { asked = a; moves = v; short = λ z. ltb-false c.settings.limit (length xs) l })))
-      (λ q. by-area (record { asked = a; moves = v; short = λ z. absurd (eqb-false i 0 q z) }))
+      (λ l. by_area (record { asked = a; moves = v; short = λ z. ltb-false c.settings.limit (length xs) l })))
+      (λ q. by_area (record { asked = a; moves = v; short = λ z. absurd (eqb-false i 0 q z) }))
 
   by_said : InSend c store i → {j : Judged} → Utters view j → Some
   by_said a (refusal {o = o} u) = (outcome_number o, unsaid a u)
@@ -168,21 +168,21 @@ module _ (c : Connection) (s : Shaped c) (r : RangeLaws.Ranged c) (i n : ℕ) (i
   abbrev more : Sending
   more = longer_of c.sending i n
 
-  longer-in : (j : ℕ) → j < instances c.settings.party.bundle
+  longer_in : (j : ℕ) → j < instances c.settings.party.bundle
       → (get_or more.starts j 0 < get_or c.settings.send j 0) × (get_or more.waiting j 0 ≤ get_or c.settings.send j 0)
-  longer-in j h =
+  longer_in j h =
       by_test (eqb j i)
       (λ q.
       rw (eqb-true j i q, get_or-set_same c.sending.waiting i (get_or c.sending.waiting i 0 + n) 0 (omega (arith, s.waiting, at_most c.settings.party.bundle)))
       ((r.sending i inside).0, fits))
       (λ q. rw (get_or-set_other c.sending.waiting i j (get_or c.sending.waiting i 0 + n) 0 (eqb-false j i q)) (r.sending j h))
 
-  longer-ranged : RangeLaws.Ranged (with_sending c more)
-  longer-ranged =
+  longer_ranged : RangeLaws.Ranged (with_sending c more)
+  longer_ranged =
       record {
         set = r.set;
         receiving = r.receiving;
-        sending = longer-in;
+        sending = longer_in;
         states = r.states;
         turn = r.turn;
         header = r.header;
@@ -206,8 +206,8 @@ module _ (c : Connection) (store : List ℕ) (i : ℕ) (xs : List ℕ) (s : Shap
       let inside : i < instances c.settings.party.bundle = v.asked.1 in
       let p = sends_both c (length store) r in
       let fuller : Connection = with_sending c (longer_of c.sending i (length xs)) in
-      let k = longer-ranged c s (ranged c p.0) i (length xs) inside f in
-      let k' = moved-ranged fuller i m.kind (flag_of (spoken (view_of c i xs)) m) next inside s.states k v.moves.row in
+      let k = longer_ranged c s (ranged c p.0) i (length xs) inside f in
+      let k' = moved_ranged fuller i m.kind (flag_of (spoken (view_of c i xs)) m) next inside s.states k v.moves.row in
       subst (Kept c store) e
       (record {
         ranged = equal_and (is_in_range (queued c i (length xs) (led (length xs) m next)) k') (stored_long c store i xs ∙ p.1);

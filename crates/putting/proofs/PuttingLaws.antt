@@ -56,22 +56,22 @@ said_there c i xs closed e = rw e
 -- ---- the ways out of put
 
 module _ (c : Connection) (store : List ℕ) (i : ℕ) (xs : List ℕ) where
-  pub put-range : sends c (length store) ≡ false → told (refused c 23) store ≡ put_of c store i xs
+  pub put_range : sends c (length store) ≡ false → told (refused c 23) store ≡ put_of c store i xs
   unfolding put_of
-  put-range r = rw r
+  put_range r = rw r
 
-  pub put-instance : sends c (length store) ≡ true → instances c.settings.party.bundle ≤ i → told (refused c 10) store ≡ put_of c store i xs
+  pub put_instance : sends c (length store) ≡ true → instances c.settings.party.bundle ≤ i → told (refused c 10) store ≡ put_of c store i xs
   unfolding put_of
-  put-instance r h = rw (r, le-ltb i (instances c.settings.party.bundle) h)
+  put_instance r h = rw (r, le-ltb i (instances c.settings.party.bundle) h)
 
   module _ (a : InSend c store i) (j : Judged) (e : j ≡ said (view_of c i xs)) where
     pub put_refused : outcome_number j.outcome ≢ 0 → told (refused c (outcome_number j.outcome)) store ≡ put_of c store i xs
     unfolding put_of
     put_refused ne = rw (a.0, lt-ltb i (instances c.settings.party.bundle) a.1, ← e, ne_eqb (outcome_number j.outcome) 0 ne)
 
-    pub put-judged : outcome_number j.outcome ≡ 0 → queue c store i xs j ≡ put_of c store i xs
+    pub put_judged : outcome_number j.outcome ≡ 0 → queue c store i xs j ≡ put_of c store i xs
     unfolding put_of
-    put-judged z = rw (a.0, lt-ltb i (instances c.settings.party.bundle) a.1, ← e, eq-eqb (outcome_number j.outcome) 0 z)
+    put_judged z = rw (a.0, lt-ltb i (instances c.settings.party.bundle) a.1, ← e, eq-eqb (outcome_number j.outcome) 0 z)
 
 -- ---- the ways out of queueing
 

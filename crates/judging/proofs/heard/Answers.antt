@@ -13,8 +13,8 @@ use Rattle.rows.specs.Rows.{done_of}
 use Rattle.judging.specs.declared.Outcome.TheVariants.{OurTurn, Finished, AfterDone, NoAccept}
 use Rattle.judging.specs.Judging.{View, unjudged, by_verdict}
 use Rattle.judging.specs.Besides.Hearing.{refusal, no_accept, our_turn}
-use Rattle.judging.proofs.JudgingLaws.{ours-spoken}
-use Rattle.judging.proofs.HearingLaws.{heard_exactly, heard-done, awaited-so}
+use Rattle.judging.proofs.JudgingLaws.{ours_spoken}
+use Rattle.judging.proofs.HearingLaws.{heard_exactly, heard_done, awaited_so}
 use Rattle.judging.proofs.heard.Goals as goal
 
 -- the view that the call is of, of these bytes
@@ -37,7 +37,7 @@ returns-then-state-done c =
     let last = c.done.ensures ∙ ap done_of c.protocol-p.ensures in
     let long = around_length a.area.now a.start a.n c.requires.2 in
     c.unjudged-then-state-done.ensures ∙ ap unjudged (c.ended.ensures ∙ ap (λ (k : ℕ). cond (eqb k 0) Finished AfterDone) (sym long))
-    ∙ sym (heard-done v unbarred (c.if-state-done.true ∙ last))
+    ∙ sym (heard_done v unbarred (c.if-state-done.true ∙ last))
 
 pub returns-then-ours : goal.returns-then-ours
 returns-then-ours c =
@@ -45,7 +45,7 @@ returns-then-ours c =
     let v = view a.party a.i a.state a.accepted a.closed (around a.area.now a.start a.n) in
     let unbarred = sym c.barred.ensures ∙ c.if-barred.false in
     let last = c.done.ensures ∙ ap done_of c.protocol-p.ensures in
-    let ours-now = sym (c.ours.ensures ∙ ours-spoken a.party a.i a.state _ c.protocol-p.ensures) ∙ c.if-ours.true in
+    let ours-now = sym (c.ours.ensures ∙ ours_spoken a.party a.i a.state _ c.protocol-p.ensures) ∙ c.if-ours.true in
     c.unjudged-then-ours.ensures
     ∙ sym ((heard_exactly v (unjudged OurTurn)).1 (refusal (our_turn unbarred (λ z. c.if-state-done.false (z ∙ sym last)) ours-now)))
 
@@ -56,7 +56,7 @@ returns c =
     let v = view a.party a.i a.state a.accepted a.closed held in
     let unbarred = sym c.barred.ensures ∙ c.if-barred.false in
     let last = c.done.ensures ∙ ap done_of c.protocol-p.ensures in
-    let theirs = sym (c.ours.ensures ∙ ours-spoken a.party a.i a.state _ c.protocol-p.ensures) ∙ c.if-ours.false in
+    let theirs = sym (c.ours.ensures ∙ ours_spoken a.party a.i a.state _ c.protocol-p.ensures) ∙ c.if-ours.false in
     c.measured.ensures
     ∙ ap (λ (p : Protocol). by_verdict p a.state a.closed held (verdict held)) c.protocol-p.ensures
-    ∙ sym (awaited-so v (record { allowed = unbarred; going = λ z. c.if-state-done.false (z ∙ sym last); theirs = theirs }) _ refl)
+    ∙ sym (awaited_so v (record { allowed = unbarred; going = λ z. c.if-state-done.false (z ∙ sym last); theirs = theirs }) _ refl)

@@ -11,7 +11,7 @@ use Rattle.messages.specs.Reading.{wholly}
 use Rattle.ring.specs.Inside.{around}
 use Rattle.ring.proofs.Around.{around_all}
 use Rattle.judging.specs.Judging.{judged_of}
-use Rattle.judging.proofs.JudgingLaws.{judged-not-one}
+use Rattle.judging.proofs.JudgingLaws.{judged_not_one}
 use Rattle.judging.proofs.judge_item.Goals as goal
 
 -- the first n bytes of n are all of them
@@ -36,4 +36,4 @@ returns c =
     let a = s.args in
     let xs : List ℕ = a.s.now in
     c.no_message.ensures
-    ∙ judged-not-one a.p a.state xs (ap (λ (v : Verdict). wholly v (length xs)) s.requires ∙ ne_eqb a.n (length xs) c.if-n-s.false)
+    ∙ judged_not_one a.p a.state xs (ap (λ (v : Verdict). wholly v (length xs)) s.requires ∙ ne_eqb a.n (length xs) c.if-n-s.false)

@@ -5,7 +5,7 @@ use Prim.Native.Nat.{ℕ}
 use lib.ListN.{length}
 use Rattle.item.specs.declared.Verdict.{Verdict}
 use Rattle.messages.specs.Reading.{wholly}
-use Rattle.judging.proofs.JudgingLaws.{judged-not-one}
+use Rattle.judging.proofs.JudgingLaws.{judged_not_one}
 use Rattle.judging.proofs.judge_slice.Goals as goal
 
 pub judge_item-requires : goal.judge_item-requires
@@ -16,7 +16,7 @@ returns-in-Bad c =
     let a = c.args in
     let xs : List ℕ = a.s.now in
     c.no_message.ensures
-    ∙ judged-not-one a.p a.state xs
+    ∙ judged_not_one a.p a.state xs
     (ap (λ (v : Verdict). wholly v (length xs)) (sym c.measure_slice-v.ensures ∙ c.in-Bad.is))
 
 pub returns-in-Incomplete : goal.returns-in-Incomplete
@@ -24,5 +24,5 @@ returns-in-Incomplete c =
     let a = c.args in
     let xs : List ℕ = a.s.now in
     c.no_message-in-Incomplete.ensures
-    ∙ judged-not-one a.p a.state xs
+    ∙ judged_not_one a.p a.state xs
     (ap (λ (v : Verdict). wholly v (length xs)) (sym c.measure_slice-v.ensures ∙ c.in-Incomplete.is))

@@ -8,8 +8,8 @@ use Rattle.rows.specs.declared.Protocol.{Protocol}
 use Rattle.judging.specs.declared.Outcome.TheVariants.{NoAccept, Closed, NotOurTurn}
 use Rattle.judging.specs.Judging.{View, unjudged, judged_of}
 use Rattle.judging.specs.Besides.Saying.{refusal, closed, no_accept, not_our_turn}
-use Rattle.judging.proofs.JudgingLaws.{ours-spoken}
-use Rattle.judging.proofs.SayingLaws.{said_exactly, said-bytes}
+use Rattle.judging.proofs.JudgingLaws.{ours_spoken}
+use Rattle.judging.proofs.SayingLaws.{said_exactly, said_bytes}
 use Rattle.judging.proofs.said.Goals as goal
 
 -- the view that the call is of
@@ -35,15 +35,15 @@ returns-then-ours c =
     let a = c.args in
     let v = view a.party a.i a.state a.accepted a.closed a.message.now in
     let unbarred = sym c.barred.ensures ∙ c.if-barred.false in
-    let ours-now = sym (c.ours.ensures ∙ ours-spoken a.party a.i a.state _ c.protocol-p.ensures) ∙ c.if-ours.true in
+    let ours-now = sym (c.ours.ensures ∙ ours_spoken a.party a.i a.state _ c.protocol-p.ensures) ∙ c.if-ours.true in
     c.judge_slice.ensures ∙ ap (λ (p : Protocol). judged_of p a.state a.message.now) c.protocol-p.ensures
-    ∙ sym (said-bytes v (record { unclosed = c.if-closed.false; allowed = unbarred; ours = ours-now }))
+    ∙ sym (said_bytes v (record { unclosed = c.if-closed.false; allowed = unbarred; ours = ours-now }))
 
 pub returns : goal.returns
 returns c =
     let a = c.args in
     let v = view a.party a.i a.state a.accepted a.closed a.message.now in
     let unbarred = sym c.barred.ensures ∙ c.if-barred.false in
-    let theirs = sym (c.ours.ensures ∙ ours-spoken a.party a.i a.state _ c.protocol-p.ensures) ∙ c.if-ours.false in
+    let theirs = sym (c.ours.ensures ∙ ours_spoken a.party a.i a.state _ c.protocol-p.ensures) ∙ c.if-ours.false in
     c.unjudged-2.ensures
     ∙ sym ((said_exactly v (unjudged NotOurTurn)).1 (refusal (not_our_turn c.if-closed.false unbarred theirs)))

@@ -7,7 +7,7 @@ use lib.ListN.{length, get_or}
 use lib.Seq.{sets}
 use Rattle.ring.specs.Ring.{base_of, stream}
 use Rattle.looking.specs.declared.Place.TheVariants.{Store}
-use Rattle.looking.proofs.LookingLaws.{in_one_run, wraps-in, wraps-out}
+use Rattle.looking.proofs.LookingLaws.{in_one_run, wraps_in, wraps_out}
 use Rattle.looking.proofs.join.Goals as goal
 
 pub base_of-base-requires : goal.base_of-base-requires
@@ -26,7 +26,7 @@ pub returns-then-scratch-n : goal.returns-then-scratch-n
 returns-then-scratch-n c =
     let a = c.args in
     let caps : List ℕ = a.caps.now in (
-      sym (wraps-out (base_of caps a.i) (get_or caps a.i 0) a.start a.n (length a.scratch.now) (omega (arith, c.if-n-cap.false, c.requires.placed)) c.if-scratch-n.true),
+      sym (wraps_out (base_of caps a.i) (get_or caps a.i 0) a.start a.n (length a.scratch.now) (omega (arith, c.if-n-cap.false, c.requires.placed)) c.if-scratch-n.true),
       refl,
     )
 
@@ -39,7 +39,7 @@ pub returns : goal.returns
 returns c =
     let a = c.args in
     let caps : List ℕ = a.caps.now in (
-      sym (wraps-in (base_of caps a.i) (get_or caps a.i 0) a.start a.n (length a.scratch.now) (omega (arith, c.if-n-cap.false, c.requires.placed))
+      sym (wraps_in (base_of caps a.i) (get_or caps a.i 0) a.start a.n (length a.scratch.now) (omega (arith, c.if-n-cap.false, c.requires.placed))
           (omega (arith, c.if-scratch-n.false))),
       c.read.ensures
           ∙ ap (λ (n : ℕ). sets a.scratch.now 0 (stream a.store.now n (get_or caps a.i 0) a.start a.n)) c.base_of-base.ensures,

@@ -3,7 +3,7 @@ use mathlib.Core.Path.{◌∙◌}
 use native.Mathlib.Omega.{arith}
 use Rattle.hearing.proofs.HearingLaws.{hear_is, shorter}
 use Rattle.hearing.proofs.NumberLaws.{found}
-use Rattle.looking.proofs.LookingLaws.{look-refused, look-done}
+use Rattle.looking.proofs.LookingLaws.{look_refused, look_done}
 use Rattle.looking.proofs.look.Goals as goal
 
 pub returns-then-shown-ne0 : goal.returns-then-shown-ne0
@@ -12,7 +12,7 @@ returns-then-shown-ne0 c =
     let show = c.show-shown in
     let j = c.hear-j.result in
     let hears = c.hear-j.ensures ∙ hear_is a.c a.store.now a.instance in
-    look-refused a.c a.store.now a.instance a.scratch.now j hears show.result show.ensures _ c.if-shown-ne0.true c.shut.ensures
+    look_refused a.c a.store.now a.instance a.scratch.now j hears show.result show.ensures _ c.if-shown-ne0.true c.shut.ensures
 
 -- ---- a message: it is in its area
 
@@ -50,5 +50,5 @@ returns c =
     let j = c.hear-j.result in
     let hears = c.hear-j.ensures ∙ hear_is a.c a.store.now a.instance in
     let join = c.join-place in
-    look-done a.c a.store.now a.instance a.scratch.now j hears show.result show.ensures join.result c.shown_at.result _
+    look_done a.c a.store.now a.instance a.scratch.now j hears show.result show.ensures join.result c.shown_at.result _
     c.if-shown-ne0.false join.ensures.0 c.shown_at.ensures join.ensures.1

@@ -11,7 +11,7 @@ use Rattle.wire.specs.Instances.{instances}
 use Rattle.range.specs.Ranges.{in_range}
 use Rattle.range.specs.Besides.Ranges.{InSend}
 use Rattle.range.proofs.RangeLaws.{sends_is}
-use Rattle.putting.proofs.PuttingLaws.{asked, said_there, put-range, put-instance, put_refused, put-judged, too_long, no_room, has_room, queued_is}
+use Rattle.putting.proofs.PuttingLaws.{asked, said_there, put_range, put_instance, put_refused, put_judged, too_long, no_room, has_room, queued_is}
 use Rattle.putting.proofs.put.Goals as goal
 
 -- ---- the tests
@@ -21,7 +21,7 @@ unfolding in_range
 returns-then-not-and c =
     let a = c.args in
     let asks = c.and.ensures ∙ sends_is a.c (length a.store.now) c.in_range-range.ensures in
-    rw c.refused.ensures (put-range a.c a.store.now a.instance a.message.now (sym asks ∙ c.if-not-and.true))
+    rw c.refused.ensures (put_range a.c a.store.now a.instance a.message.now (sym asks ∙ c.if-not-and.true))
 
 pub returns-then-count-instance : goal.returns-then-count-instance
 unfolding in_range
@@ -29,7 +29,7 @@ returns-then-count-instance c =
     let a = c.args in
     let fit = sym (c.and.ensures ∙ sends_is a.c (length a.store.now) c.in_range-range.ensures) ∙ c.if-not-and.false in
     let above : instances a.c.settings.party.bundle ≤ a.instance = omega (arith, c.if-count-instance.true, c.count.ensures.0) in
-    rw c.refused-then-count-instance.ensures (put-instance a.c a.store.now a.instance a.message.now fit above)
+    rw c.refused-then-count-instance.ensures (put_instance a.c a.store.now a.instance a.message.now fit above)
 
 -- ---- what is said
 
@@ -60,7 +60,7 @@ returns-then-and c =
     let within : InSend a.c a.store.now a.instance = (fit, omega (arith, c.if-count-instance.false, c.count.ensures.0)) in
     let j = c.said-j.result in
     let says = c.said-j.ensures ∙ said_there a.c a.instance xs _ (c.not-closed.ensures ∙ ap not c.is_open.ensures) in
-    let queues = put-judged a.c a.store.now a.instance xs within j says (sym c.number_of-number.ensures ∙ c.if-number-ne0.false) in
+    let queues = put_judged a.c a.store.now a.instance xs within j says (sym c.number_of-number.ensures ∙ c.if-number-ne0.false) in
     let long = sym c.and-2.ensures ∙ c.if-and.true in
     rw c.refused-then-and.ensures (too_long a.c a.store.now a.instance xs j long ∙ queues)
 
@@ -73,7 +73,7 @@ returns-then-not-fits c =
     let within : InSend a.c a.store.now a.instance = (fit, omega (arith, c.if-count-instance.false, c.count.ensures.0)) in
     let j = c.said-j.result in
     let says = c.said-j.ensures ∙ said_there a.c a.instance xs _ (c.not-closed.ensures ∙ ap not c.is_open.ensures) in
-    let queues = put-judged a.c a.store.now a.instance xs within j says (sym c.number_of-number.ensures ∙ c.if-number-ne0.false) in
+    let queues = put_judged a.c a.store.now a.instance xs within j says (sym c.number_of-number.ensures ∙ c.if-number-ne0.false) in
     let short = sym c.and-2.ensures ∙ c.if-and.false in
     let full = sym c.fits.ensures ∙ c.if-not-fits.true in
     rw c.refused-then-not-fits.ensures (no_room a.c a.store.now a.instance xs j short full ∙ queues)
@@ -122,7 +122,7 @@ returns c =
     let within : InSend a.c a.store.now a.instance = (fit, omega (arith, c.if-count-instance.false, c.count.ensures.0)) in
     let j = c.said-j.result in
     let says = c.said-j.ensures ∙ said_there a.c a.instance xs _ (c.not-closed.ensures ∙ ap not c.is_open.ensures) in
-    let queues = put-judged a.c a.store.now a.instance xs within j says (sym c.number_of-number.ensures ∙ c.if-number-ne0.false) in
+    let queues = put_judged a.c a.store.now a.instance xs within j says (sym c.number_of-number.ensures ∙ c.if-number-ne0.false) in
     let short = sym c.and-2.ensures ∙ c.if-and.false in
     let room = sym c.fits.ensures ∙ c.if-not-fits.false in
     has_room a.c a.store.now a.instance xs j short _ _ room
