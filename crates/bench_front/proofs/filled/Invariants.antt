@@ -1,5 +1,4 @@
 use Prim.Native.Nat.{◌≤◌, ◌-◌}
-use borrow.Author.Rules.{rules}
 use Rattle.wire.specs.Instances.{most}
 use Rattle.bench_front.proofs.filled.Given as goal
 
