@@ -1,4 +1,4 @@
-use Rattle.std.proofs.Common.{◌-◌, ◌≤◌, rules}
+use Rattle.std.proofs.Common.{◌-◌, ◌≤◌}
 use Rattle.wire.specs.Instances.{most}
 use Rattle.replay.proofs.making.sum.Given as goal
 
