@@ -4,7 +4,7 @@
 // front, or reads more where that line is not whole yet. Of a line that is longer than is asked for only that is kept.
 #![tactic(auto)]
 
-ghost use Rattle.std.specs.Prelude.{◌≤◌, length};
+ghost use Rattle.std.specs.Prelude.{◌≡◌, ◌≤◌, length, Bool, false, Err};
 ghost use Rattle.io.specs.Counts.{IsPrefixLen};
 
 use base::smaller;
@@ -154,4 +154,44 @@ fn over(failed: bool) -> Lines {
         over: true,
         failed,
     }
+}
+
+// Why lines stop before the input ends: a read failed, or what a line is answered could not be written.
+#[derive(Clone, Copy, PartialEq, Eq, Debug)]
+pub enum Stop {
+    Unread,
+    Unwritten,
+}
+
+// Hands each line in turn, without its line feed, to `answer`, and with it whether it is longer than is asked for, up to
+// the end of the input, or as far as `answer` says that what it wrote was written.
+//
+// A proved loop has to end, and nothing says that the input does. So the loop has more turns than any run uses up.
+pub fn each_line<F: FnMut(&mut [u8], bool) -> bool>(
+    stdin: Stdin,
+    space: &mut [u8],
+    most: usize,
+    mut answer: F,
+) -> Result<(), Stop>
+    requires { F.IsAlwaysCallable answer }
+    ensures { result ≡ Err Stop.Unwritten → (f : F) × (x : _) × (long : Bool) × (y : _) × (g : F) × F.step f x long false y g }
+{
+    let mut lines = begin();
+    for _ in 0..u64::MAX {
+        if whole(lines) {
+            let w = line(space, lines);
+            if !answer(&mut space[w.from..w.to], lines.long) {
+                return Err(Stop::Unwritten);
+            }
+        }
+        lines = step(stdin, space, most, lines);
+        if lines.over {
+            return if lines.failed {
+                Err(Stop::Unread)
+            } else {
+                Ok(())
+            };
+        }
+    }
+    Ok(())
 }
