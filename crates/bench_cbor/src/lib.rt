@@ -11,8 +11,7 @@ pub extern "C" fn cbor_end(s: &[u8], from: usize) -> usize {
     }
     match cbor::measure(s, from, s.len()) {
         Verdict::Whole(n) => n,
-        Verdict::Bad(_) => 0,
-        Verdict::Incomplete => 0,
+        Verdict::Bad(_) | Verdict::Incomplete => 0,
     }
 }
 
@@ -22,8 +21,5 @@ pub extern "C" fn cbor_heads(s: &[u8], from: usize) -> usize {
     if s.len() < from {
         return 0;
     }
-    let n = s.len();
-    let r = cbor::resume(s, from, n, cbor::begin());
-    let w = r.walk;
-    w.heads
+    cbor::resume(s, from, s.len(), cbor::begin()).walk.heads
 }
