@@ -16,6 +16,7 @@ ghost use Rattle.elements.specs.Reading.{on_end, ended, unsigned_at, opens_at, c
 use head::read::Head;
 use head::{ARRAY, MAP, UNSIGNED};
 use item::{NESTING, Verdict};
+use ring::view::View;
 
 // An element of a list, or of a map: an item; a pair [item, size]; a version, which is a key, and its value.
 #[derive(Clone, Copy)]
@@ -126,7 +127,12 @@ pub fn unsigned_at(s: &[u8], from: usize, n: usize, at: usize) -> Number
     requires { (from ≤ length s.now) × (n ≤ length s.now) }
     ensures { result ≡ unsigned_at (around s.now from n) at }
 {
-    let h = head::read::head_around(s, from, n, at);
+    let v = View {
+        bytes: s,
+        from,
+        len: n,
+    };
+    let h = head::read::head_at(v, at);
     match h {
         Head::Definite {
             major,
@@ -145,7 +151,12 @@ pub fn opens_at(s: &[u8], from: usize, n: usize, major: u8, at: usize) -> Openin
     requires { (from ≤ length s.now) × (n ≤ length s.now) }
     ensures { result ≡ opens_at (around s.now from n) major at }
 {
-    let h = head::read::head_around(s, from, n, at);
+    let v = View {
+        bytes: s,
+        from,
+        len: n,
+    };
+    let h = head::read::head_at(v, at);
     match h {
         Head::Definite {
             major: m,

@@ -16,6 +16,7 @@ ghost use Rattle.moves.specs.Inside.Moves.{Moves, Leaves, Strings, Follows, Doub
 use head::read::number_at;
 use head::{Initial, Major, initial_of};
 use item::NESTING;
+use ring::view::View;
 
 // The kinds of levels, by what a level still wants: count items; count and 2^64 items; the elements of an array up to a
 // break; the pairs of a map up to a break, where an odd count is at a value; chunks of bytes, and of text. So one less of
@@ -219,7 +220,12 @@ fn long(
         if n - (at + 1) <= k {
             return Move::Lack;
         }
-        let v = number_at(s, from, n, at + 1, k + 1);
+        let bytes = View {
+            bytes: s,
+            from,
+            len: n,
+        };
+        let v = number_at(bytes, at + 1, k + 1);
         return follows(n, at + 1 + (k + 1), m, v, left_of(kind, count));
     }
     Move::Fault(at)

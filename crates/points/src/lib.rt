@@ -10,6 +10,7 @@ ghost use Rattle.points.specs.Points.{leads, opening, ending, hash_at, hashed, h
 
 use head::read::Head;
 use head::{ARRAY, BYTES, UNSIGNED};
+use ring::view::View;
 
 // How many bytes a hash has.
 const HASH: u64 = 32;
@@ -78,7 +79,7 @@ pub enum Standing {
 fn head_at(s: &[u8], at: usize) -> Head
     ensures { result ≡ head_at s.now at }
 {
-    head::read::head_around(s, 0, s.len(), at)
+    head::read::head_at(View::all(s), at)
 }
 
 // The argument of a head of a major type, and of definite length.

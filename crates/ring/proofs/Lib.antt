@@ -4,3 +4,4 @@ pub mod Areas
 pub mod Around
 pub mod Streams
 mod Copies
+pub mod Views

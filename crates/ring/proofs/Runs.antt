@@ -1,12 +1,14 @@
 -- Laws of a run of a list, and of a run stored in a list.
 -- Assumes nothing.
-use mathlib.Core.Path.{◌≡◌, ap, ◌∙◌}
+use mathlib.Core.Path.{◌≡◌, sym, ap, ◌∙◌}
 use mathlib.Core.List.{List, [], ◌∷◌, ◌++◌, append_assoc}
-use Prim.Native.Nat.{ℕ, ◌+◌, ◌<◌, ◌≤◌}
+use Prim.Native.Nat.{ℕ, ◌+◌, ◌-◌, ◌<◌, ◌≤◌}
 use native.Mathlib.Omega.{arith}
 use native.Mathlib.Numerals.{add-one}
 use lib.ListN.{length, get_or, take, drop, length-drop}
-use lib.Seq.{sets, sets-eq, take-append-le, drop-append-le, drop_at, take-append_seam, take-suc, take-add, drop-drop, get_or-drop, length-take-le}
+use lib.Seq.{sets, sets-eq, take-append-le, drop-append-le, drop_at, take-append_seam, take-suc, take-add, drop-drop, get_or-drop, length-take-le, take-take}
+use borrow.Rule.Slice.PartMut.{put_mid}
+use Rattle.std.proofs.lemmas.Slice.{put_mid-paste}
 use Rattle.base.proofs.ListLaws.{sets_append}
 use Rattle.ring.specs.Ring.{run}
 
@@ -49,3 +51,15 @@ sets_through l d xs to i k h h' e e' =
     let long : length (run xs i k) ≡ k = run_length xs i k h in
     let there : run (sets l 0 (run xs i k)) 0 (length (run xs i k)) ≡ run xs i k = run_sets l 0 (run xs i k) (omega arith) in
     e' ∙ ap (λ (r : List ℕ). sets d to (run r 0 k)) e ∙ ap (sets d to) (rw long at there)
+
+-- a run written into a part of another list
+pub part_written : (l xs ys : List ℕ) (to i k : ℕ) → to + k ≤ length l → i + k ≤ length xs → ys ≡ run xs i (i + k - i)
+    → put_mid to (to + k - to) l ys ≡ sets l to (run xs i k)
+part_written l xs ys to i k fits in_xs e =
+    let long : length (run xs i k) ≡ k = run_length xs i k in_xs in
+    let same : i + k - i ≡ k = omega arith in
+    let whole : take k (run xs i k) ≡ run xs i k = take-take k k (drop i xs) (omega arith) in
+    let there : sets l to (run xs i k) ≡ take to l ++ run xs i k ++ drop (to + k) l = rw long at (sets-eq {A = ℕ} (run xs i k) l to (omega arith)) in
+    put_mid-paste to (to + k - to) l ys (run xs i k) k (rw same at e) (omega arith) (sym long)
+    ∙ ap (λ (zs : List ℕ). take to l ++ zs ++ drop (to + k) l) whole
+    ∙ sym there

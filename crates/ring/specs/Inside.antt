@@ -1,5 +1,5 @@
 -- What only functions below the operations cite.
-use Rattle.std.specs.Prelude.{ℕ, ◌+◌, List, ◌++◌, take, drop}
+use Rattle.std.specs.Prelude.{ℕ, List, ◌++◌, take, drop}
 
 -- k bytes of xs from place i on, where xs is a ring: its front follows its end
 unfoldable pub around : List ℕ → ℕ → ℕ → List ℕ

@@ -4,15 +4,15 @@
 // to the area's end, and on from its front. Nothing else is written.
 #![tactic(auto)]
 
+pub mod view;
+
 ghost use Rattle.std.specs.Prelude.{◌≡◌, ◌+◌, ◌%◌, ◌^◌, ◌≤◌, ◌<◌, length, get_or};
 ghost use Rattle.std.proofs.lemmas.List.Edits.{sets};
 ghost use Rattle.ring.specs.Ring.{base_of, stream, laid, run};
 ghost use Rattle.ring.specs.Inside.{around};
+ghost use Rattle.ring.specs.View.{seen};
 
-use base::smaller;
-
-// How much is copied at once.
-const BLOCK: usize = 4096;
+use view::View;
 
 // Where area i begins, and, for i the number of areas, how long the store is.
 pub fn base_of(caps: &[u64], i: usize) -> usize
@@ -20,10 +20,8 @@ pub fn base_of(caps: &[u64], i: usize) -> usize
     ensures { result ≡ base_of caps.now i }
 {
     let mut sum: u64 = 0;
-    let mut j: usize = 0;
-    while j < i {
-        sum += caps[j];
-        j += 1;
+    for cap in &caps[..i] {
+        sum += *cap;
     }
     sum as usize
 }
@@ -36,40 +34,12 @@ fn place_of(cap: usize, n: usize) -> usize
     if n < cap { n } else { n % cap }
 }
 
-// Copies k bytes of src from place i on to dst from place `to` on, byte by byte.
-fn copy_bytes(dst: &mut [u8], to: usize, src: &[u8], i: usize, k: usize)
-    requires { (to + k ≤ length dst.old) × (i + k ≤ length src.now) }
-    ensures { dst.new ≡ sets dst.old to (run src.now i k) }
-{
-    let mut j: usize = 0;
-    while j < k {
-        dst[to + j] = src[i + j];
-        j += 1;
-    }
-}
-
-// The same for at most a block, through a local array. The compiler knows that this overlaps neither slice, and makes
-// one move of memory of the two copies.
-fn copy_block(dst: &mut [u8], to: usize, src: &[u8], i: usize, k: usize)
-    requires { (to + k ≤ length dst.old) × (i + k ≤ length src.now) × (k ≤ 4096) }
-    ensures { dst.new ≡ sets dst.old to (run src.now i k) }
-{
-    let mut block = [0u8; BLOCK];
-    copy_bytes(&mut block, 0, src, i, k);
-    copy_bytes(dst, to, &block, 0, k);
-}
-
 // Copies k bytes of src from place i on to dst from place `to` on.
 pub fn copy(dst: &mut [u8], to: usize, src: &[u8], i: usize, k: usize)
     requires { (to + k ≤ length dst.old) × (i + k ≤ length src.now) }
     ensures { dst.new ≡ sets dst.old to (run src.now i k) }
 {
-    let mut j: usize = 0;
-    while j < k {
-        let m = smaller(BLOCK, k - j);
-        copy_block(dst, to + j, src, i + j, m);
-        j += m;
-    }
+    dst[to..to + k].copy_from_slice(&src[i..i + k]);
 }
 
 // Writes k bytes of src from place i on as byte n of the stream and those that follow it.
@@ -112,4 +82,30 @@ pub fn byte_at(s: &[u8], i: usize, k: usize, j: usize) -> u8
         return s[i + j];
     }
     s[j - ahead]
+}
+
+impl<'a> View<'a> {
+    // All of a slice, from its front.
+    pub fn all(bytes: &'a [u8]) -> View<'a>
+        ensures { seen result ≡ bytes.now }
+    {
+        View {
+            bytes,
+            from: 0,
+            len: bytes.len(),
+        }
+    }
+
+    // Byte j.
+    pub fn byte(self, j: usize) -> u8
+        requires { j < self.len }
+        ensures { result ≡ get_or (seen self.entry) j 0 }
+    {
+        let ahead = self.bytes.len() - self.from;
+        if j < ahead {
+            self.bytes[self.from + j]
+        } else {
+            self.bytes[j - ahead]
+        }
+    }
 }

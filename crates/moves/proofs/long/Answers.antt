@@ -22,7 +22,7 @@ returns-then-n-at c =
 
 pub number_at-v-requires : goal.number_at-v-requires
 number_at-v-requires c =
-    let p = c.requires.from_in_bounds in (p.0, p.1, omega arith, omega arith)
+    (omega arith, omega arith)
 
 pub left_of-requires : goal.left_of-requires
 left_of-requires c =

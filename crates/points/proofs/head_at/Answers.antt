@@ -2,9 +2,8 @@
 use mathlib.Core.Path.{ap, ◌∙◌}
 use mathlib.Core.List.{List}
 use Prim.Native.Nat.{ℕ}
-use Rattle.ring.proofs.Around.{around_all}
 use Rattle.head.specs.Read.{head_at}
 use Rattle.points.proofs.head_at.Goals as goal
 
 pub returns : goal.returns
-returns c = let a = c.args in c.head_around.ensures ∙ ap (λ (l : List ℕ). head_at l a.at) (around_all a.s.now)
+returns c = let a = c.args in c.head_at.ensures ∙ ap (λ (l : List ℕ). head_at l a.at) c.all.ensures

@@ -1,6 +1,5 @@
 -- `ring::read` meets its contract: as `write`.
 use native.Mathlib.Omega.{arith}
-use borrow.Author.Rules.{rules}
 use Rattle.ring.proofs.Copies.{read_straight, read_wraps}
 use Rattle.ring.proofs.read.Goals as goal
 

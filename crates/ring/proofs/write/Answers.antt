@@ -1,6 +1,5 @@
 -- `ring::write` meets its contract: a run that comes to the area's end is copied in two, any other in one.
 use native.Mathlib.Omega.{arith}
-use borrow.Author.Rules.{rules}
 use Rattle.ring.proofs.Copies.{written_straight, written_wraps}
 use Rattle.ring.proofs.write.Goals as goal
 

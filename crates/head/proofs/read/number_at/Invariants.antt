@@ -1,12 +1,8 @@
-use mathlib.Core.Path.{◌≡◌}
-use Prim.Native.Nat.{◌-◌, ◌^◌, ◌≤◌, ◌<◌}
+use Rattle.std.proofs.Common.{◌≡◌, ◌<◌, ◌^◌}
 use Rattle.base.specs.Numbers.{number}
 use Rattle.ring.specs.Ring.{run}
-use Rattle.ring.specs.Inside.{around}
+use Rattle.ring.specs.View.{seen}
 use Rattle.head.proofs.read.number_at.Given as goal
 
 abbrev pub invariant-loop-j : goal.invariant-loop-j
-invariant-loop-j l = (l.j ≤ l.k) × (l.v ≡ number (run (around l.s l.from l.n) l.at l.j)) × (l.v < 256 ^ l.j)
-
-abbrev pub decreases-loop-j : goal.decreases-loop-j
-decreases-loop-j l = l.k - l.j
+invariant-loop-j l = (l.n ≡ number (run (seen l.v) l.at l.j)) × (l.n < 256 ^ l.j)
