@@ -5,7 +5,7 @@ use mathlib.Core.List.{List, [], ◌∷◌, ◌++◌, append_assoc, append-nil}
 use Prim.Native.Nat.{ℕ, zero, suc, ◌+◌, ◌-◌, ◌*◌, ◌/◌, ◌%◌, ◌^◌, ◌≤◌, ◌<◌}
 use native.Mathlib.Omega.{arith}
 use native.Mathlib.Numerals.{add-one, sub-one}
-use native.Mathlib.Nat.{add-zero, zero-add, add-suc, suc-add, mod-lt, div-add-mod', div-lt_iff_lt-mul, pow-succ', pow-le-pow_right}
+use native.Mathlib.Nat.{add-zero, zero-add, mod-lt, div-add-mod', pow-succ', pow-le-pow_right}
 use lib.ListN.{length, get_or, take, drop, set, replicate, length-append, length-drop}
 use lib.Seq.{sets, take-suc, get_or-drop}
 use Rattle.base.specs.Numbers.{Bytes, spelled, number, octets}

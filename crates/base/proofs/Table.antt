@@ -2,7 +2,7 @@
 -- Entries are of any type; `rows` is the same for a table of rows of numbers.
 -- Assumes nothing.
 use mathlib.Core.Path.{◌≡◌, ◌∙◌, subst, sym}
-use mathlib.Core.Bool.{Bool, true, false, ◌&&◌}
+use mathlib.Core.Bool.{Bool, true, ◌&&◌}
 use mathlib.Core.List.{List, [], ◌∷◌}
 use Prim.Native.Nat.{ℕ, zero, suc, ◌+◌, ◌^◌, ◌<◌}
 use native.Mathlib.Nat.{add-zero, zero-add, add-suc, suc-add, le_of_suc-le-suc, not-suc-le-zero}

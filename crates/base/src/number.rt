@@ -16,10 +16,8 @@ pub fn read(s: &[u8], at: usize, k: usize) -> u64
     ensures { (result ≡ number (take k (drop at s.now))) × (result < 256 ^ k) }
 {
     let mut v: u64 = 0;
-    let mut j: usize = 0;
-    while j < k {
-        v = v * 256 + wide(s[at + j]);
-        j += 1;
+    for b in &s[at..at + k] {
+        v = v * 256 + u64::from(*b);
     }
     v
 }
@@ -30,10 +28,8 @@ pub fn write(s: &mut [u8], at: usize, k: usize, n: u64)
     ensures { s.new ≡ sets s.old at (octets k n) }
 {
     let mut rest = n;
-    let mut j = k;
-    while 0 < j {
-        j -= 1;
+    for j in (0..k).rev() {
         s[at + j] = (rest % 256) as u8;
-        rest = rest / 256;
+        rest /= 256;
     }
 }
