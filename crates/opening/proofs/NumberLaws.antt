@@ -4,7 +4,7 @@ use mathlib.Core.Path.{◌≡◌, refl, sym, ◌∙◌}
 use mathlib.Core.Bool.{Bool, true, false, true≢false, ◌&&◌}
 use Prim.Native.Nat.{ℕ, ◌<◌}
 use native.Mathlib.Omega.{arith}
-use lib.Dec.{eqb, eqb→eq}
+use lib.Dec.{eqb→eq}
 use lib.ListN.{get_or, get_or-replicate}
 use borrow.Author.Tests.{eq-eqb}
 use Rattle.base.proofs.Conds.{by_test, so, is, and_left, and_right, exactly_when}
@@ -13,10 +13,8 @@ use Rattle.wire.proofs.InstanceLaws.{at_most, at_least}
 use Rattle.connection.specs.declared.Settings.{Settings}
 use Rattle.connection.specs.Shapes.{zeros}
 use Rattle.range.specs.Ranges.{settings_ok, receive_length, send_length, receive_store_ok, send_store_ok, in_range}
-use Rattle.range.specs.declared.Range.{Range}
-use Rattle.range.specs.Inside.{Spans}
-use Rattle.range.proofs.RangeLaws.{settings_set, set_settings, ranged, is_in_range, and_so}
-use Rattle.opening.specs.Openings.{fresh, open_of}
+use Rattle.range.proofs.RangeLaws.{settings_set, set_settings, ranged, is_in_range}
+use Rattle.opening.specs.Openings.{fresh, refused_open, open_of}
 use Rattle.opening.specs.Besides.Numbers.{Opens, When, out_of_range, done, Exactly, Opening}
 
 -- ---- the record that settings become
@@ -48,11 +46,6 @@ fresh_range s =
     (λ q.
     by_test (in_range (fresh s 1)) (λ r. absurd (true≢false (sym (set_settings s (ranged (fresh s 1) r).set) ∙ q))) (λ r. r ∙ sym q))
 
--- and the stores are tested with it
-pub stores_fit : (s : Settings) (n m : ℕ) {r : Range} → Spans (in_range (fresh s 1)) (receive_length s) (send_length s) r
-    → (r.ok && (eqb n r.receive && eqb m r.send)) ≡ (settings_ok s && (receive_store_ok s n && send_store_ok s m))
-stores_fit s n m k = and_so (k.ok ∙ fresh_range s) (λ q. rw (k.receive q, k.send q))
-
 -- ---- open
 
 abbrev tested : Settings → ℕ → ℕ → Bool
@@ -73,6 +66,15 @@ passes s n m (a, b, c) = rw (a, eq-eqb n (receive_length s) b, eq-eqb m (send_le
 
 fails : (s : Settings) (n m : ℕ) → (Opens s n m → ⊥) → tested s n m ≡ false
 fails s n m unfit = by_test (tested s n m) (λ t. absurd (unfit (opens s n m t))) (λ t. t)
+
+-- what a call answers
+pub opens_so : (s : Settings) (n m : ℕ) → Opens s n m → record { number = 0; connection = fresh s 1 } ≡ open_of s n m
+unfolding open_of
+opens_so s n m o = rw (passes s n m o)
+
+pub opens_not : (s : Settings) (n m : ℕ) → (Opens s n m → ⊥) → refused_open ≡ open_of s n m
+unfolding open_of
+opens_not s n m unfit = rw (fails s n m unfit)
 
 answered : (s : Settings) (n m : ℕ) {k : ℕ} → When s n m k → (open_of s n m).number ≡ k
 unfolding open_of

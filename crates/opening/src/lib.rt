@@ -7,7 +7,7 @@ ghost use Rattle.std.specs.Prelude.{◌≡◌, length};
 ghost use Rattle.opening.specs.Openings.{fresh, refused_open, open_of};
 
 use connection::{Connection, Gate, Receiving, Sending, Settings, Talk};
-use range::{Marks, in_range};
+use range::range_of;
 use wire::instances::{INSTANCES, Party, Side};
 use wire::segment::Header;
 
@@ -73,37 +73,15 @@ fn refused() -> Opened
 pub fn open(settings: Settings, receive: &[u8], send: &[u8]) -> Opened
     ensures { result ≡ open_of settings (length receive.now) (length send.now) }
 {
-    let zeros = [0; INSTANCES];
-    let party = settings.party;
-    let marks = Marks {
-        limit: settings.limit,
-        turn: 1,
-        bytes: 0,
-        instance: 0,
-        rest: 0,
-        accepted: false,
-        gate: Gate::Open,
-    };
-    let range = in_range(
-        party.bundle,
-        &settings.receive,
-        &zeros,
-        &zeros,
-        &settings.send,
-        &zeros,
-        &zeros,
-        &zeros,
-        marks,
-    );
-    let stores = base::and(
-        receive.len() as u64 == range.receive,
-        send.len() as u64 == range.send,
-    );
-    if base::and(range.ok, stores) {
-        return Opened {
-            number: 0,
-            connection: fresh(settings, 1),
-        };
+    let connection = fresh(settings, 1);
+    match range_of(&connection) {
+        Some(lengths)
+            if receive.len() as u64 == lengths.receive && send.len() as u64 == lengths.send => {
+            Opened {
+                number: 0,
+                connection,
+            }
+        }
+        _ => refused(),
     }
-    refused()
 }

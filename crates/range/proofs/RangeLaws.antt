@@ -20,7 +20,7 @@ use Rattle.connection.specs.declared.Talk.{Talk}
 use Rattle.connection.specs.declared.Connection.{Connection}
 use Rattle.connection.specs.Closings.{gate_ok}
 use Rattle.range.specs.declared.Range.{Range}
-use Rattle.range.specs.Inside.{Spans}
+use Rattle.range.specs.Inside.{Apart}
 use Rattle.range.specs.Ranges.{limit_ok, capacity_ok, capacities_ok, settings_ok, area_ok, state_ok, turn_ok, header_ok, accept_ok, instance_ok, in_range, receive_length, send_length, receives, sends}
 
 -- a sum within a capacity
@@ -225,10 +225,10 @@ pub and_so : {a b f g : Bool} → a ≡ b → (a ≡ true → f ≡ g) → (a &&
 and_so {a} e h = by_test a (λ q. rw (← e, q) (h q)) (λ q. rw (← e, q))
 
 -- what a call asks of a record that is taken apart and of the store that it is lent
-pub receives_is : (c : Connection) (n : ℕ) {r : Range} → Spans (in_range c) (receive_length c.settings) (send_length c.settings) r
+pub receives_is : (c : Connection) (n : ℕ) {r : Range} → Apart (in_range c) (receive_length c.settings) (send_length c.settings) r
     → (r.ok && eqb n r.receive) ≡ receives c n
 receives_is c n k = and_so k.ok (λ q. ap (eqb n) (k.receive q))
 
-pub sends_is : (c : Connection) (n : ℕ) {r : Range} → Spans (in_range c) (receive_length c.settings) (send_length c.settings) r
+pub sends_is : (c : Connection) (n : ℕ) {r : Range} → Apart (in_range c) (receive_length c.settings) (send_length c.settings) r
     → (r.ok && eqb n r.send) ≡ sends c n
 sends_is c n k = and_so k.ok (λ q. ap (eqb n) (k.send q))

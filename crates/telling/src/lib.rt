@@ -22,16 +22,12 @@ pub struct Report {
 }
 
 // The first n entries of an array, and 0 above.
-fn up_to(n: usize, a: [u64; INSTANCES]) -> [u64; INSTANCES]
+fn up_to(n: usize, a: &[u64; INSTANCES]) -> [u64; INSTANCES]
     requires { n ≤ most }
-    ensures { result ≡ up_to n a }
+    ensures { result ≡ up_to n a.now }
 {
     let mut shown = [0; INSTANCES];
-    let mut i: usize = 0;
-    while i < n {
-        shown[i] = a[i];
-        i += 1;
-    }
+    shown[..n].copy_from_slice(&a[..n]);
     shown
 }
 
@@ -58,23 +54,15 @@ fn refused() -> Report
 pub fn status(c: Connection) -> Report
     ensures { result ≡ status_of c }
 {
-    let range = range_of(c);
-    if !range.ok {
+    let Some(_) = range_of(&c) else {
         return refused();
-    }
-    let settings = c.settings;
-    let party = settings.party;
-    let n = count(party.bundle);
-    let r = c.receiving;
-    let w = c.sending;
-    let gate = c.gate;
-    let held = r.held;
-    let waiting = w.waiting;
+    };
+    let n = count(c.settings.party.bundle);
     Report {
         number: 0,
-        held: up_to(n, held),
-        waiting: up_to(n, waiting),
-        ready: ready::ready_of(waiting, n),
-        gate,
+        held: up_to(n, &c.receiving.held),
+        waiting: up_to(n, &c.sending.waiting),
+        ready: ready::ready_of(c.sending.waiting, n),
+        gate: c.gate,
     }
 }

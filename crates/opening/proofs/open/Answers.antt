@@ -1,30 +1,33 @@
--- `opening::open` meets its contract: the record that the settings become is in range with its stores exactly if they are.
-use mathlib.Core.Path.{sym, ap, ◌∙◌}
-use mathlib.Core.Bool.{Bool, ◌&&◌}
-use lib.ListN.{length}
-use Rattle.range.specs.Ranges.{in_range}
-use Rattle.opening.specs.Openings.{open_of}
-use Rattle.opening.proofs.NumberLaws.{stores_fit}
+-- `opening::open` meets its contract: the record that the settings become is in range exactly if they are.
+use Rattle.std.proofs.Common.{sym, ◌∙◌, true≢false, arith}
+use Rattle.opening.proofs.NumberLaws.{fresh_range, opens_so, opens_not}
 use Rattle.opening.proofs.open.Goals as goal
+use Rattle.opening.proofs.open.Goals.{in_default-via-in-Some+then-receive-lengths+else-send-lengths, in_default-via-in-Some+else-receive-lengths, in_default-via-in_default}
 
-pub returns-then-and : goal.returns-then-and
-unfolding open_of in_range
-returns-then-and c =
-    let both = c in
-    let tested = both in
-    let range = tested.in_range-range in
-    let a = tested.args in
-    let fit = stores_fit a.settings (length a.receive.now) (length a.send.now) range.ensures in
-    let t = both.and.ensures ∙ ap (λ (x : Bool). range.result.ok && x) both.and-stores.ensures in
-    rw (sym fit ∙ sym t ∙ c.if-and.true, c.fresh.ensures)
+pub returns-in-Some : goal.returns-in-Some
+returns-in-Some c =
+    let fresh = c.fresh-connection.ensures in
+    let (ok, receive, send) = c.in-Some.ensures in
+    let ok = rw fresh at ok in
+    let receive = rw fresh at receive in
+    let send = rw fresh at send in
+    rw fresh (opens_so c.args.settings _ _ (sym (fresh_range c.args.settings) ∙ ok, omega arith, omega arith))
 
-pub returns : goal.returns
-unfolding open_of in_range
-returns c =
-    let both = c in
-    let tested = both in
-    let range = tested.in_range-range in
-    let a = tested.args in
-    let fit = stores_fit a.settings (length a.receive.now) (length a.send.now) range.ensures in
-    let t = both.and.ensures ∙ ap (λ (x : Bool). range.result.ok && x) both.and-stores.ensures in
-    rw (sym fit ∙ sym t ∙ c.if-and.false) c.refused.ensures
+pub returns-in_default : goal.returns-in_default
+returns-in_default c =
+    let fresh = c.fresh-connection.ensures in
+    c.refused.ensures
+    ∙ opens_not c.args.settings _ _
+    (λ o.
+    let (set, long, far) = o in
+    elim c.in_default.branch [
+      | in_default-via-in-Some+then-receive-lengths+else-send-lengths w ↦
+          let send = rw fresh at w.in-Some.ensures.2 in
+          omega arith
+      | in_default-via-in-Some+else-receive-lengths w ↦
+          let receive = rw fresh at w.in-Some.ensures.1 in
+          omega arith
+      | in_default-via-in_default w ↦
+          let out = rw fresh at w.in_default.ensures in
+          true≢false (sym (fresh_range c.args.settings ∙ set) ∙ out)
+    ])
