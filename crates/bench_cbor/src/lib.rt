@@ -1,18 +1,13 @@
 // What bench/cbor.c and bench/front.c call: the walk over all bytes of a slice, seen as a ring from a place on.
 #![tactic(auto)]
 
-use item::Verdict;
-
 // Where the item ends; 0 where it is not whole.
 #[unsafe(no_mangle)]
 pub extern "C" fn cbor_end(s: &[u8], from: usize) -> usize {
     if s.len() < from {
         return 0;
     }
-    match cbor::measure(s, from, s.len()) {
-        Verdict::Whole(n) => n,
-        Verdict::Bad(_) | Verdict::Incomplete => 0,
-    }
+    cbor::measure(s, from, s.len()).unwrap_or(0)
 }
 
 // Its complete heads.

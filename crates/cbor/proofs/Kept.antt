@@ -6,9 +6,8 @@ use mathlib.Core.Path.{◌≡◌, refl, sym, ap, ap₂, subst, subst⁻¹, ◌�
 use lib.ListN.{drop, replicate}
 use native.Mathlib.Omega.{arith}
 use Rattle.base.proofs.ListLaws.{zeros}
-use Rattle.item.specs.declared.Verdict.{Verdict}
 use Rattle.item.specs.Grammar.{One, Items, no_more, nesting}
-use Rattle.item.specs.Verdict.{Stack, nil, push, judge, start, verdict}
+use Rattle.item.specs.Verdict.{Stack, nil, push, judge, start, verdict, Verdict}
 use Rattle.item.specs.Besides.Verdict.{heads_of}
 use Rattle.item.proofs.Derivative.{Rest, then}
 use Rattle.item.proofs.Parts.{judge_same}

@@ -10,10 +10,10 @@ use lib.Seq.{get_or-set_same, get_or-set_other}
 use native.Mathlib.Omega.{arith}
 use native.Mathlib.Numerals.{add-one}
 use borrow.Author.Tests.{eqb-true, eqb-false}
-use Rattle.item.specs.declared.Verdict.{Verdict}
-use Rattle.item.specs.declared.Verdict.TheVariants.{Whole, Bad, Incomplete}
+use Rattle.std.specs.Prelude.{Ok, Err}
+use Rattle.item.specs.declared.NotWhole.TheVariants.{Bad, Incomplete}
 use Rattle.item.specs.Grammar.{Content, nesting}
-use Rattle.item.specs.Verdict.{Stack, push}
+use Rattle.item.specs.Verdict.{Stack, push, Verdict}
 use Rattle.moves.specs.declared.Level.{Level}
 use Rattle.cbor.specs.declared.Walk.{Walk}
 use Rattle.moves.specs.Inside.Levels.{frame_of, tell, Good}
@@ -79,7 +79,7 @@ starts xs w u v l r =
     }
 
 pub starts_cut : (xs : List ℕ) (w : Walk) (n r : ℕ) → length xs ≡ n → Sound w → w.at ≤ n → n - w.at < w.skip → r ≡ w.skip - (n - w.at)
-    → Resumed xs w Incomplete (walk_of n r w.heads w.kind w.count w.depth w.kinds w.counts)
+    → Resumed xs w (Err Incomplete) (walk_of n r w.heads w.kind w.count w.depth w.kinds w.counts)
 unfolding stack_of
 starts_cut xs w n r e s a l q =
     let f = s.few in
@@ -186,21 +186,21 @@ module _ {xs : List ℕ} {w : Walk} {at h k c d : ℕ} {ks cs : List ℕ} (u : U
         sound = record { few = u.few; good = u.good; outer = u.outer };
       }
 
-  pub whole : k ≡ 0 → c ≡ 0 → d ≡ 0 → Resumed xs w (Whole at) (walk_of at 0 h k c d ks cs)
+  pub whole : k ≡ 0 → c ≡ 0 → d ≡ 0 → Resumed xs w (Ok at) (walk_of at 0 h k c d ks cs)
   unfolding levels
-  whole e z q = rests (Whole at) (sym (nothing_here xs e z ∙ ap (λ (n : ℕ). tell xs at h (levels ks cs n)) q ∙ tell_nil xs at h))
+  whole e z q = rests (Ok at) (sym (nothing_here xs e z ∙ ap (λ (n : ℕ). tell xs at h (levels ks cs n)) q ∙ tell_nil xs at h))
 
   stops : (v : Verdict) → Stops xs at k c d v → Resumed xs w v (walk_of at 0 h k c d ks cs)
   stops v m = rests v (sym (m (levels ks cs d) h))
 
-  pub faults : {m : Move} {p : ℕ} → m ≡ Fault p → Moves xs at k c d m → Resumed xs w (Bad p) (walk_of at 0 h k c d ks cs)
-  faults {m} {p} e q = stops (Bad p) (subst (Moves xs at k c d) e q)
+  pub faults : {m : Move} {p : ℕ} → m ≡ Fault p → Moves xs at k c d m → Resumed xs w (Err (Bad p)) (walk_of at 0 h k c d ks cs)
+  faults {m} {p} e q = stops (Err (Bad p)) (subst (Moves xs at k c d) e q)
 
-  pub lacks : {m : Move} → m ≡ Lack → Moves xs at k c d m → Resumed xs w Incomplete (walk_of at 0 h k c d ks cs)
-  lacks e q = stops Incomplete (subst (Moves xs at k c d) e q)
+  pub lacks : {m : Move} → m ≡ Lack → Moves xs at k c d m → Resumed xs w (Err Incomplete) (walk_of at 0 h k c d ks cs)
+  lacks e q = stops (Err Incomplete) (subst (Moves xs at k c d) e q)
 
   -- or in a string that goes on after all that is there
-  pub skips : {v n : ℕ} {l : Level} → length xs ≡ n → Skips xs at k c d v l → Resumed xs w Incomplete (walk_of n v (h + 1) l.kind l.count d ks cs)
+  pub skips : {v n : ℕ} {l : Level} → length xs ≡ n → Skips xs at k c d v l → Resumed xs w (Err Incomplete) (walk_of n v (h + 1) l.kind l.count d ks cs)
   unfolding stack_of
   skips {v} {n} {l} e m =
       let f = u.few in

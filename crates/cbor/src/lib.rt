@@ -13,7 +13,7 @@ ghost use Rattle.ring.specs.Inside.{around};
 ghost use Rattle.cbor.specs.Inside.Walk.{Sound, Resumed, walk_of, first_at};
 ghost use Rattle.cbor.specs.Inside.Stops.{stop_of, stopped_at};
 
-use item::{NESTING, Verdict};
+use item::{NESTING, NotWhole, Verdict};
 use moves::{HALF, ITEMS, Move, any, breaks};
 use usual::{Piece, Quick, piece_of, usual};
 
@@ -140,7 +140,7 @@ fn advance(
         if count == 0 {
             if kind == ITEMS {
                 if depth == 0 {
-                    return stopped(Verdict::Whole(at), at, 0, heads, kind, count, depth);
+                    return stopped(Ok(at), at, 0, heads, kind, count, depth);
                 }
                 depth -= 1;
                 kind = kinds[depth];
@@ -209,13 +209,21 @@ fn advance(
                 continue;
             }
             Move::Skip(v, l) => {
-                return stopped(Verdict::Incomplete, n, v, heads + 1, l.kind, l.count, depth);
+                return stopped(
+                    Err(NotWhole::Incomplete),
+                    n,
+                    v,
+                    heads + 1,
+                    l.kind,
+                    l.count,
+                    depth,
+                );
             }
             Move::Fault(p) => {
-                return stopped(Verdict::Bad(p), at, 0, heads, kind, count, depth);
+                return stopped(Err(NotWhole::Bad(p)), at, 0, heads, kind, count, depth);
             }
             Move::Lack => {
-                return stopped(Verdict::Incomplete, at, 0, heads, kind, count, depth);
+                return stopped(Err(NotWhole::Incomplete), at, 0, heads, kind, count, depth);
             }
         }
     }
@@ -231,7 +239,7 @@ pub fn resume(s: &[u8], from: usize, n: usize, w: Walk) -> Measured
     let mut counts = w.counts;
     if there < w.skip {
         let r = stopped(
-            Verdict::Incomplete,
+            Err(NotWhole::Incomplete),
             n,
             w.skip - there,
             w.heads,

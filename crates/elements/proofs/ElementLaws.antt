@@ -11,6 +11,7 @@ use lib.Dec.{ltb, leb, eqb}
 use lib.ListN.{length, get_or, drop, drop_of_length-le, length-drop, length-append, get_or-eq_default}
 use lib.Seq.{drop-cons, drop-drop, drop-append_seam}
 use borrow.Author.Tests.{ltb-true, leb-true, eqb-true, lt-ltb, le-leb, eq-eqb, ne_eqb}
+use Rattle.std.specs.Prelude.{Ok, Err}
 use Rattle.base.proofs.Conds.{cond_cases, both_true}
 use Rattle.head.specs.Initial.{initial}
 use Rattle.head.specs.declared.Initial.TheVariants as says
@@ -18,10 +19,8 @@ use Rattle.head.specs.Read.{head_at, head_by}
 use Rattle.head.specs.declared.read.Head.{Head}
 use Rattle.head.specs.declared.read.Head.TheVariants as head
 use Rattle.head.proofs.ReadLaws.{definite_within}
-use Rattle.item.specs.declared.Verdict.{Verdict}
-use Rattle.item.specs.declared.Verdict.TheVariants.{Whole, Bad, Incomplete}
 use Rattle.item.specs.Grammar.{Frame, One, Items, Elements, Pairs, Content, Reads, nest, indefinite, enter, one, no_more, item, end_array, element, end_map, key, value, no_byte}
-use Rattle.item.specs.Verdict.{judge, met, start}
+use Rattle.item.specs.Verdict.{judge, met, start, Verdict}
 use Rattle.item.proofs.Local.{Cuts, cuts}
 use Rattle.item.proofs.Derivative.{nothing}
 use Rattle.item.proofs.Parts.{whole_reads, whole_place, reads_whole}
@@ -175,10 +174,9 @@ module _ (bs : List ℕ) where
 
   -- ---- items
 
-  ended_sound : (v : Verdict) → Ends (λ q. v ≡ Whole q) (ended v)
-  ended_sound (Whole q) = refl
-  ended_sound (Bad q) = tt
-  ended_sound Incomplete = tt
+  ended_sound : (v : Verdict) → Ends (λ q. v ≡ Ok q) (ended v)
+  ended_sound (Ok q) = refl
+  ended_sound (Err e) = tt
 
   -- past the end there is no item
   pub item_past : (d p : ℕ) → length bs < p → Nowhere ≡ item_end bs d p

@@ -1,11 +1,9 @@
 -- What is found at a place: a number, where an item or an element ends, how many elements there are, and what a field says.
-use Rattle.std.specs.Prelude.{ℕ, zero, suc, ◌+◌, ◌-◌, Bool, cond, ◌&&◌, List, eqb, ltb, leb, length, get_or, drop}
+use Rattle.std.specs.Prelude.{ℕ, zero, suc, ◌+◌, ◌-◌, Bool, cond, ◌&&◌, List, eqb, ltb, leb, length, get_or, drop, Ok, Err}
 use Rattle.head.specs.Read.{head_at}
 use Rattle.head.specs.declared.read.Head.{Head}
 use Rattle.head.specs.declared.read.Head.TheVariants as head
-use Rattle.item.specs.declared.Verdict.{Verdict}
-use Rattle.item.specs.declared.Verdict.TheVariants.{Whole, Bad, Incomplete}
-use Rattle.item.specs.Verdict.{judge, start}
+use Rattle.item.specs.Verdict.{judge, start, Verdict}
 use Rattle.elements.specs.declared.Element.{Element}
 use Rattle.elements.specs.declared.Element.TheVariants as element
 use Rattle.elements.specs.declared.Extent.{Extent}
@@ -65,9 +63,8 @@ closed bs Open k p = eqb (get_or bs p 0) Break
 closed bs Rest k p = eqb p (length bs)
 
 abbrev pub ended : Verdict → End
-ended (Whole q) = At q
-ended (Bad q) = Nowhere
-ended Incomplete = Nowhere
+ended (Ok q) = At q
+ended (Err e) = Nowhere
 
 -- Where the item at place p ends.
 unfoldable pub item_end : List ℕ → ℕ → ℕ → End

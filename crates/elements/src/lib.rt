@@ -210,9 +210,8 @@ fn end_of(v: Verdict) -> End
     ensures { result ≡ ended v }
 {
     match v {
-        Verdict::Whole(q) => End::At(q),
-        Verdict::Bad(_) => End::Nowhere,
-        Verdict::Incomplete => End::Nowhere,
+        Ok(q) => End::At(q),
+        Err(_) => End::Nowhere,
     }
 }
 

@@ -18,7 +18,6 @@ ghost use Rattle.std.specs.Prelude.{◌≤◌, length};
 
 use calls::WORDS;
 use input::Lines;
-use item::Verdict;
 use messages::{MOST_PLACES, Message, Reading};
 use output::Pen;
 use rows::Protocol;
@@ -151,7 +150,7 @@ fn show(out: &mut [u8], pen: Pen, p: Protocol, bytes: &[u8], from: usize) -> Pen
 {
     let n = bytes.len();
     let v = cbor::measure(bytes, from, n);
-    let Verdict::Whole(q) = v else {
+    let Ok(q) = v else {
         return output::words(out, pen, b"15 one");
     };
     if q != n {

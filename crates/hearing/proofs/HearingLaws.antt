@@ -8,6 +8,7 @@ use native.Mathlib.Omega.{arith}
 use native.Mathlib.Nat.{mod-eq_of_lt}
 use lib.ListN.{length, get_or, take, drop}
 use borrow.Author.Tests.{lt-ltb, le-ltb}
+use Rattle.std.specs.Prelude.{Ok}
 use Rattle.ring.specs.Ring.{base_of, run}
 use Rattle.ring.specs.Inside.{around}
 use Rattle.ring.proofs.Around.{stream_around}
@@ -15,7 +16,6 @@ use Rattle.ring.proofs.Runs.{run_length}
 use Rattle.ring.proofs.Stores.{stream_length, stream_take}
 use Rattle.wire.specs.Instances.{instances}
 use Rattle.wire.proofs.InstanceLaws.{at_most}
-use Rattle.item.specs.declared.Verdict.TheVariants.{Whole}
 use Rattle.item.specs.Verdict.{verdict}
 use Rattle.connection.specs.declared.Connection.{Connection}
 use Rattle.connection.specs.Areas.{bytes_of}
@@ -76,7 +76,7 @@ module _ (c : Connection) (store : List ℕ) (i : ℕ) where
   pub held_long : length (held_of c store i) ≡ get_or c.receiving.held i 0
   held_long = stream_length store (base_of c.settings.receive i) (get_or c.settings.receive i 0) (get_or c.receiving.starts i 0) _
 
-  pub held_within : (m : ℕ) → verdict (held_of c store i) ≡ Whole m → m ≤ get_or c.receiving.held i 0
+  pub held_within : (m : ℕ) → verdict (held_of c store i) ≡ Ok m → m ≤ get_or c.receiving.held i 0
   held_within m e = omega (arith, whole_within (held_of c store i) m e, held_long)
 
 -- fewer bytes from the same place on

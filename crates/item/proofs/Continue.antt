@@ -7,22 +7,22 @@ use mathlib.Core.Option.{Option, none, some}
 use mathlib.Core.Path.{◌≡◌, refl, sym, ap, ◌∙◌}
 use native.Mathlib.Omega.{arith}
 use lib.ListN.{length}
-use Rattle.item.specs.declared.Verdict.{Verdict}
-use Rattle.item.specs.declared.Verdict.TheVariants.{Whole, Bad, Incomplete}
-use Rattle.item.specs.Verdict.{Stack, step, met, onward, judge}
+use Rattle.std.specs.Prelude.{Ok, Err}
+use Rattle.item.specs.declared.NotWhole.TheVariants.{Bad, Incomplete}
+use Rattle.item.specs.Verdict.{Stack, step, met, onward, judge, Verdict}
 use Rattle.item.specs.Besides.Verdict.{tally, counting, heads}
 use Rattle.item.specs.Besides.Continue.{moved, stands, GoesOn, Settled}
 
-whole_not : {n : ℕ} → Whole n ≡ Incomplete → ⊥
+whole_not : {n : ℕ} → Ok n ≡ Err Incomplete → ⊥
 whole_not p = let z : ◌≡◌ {A = ℕ} 0 1 = cc in omega arith
 
-bad_not : {n : ℕ} → Bad n ≡ Incomplete → ⊥
+bad_not : {n : ℕ} → ◌≡◌ {A = Verdict} (Err (Bad n)) (Err Incomplete) → ⊥
 bad_not p = let z : ◌≡◌ {A = ℕ} 0 1 = cc in omega arith
 
 -- where nothing more is wanted
-judge_met : (bs : List ℕ) (at : ℕ) (fs : Stack) → met fs ≡ true → judge bs at fs ≡ Whole at
+judge_met : (bs : List ℕ) (at : ℕ) (fs : Stack) → met fs ≡ true → judge bs at fs ≡ Ok at
 unfolding judge
-judge_met [] at fs p = ap (λ (t : Bool). cond t (Whole at) Incomplete) p
+judge_met [] at fs p = ap (λ (t : Bool). cond t (Ok at) (Err Incomplete)) p
 judge_met (b ∷ bs) at fs p = ap (λ (t : Bool). onward t at (step fs b) (λ gs. judge bs (suc at) gs)) p
 
 heads_met : (bs : List ℕ) (fs : Stack) → met fs ≡ true → heads bs fs ≡ 0
@@ -36,10 +36,10 @@ goes_on [] ys at fs p = (ap (λ (n : ℕ). judge ys n fs) (omega arith), omega a
 goes_on (b ∷ bs) ys at fs p = of (met fs) (step fs b) (λ gs q. goes_on bs ys (suc at) gs q) p
   where
     of : (t : Bool) (n : Option Stack)
-        → ((gs : Stack) → judge bs (suc at) gs ≡ Incomplete
+        → ((gs : Stack) → judge bs (suc at) gs ≡ Err Incomplete
         → (judge (bs ++ ys) (suc at) gs ≡ judge ys (suc at + length bs) (stands bs gs)) ×
         (heads (bs ++ ys) gs ≡ heads bs gs + heads ys (stands bs gs)))
-        → onward t at n (λ gs. judge bs (suc at) gs) ≡ Incomplete
+        → onward t at n (λ gs. judge bs (suc at) gs) ≡ Err Incomplete
         → (onward t at n (λ gs. judge (bs ++ ys) (suc at) gs) ≡ judge ys (at + suc (length bs)) (moved t n fs (λ gs. stands bs gs)))
         ×
         (counting t (tally fs b) n (λ gs. heads (bs ++ ys) gs) ≡ counting t (tally fs b) n (λ gs. heads bs gs) + heads ys (moved t n fs (λ gs. stands bs gs)))
@@ -53,7 +53,7 @@ pub settled : Settled
 unfolding judge heads
 settled [] ys at fs v p n = of (met fs) refl v p n
   where
-    of : (t : Bool) → met fs ≡ t → (v : Verdict) → cond t (Whole at) Incomplete ≡ v → (v ≡ Incomplete → ⊥) → (judge ys at fs ≡ v) × (heads ys fs ≡ 0)
+    of : (t : Bool) → met fs ≡ t → (v : Verdict) → cond t (Ok at) (Err Incomplete) ≡ v → (v ≡ Err Incomplete → ⊥) → (judge ys at fs ≡ v) × (heads ys fs ≡ 0)
     of true e v q n = (judge_met ys at fs e ∙ q, heads_met ys fs e)
     of false e v q n = absurd (n (sym q))
 settled (b ∷ bs) ys at fs v p n = of (met fs) (step fs b) (λ gs q. settled bs ys (suc at) gs v q n) p

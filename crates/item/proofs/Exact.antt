@@ -9,16 +9,16 @@ use mathlib.Core.Option.{Option, none, some}
 use mathlib.Core.Path.{◌≡◌, refl, sym, ap, subst, subst⁻¹, ◌∙◌}
 use lib.ListN.{length, take}
 use native.Mathlib.Omega.{arith}
+use Rattle.std.specs.Prelude.{Ok, Err}
 use Rattle.base.specs.Numbers.{Bytes}
 use Rattle.head.specs.Initial.{initial}
 use Rattle.head.specs.declared.Major.{Major}
 use Rattle.head.specs.declared.Major.TheVariants as major
 use Rattle.head.specs.declared.Initial.TheVariants.{Break}
-use Rattle.item.specs.declared.Verdict.{Verdict}
-use Rattle.item.specs.declared.Verdict.TheVariants.{Whole, Bad, Incomplete}
+use Rattle.item.specs.declared.NotWhole.TheVariants.{Bad, Incomplete}
 use Rattle.item.specs.Grammar.{Frame, One, Items, Elements, Pairs, Value, Chunks, Content, Second, Argument, content, enter, nest, Reads, one}
 use Rattle.item.specs.Grammar.{no_more, item, end_array, element, end_map, key, value, end_string, no_byte, byte, simple, last, digit}
-use Rattle.item.specs.Verdict.{Stack, nil, push, step, met, onward, judge}
+use Rattle.item.specs.Verdict.{Stack, nil, push, step, met, onward, judge, Verdict}
 use Rattle.item.proofs.Derivative.{Rest, done, then, After, forth, back}
 
 -- bytes that meet what a frame wants, before the bytes cs, each a byte where those are
@@ -121,10 +121,10 @@ abbrev pub Begun : Stack → List ℕ → Type 0
 Begun fs bs = (b : ℕ) × (cs : List ℕ) × Rest fs (bs ++ (b ∷ cs)) × Bytes (b ∷ cs)
 
 abbrev pub Exact : Stack → List ℕ → ℕ → Verdict → Type 0
-Exact fs bs at (Whole n) = (m : ℕ) × (n ≡ at + m) × (m ≤ length bs) × Rest fs (take m bs)
-Exact fs bs at (Bad n) =
+Exact fs bs at (Ok n) = (m : ℕ) × (n ≡ at + m) × (m ≤ length bs) × Rest fs (take m bs)
+Exact fs bs at (Err (Bad n)) =
     (m : ℕ) × (n ≡ at + m) × (m < length bs) × Begun fs (take m bs) × ((cs : List ℕ) → Rest fs (take (suc m) bs ++ cs) → ⊥)
-Exact fs bs at Incomplete = Begun fs bs
+Exact fs bs at (Err Incomplete) = Begun fs bs
 
 begun : (fs : Stack) → met fs ≡ false → Begun fs []
 begun fs p = let r = alive fs in go r.0 r.1 r.2
@@ -141,16 +141,16 @@ from fs {b} {gs} {bs} p r = back fs (subst⁻¹ (λ n. After n bs) p r)
 
 -- one byte earlier
 earlier : (fs gs : Stack) (b : ℕ) (bs : List ℕ) (at : ℕ) → step fs b ≡ some gs → (v : Verdict) → Exact gs bs (suc at) v → Exact fs (b ∷ bs) at v
-earlier fs gs b bs at p (Whole n) (m, e, l, r) = (suc m, omega arith, omega arith, from fs p r)
-earlier fs gs b bs at p (Bad n) (m, e, l, (c, cs, r, o), no_item) =
+earlier fs gs b bs at p (Ok n) (m, e, l, r) = (suc m, omega arith, omega arith, from fs p r)
+earlier fs gs b bs at p (Err (Bad n)) (m, e, l, (c, cs, r, o), no_item) =
     (suc m, omega arith, omega arith, (c, cs, from fs p r, o), λ es q. no_item es (onto p q))
-earlier fs gs b bs at p Incomplete (c, cs, r, o) = (c, cs, from fs p r, o)
+earlier fs gs b bs at p (Err Incomplete) (c, cs, r, o) = (c, cs, from fs p r, o)
 
 pub exact : (bs : List ℕ) (at : ℕ) (fs : Stack) → Exact fs bs at (judge bs at fs)
 unfolding judge
 exact [] at fs = go (met fs) refl
   where
-    go : (t : Bool) → met fs ≡ t → Exact fs [] at (cond t (Whole at) Incomplete)
+    go : (t : Bool) → met fs ≡ t → Exact fs [] at (cond t (Ok at) (Err Incomplete))
     go true p = (0, omega arith, omega arith, met_rest fs p)
     go false p = begun fs p
 exact (b ∷ bs) at fs = go (met fs) refl (step fs b) refl (λ gs. exact bs (suc at) gs)
@@ -162,33 +162,33 @@ exact (b ∷ bs) at fs = go (met fs) refl (step fs b) refl (λ gs. exact bs (suc
     go false p (some gs) q h = earlier fs gs b bs at q (judge bs (suc at) gs) (h gs)
 
 -- and no other verdict says what is so
-only_end : (at : ℕ) (fs : Stack) (t : Bool) → met fs ≡ t → (v : Verdict) → Exact fs [] at v → cond t (Whole at) Incomplete ≡ v
-only_end at fs true p (Whole n) (zero, e, l, r) = ap Whole (omega arith)
-only_end at fs false p (Whole n) (zero, e, l, r) = absurd (false≢true (sym p ∙ rest_met r))
-only_end at fs t p (Whole n) (suc m, e, l, r) = absurd (omega arith)
-only_end at fs t p (Bad n) (m, e, l, r, no_item) = absurd (omega arith)
-only_end at fs true p Incomplete (c, cs, r, o) = absurd (met_none (met_rest fs p) r)
-only_end at fs false p Incomplete x = refl
+only_end : (at : ℕ) (fs : Stack) (t : Bool) → met fs ≡ t → (v : Verdict) → Exact fs [] at v → cond t (Ok at) (Err Incomplete) ≡ v
+only_end at fs true p (Ok n) (zero, e, l, r) = ap Ok (omega arith)
+only_end at fs false p (Ok n) (zero, e, l, r) = absurd (false≢true (sym p ∙ rest_met r))
+only_end at fs t p (Ok n) (suc m, e, l, r) = absurd (omega arith)
+only_end at fs t p (Err (Bad n)) (m, e, l, r, no_item) = absurd (omega arith)
+only_end at fs true p (Err Incomplete) (c, cs, r, o) = absurd (met_none (met_rest fs p) r)
+only_end at fs false p (Err Incomplete) x = refl
 
 only_more : (b : ℕ) (bs : List ℕ) (at : ℕ) (fs : Stack) (t : Bool) → met fs ≡ t → (n : Option Stack) → step fs b ≡ n
     → ((gs : Stack) (v : Verdict) → Exact gs bs (suc at) v → judge bs (suc at) gs ≡ v)
     → (v : Verdict) → Exact fs (b ∷ bs) at v → onward t at n (λ gs. judge bs (suc at) gs) ≡ v
-only_more b bs at fs true p n q h (Whole k) (zero, e, l, r) = ap Whole (omega arith)
-only_more b bs at fs true p n q h (Whole k) (suc m, e, l, r) = absurd (met_none (met_rest fs p) r)
-only_more b bs at fs true p n q h (Bad k) (zero, e, l, (c, cs, r, o), no_item) = absurd (met_none (met_rest fs p) r)
-only_more b bs at fs true p n q h (Bad k) (suc m, e, l, (c, cs, r, o), no_item) = absurd (met_none (met_rest fs p) r)
-only_more b bs at fs true p n q h Incomplete (c, cs, r, o) = absurd (met_none (met_rest fs p) r)
-only_more b bs at fs false p n q h (Whole k) (zero, e, l, r) = absurd (false≢true (sym p ∙ rest_met r))
-only_more b bs at fs false p none q h (Whole k) (suc m, e, l, r) = absurd (onto q r)
-only_more b bs at fs false p (some gs) q h (Whole k) (suc m, e, l, r) = h gs (Whole k) (m, omega arith, omega arith, onto q r)
-only_more b bs at fs false p none q h (Bad k) (zero, e, l, x, no_item) = ap Bad (omega arith)
-only_more b bs at fs false p (some gs) q h (Bad k) (zero, e, l, x, no_item) =
+only_more b bs at fs true p n q h (Ok k) (zero, e, l, r) = ap Ok (omega arith)
+only_more b bs at fs true p n q h (Ok k) (suc m, e, l, r) = absurd (met_none (met_rest fs p) r)
+only_more b bs at fs true p n q h (Err (Bad k)) (zero, e, l, (c, cs, r, o), no_item) = absurd (met_none (met_rest fs p) r)
+only_more b bs at fs true p n q h (Err (Bad k)) (suc m, e, l, (c, cs, r, o), no_item) = absurd (met_none (met_rest fs p) r)
+only_more b bs at fs true p n q h (Err Incomplete) (c, cs, r, o) = absurd (met_none (met_rest fs p) r)
+only_more b bs at fs false p n q h (Ok k) (zero, e, l, r) = absurd (false≢true (sym p ∙ rest_met r))
+only_more b bs at fs false p none q h (Ok k) (suc m, e, l, r) = absurd (onto q r)
+only_more b bs at fs false p (some gs) q h (Ok k) (suc m, e, l, r) = h gs (Ok k) (m, omega arith, omega arith, onto q r)
+only_more b bs at fs false p none q h (Err (Bad k)) (zero, e, l, x, no_item) = ap (λ (z : ℕ). Err (Bad z)) (omega arith)
+only_more b bs at fs false p (some gs) q h (Err (Bad k)) (zero, e, l, x, no_item) =
     let r = alive gs in absurd (no_item r.0 (from fs q r.1))
-only_more b bs at fs false p none q h (Bad k) (suc m, e, l, (c, cs, r, o), no_item) = absurd (onto q r)
-only_more b bs at fs false p (some gs) q h (Bad k) (suc m, e, l, (c, cs, r, o), no_item) =
-    h gs (Bad k) (m, omega arith, omega arith, (c, cs, onto q r, o), λ es x. no_item es (from fs q x))
-only_more b bs at fs false p none q h Incomplete (c, cs, r, o) = absurd (onto q r)
-only_more b bs at fs false p (some gs) q h Incomplete (c, cs, r, o) = h gs Incomplete (c, cs, onto q r, o)
+only_more b bs at fs false p none q h (Err (Bad k)) (suc m, e, l, (c, cs, r, o), no_item) = absurd (onto q r)
+only_more b bs at fs false p (some gs) q h (Err (Bad k)) (suc m, e, l, (c, cs, r, o), no_item) =
+    h gs (Err (Bad k)) (m, omega arith, omega arith, (c, cs, onto q r, o), λ es x. no_item es (from fs q x))
+only_more b bs at fs false p none q h (Err Incomplete) (c, cs, r, o) = absurd (onto q r)
+only_more b bs at fs false p (some gs) q h (Err Incomplete) (c, cs, r, o) = h gs (Err Incomplete) (c, cs, onto q r, o)
 
 pub only : (bs : List ℕ) (at : ℕ) (fs : Stack) (v : Verdict) → Exact fs bs at v → judge bs at fs ≡ v
 unfolding judge

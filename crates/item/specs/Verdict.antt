@@ -1,13 +1,17 @@
 -- The verdict on a run of bytes: what is wanted is a stack, and each byte moves it.
-use Rattle.std.specs.Prelude.{ℕ, zero, suc, ◌+◌, ◌*◌, ◌-◌, List, [], ◌∷◌, Bool, true, false, cond, leb}
+use Rattle.std.specs.Prelude.{ℕ, zero, suc, ◌+◌, ◌*◌, ◌-◌, List, [], ◌∷◌, Bool, true, false, cond, leb, Result, Ok, Err}
 use Rattle.std.proofs.Math.Option.{Option, none, some}
 use Rattle.head.specs.Initial.{initial}
 use Rattle.head.specs.declared.Initial.{Initial}
 use Rattle.head.specs.declared.Initial.TheVariants.{Short, Long, Indefinite, Simple, Break, Reserved}
-use Rattle.item.specs.declared.Verdict.{Verdict}
-use Rattle.item.specs.declared.Verdict.TheVariants.{Whole, Bad, Incomplete}
+use Rattle.item.specs.declared.NotWhole.{NotWhole}
+use Rattle.item.specs.declared.NotWhole.TheVariants.{Bad, Incomplete}
 use Rattle.item.specs.Grammar.{Frame, One, Items, Elements, Pairs, Value, Chunks, Content, Second, Argument, content, enter, enter_chunk}
 use Rattle.item.specs.Grammar.{nesting}
+
+-- The verdict: an item of so many bytes; no item is possible after the byte at this place; an item is still possible.
+abbrev pub Verdict : Type 0
+Verdict = Result ℕ NotWhole
 
 -- What is wanted, the next first, each within its nesting.
 pub data Stack : Type 0 where
@@ -61,13 +65,13 @@ met (push d (Argument m v k) fs) = false
 
 -- At the place `at`: the item is whole; or its next byte ends all hope; or it goes on.
 abbrev pub onward : Bool → ℕ → Option Stack → (Stack → Verdict) → Verdict
-onward true at n k = Whole at
-onward false at none k = Bad at
+onward true at n k = Ok at
+onward false at none k = Err (Bad at)
 onward false at (some fs) k = k fs
 
 -- The verdict on the bytes from the place `at` on, where the stack is wanted.
 unfoldable pub judge : List ℕ → ℕ → Stack → Verdict
-judge [] at fs = cond (met fs) (Whole at) Incomplete
+judge [] at fs = cond (met fs) (Ok at) (Err Incomplete)
 judge (b ∷ bs) at fs = onward (met fs) at (step fs b) (λ gs. judge bs (suc at) gs)
 
 -- One item within the nesting d.

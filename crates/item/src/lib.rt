@@ -7,10 +7,12 @@
 // Nesting at most 16 (house).
 pub const NESTING: usize = 16;
 
-// The verdict: an item of so many bytes; no item is possible after the byte at this place; an item is still possible.
-#[derive(Clone, Copy)]
-pub enum Verdict {
-    Whole(usize),
+// Why a run of bytes is not an item and what follows it: no item is possible after the byte at this place; or one is still possible.
+#[derive(Clone, Copy, PartialEq, Eq)]
+pub enum NotWhole {
     Bad(usize),
     Incomplete,
 }
+
+// The verdict: an item of so many bytes, or why there is none.
+pub type Verdict = Result<usize, NotWhole>;

@@ -9,10 +9,10 @@ use lib.Dec.{eqb}
 use lib.ListN.{length, take}
 use lib.Seq.{length-take-le}
 use borrow.Author.Tests.{eq-eqb, ne_eqb, eqb-true, eqb-false}
+use Rattle.std.specs.Prelude.{Ok, Err}
 use Rattle.base.proofs.Conds.{cond_cases}
-use Rattle.item.specs.declared.Verdict.{Verdict}
-use Rattle.item.specs.declared.Verdict.TheVariants.{Whole, Bad, Incomplete}
-use Rattle.item.specs.Verdict.{verdict}
+use Rattle.item.specs.declared.NotWhole.TheVariants.{Bad, Incomplete}
+use Rattle.item.specs.Verdict.{verdict, Verdict}
 use Rattle.rows.specs.Rows.{done_of}
 use Rattle.connection.specs.Closings.{bytes_bad}
 use Rattle.judging.specs.declared.Outcome.{Outcome}
@@ -38,8 +38,8 @@ module _ (v : View) where
   unfolding heard
   heard_done b d = rw (b, eq-eqb v.state (done_of (spoken v)) d)
 
-  judged_as : Awaited v → (n : ℕ) → verdict v.bytes ≡ Whole n → {j : Judged} → Judges (spoken v) v.state (take n v.bytes) j → heard v ≡ j
-  judged_as w n e q = awaited_so w (Whole n) e ∙ judged_so (spoken v) v.state (take n v.bytes) q
+  judged_as : Awaited v → (n : ℕ) → verdict v.bytes ≡ Ok n → {j : Judged} → Judges (spoken v) v.state (take n v.bytes) j → heard v ≡ j
+  judged_as w n e q = awaited_so w (Ok n) e ∙ judged_so (spoken v) v.state (take n v.bytes) q
 
   unheard_so : {o : Outcome} → Unheard v o → heard v ≡ unjudged o
   unfolding heard
@@ -47,14 +47,14 @@ module _ (v : View) where
   unheard_so (finished b d z) = heard_done b d ∙ rw (eq-eqb (length v.bytes) 0 z)
   unheard_so (past_done b d z) = heard_done b d ∙ rw (ne_eqb (length v.bytes) 0 z)
   unheard_so (our_turn b d o) = rw (b, ne_eqb v.state (done_of (spoken v)) d, o)
-  unheard_so (waiting w e o) = awaited_so w Incomplete e ∙ rw o
-  unheard_so (closed w e o) = awaited_so w Incomplete e ∙ rw o
-  unheard_so (are_bad {at = at} w e) = awaited_so w (Bad at) e
+  unheard_so (waiting w e o) = awaited_so w (Err Incomplete) e ∙ rw o
+  unheard_so (closed w e o) = awaited_so w (Err Incomplete) e ∙ rw o
+  unheard_so (are_bad {at = at} w e) = awaited_so w (Err (Bad at)) e
   unheard_so (not_a_message {n = n} {r = r} w e q none) = judged_as w n e (judging.not_read r q none)
   unheard_so (no_row {n = n} {m = m} w e s x) = judged_as w n e (judging.not_led m s x)
 
   -- the first n bytes are n, if they are an item
-  pub first_long : (n : ℕ) → verdict v.bytes ≡ Whole n → length (take n v.bytes) ≡ n
+  pub first_long : (n : ℕ) → verdict v.bytes ≡ Ok n → length (take n v.bytes) ≡ n
   first_long n e = length-take-le n v.bytes (whole_within v.bytes n e)
 
   heard_so : {j : Judged} → Hears v j → heard v ≡ j
@@ -64,16 +64,16 @@ module _ (v : View) where
 
   -- ---- and one of them holds
 
-  by_judged : Awaited v → (n : ℕ) → verdict v.bytes ≡ Whole n → {j : Judged} → Judges (spoken v) v.state (take n v.bytes) j → Hears v j
+  by_judged : Awaited v → (n : ℕ) → verdict v.bytes ≡ Ok n → {j : Judged} → Judges (spoken v) v.state (take n v.bytes) j → Hears v j
   by_judged w n e (judging.not_read r q none) = refusal (not_a_message w e q none)
   by_judged w n e (judging.not_led m s x) = refusal (no_row w e s x)
   by_judged w n e (judging.message m next s x) =
       rw (first_long n e) (message (record { awaited = w; whole = e; says = s; row = x }))
 
   hears_by_verdict : Awaited v → (d : Verdict) → verdict v.bytes ≡ d → Hears v (by_bytes d)
-  hears_by_verdict w (Whole n) e = by_judged w n e (judges (spoken v) v.state (take n v.bytes))
-  hears_by_verdict w (Bad at) e = refusal (are_bad w e)
-  hears_by_verdict w Incomplete e =
+  hears_by_verdict w (Ok n) e = by_judged w n e (judges (spoken v) v.state (take n v.bytes))
+  hears_by_verdict w (Err (Bad at)) e = refusal (are_bad w e)
+  hears_by_verdict w (Err Incomplete) e =
       cond_cases (λ (o : Outcome). Hears v (unjudged o)) v.closed (λ o. refusal (closed w e o)) (λ o. refusal (waiting w e o))
 
   pub hears : Hears v (heard v)
@@ -109,7 +109,7 @@ unheard_number (not_a_message w e q none) = (omega arith, omega arith)
 unheard_number (no_row w e s x) = (omega arith, omega arith)
 
 -- with 14, the offset is that of the verdict; with any other number it is 0
-pub unheard_bad : {v : View} {o : Outcome} → Unheard v o → outcome_number o ≡ bytes_bad → verdict v.bytes ≡ Bad (outcome_offset o)
+pub unheard_bad : {v : View} {o : Outcome} → Unheard v o → outcome_number o ≡ bytes_bad → verdict v.bytes ≡ Err (Bad (outcome_offset o))
 unheard_bad (no_accept b) z = absurd (omega arith)
 unheard_bad (finished b d q) z = absurd (omega arith)
 unheard_bad (past_done b d q) z = absurd (omega arith)

@@ -8,11 +8,11 @@ use native.Mathlib.Omega.{arith}
 use lib.Dec.{eqb}
 use lib.ListN.{length, take}
 use lib.Seq.{take-take, length-take-le}
+use Rattle.std.specs.Prelude.{Ok}
 use Rattle.ring.specs.Inside.{around}
 use Rattle.ring.proofs.Around.{around_length, around_take}
 use Rattle.wire.specs.declared.instances.Party.{Party}
 use Rattle.wire.specs.Instances.{mode_from, initiates, role_of}
-use Rattle.item.specs.declared.Verdict.TheVariants.{Whole}
 use Rattle.item.specs.Grammar.{nesting}
 use Rattle.item.specs.Verdict.{verdict}
 use Rattle.item.proofs.Theorem.{exactly}
@@ -46,19 +46,19 @@ ours_spoken us i state p e = rw e
 -- ---- the verdict
 
 -- an item is not longer than the bytes that it begins
-pub whole_within : (bs : List ℕ) (m : ℕ) → verdict bs ≡ Whole m → m ≤ length bs
-whole_within bs m e = ((exactly nesting bs (Whole m)).0 e).0
+pub whole_within : (bs : List ℕ) (m : ℕ) → verdict bs ≡ Ok m → m ≤ length bs
+whole_within bs m e = ((exactly nesting bs (Ok m)).0 e).0
 
 -- the bytes of the item alone are that item
-pub whole_alone : (xs : List ℕ) (from n m : ℕ) → n ≤ length xs → verdict (around xs from n) ≡ Whole m
-    → (m ≤ n) × (verdict (around xs from m) ≡ Whole m)
+pub whole_alone : (xs : List ℕ) (from n m : ℕ) → n ≤ length xs → verdict (around xs from n) ≡ Ok m
+    → (m ≤ n) × (verdict (around xs from m) ≡ Ok m)
 whole_alone xs from n m l e =
     let bs : List ℕ = around xs from n in
-    let q = (exactly nesting bs (Whole m)).0 e in
+    let q = (exactly nesting bs (Ok m)).0 e in
     let long : length bs ≡ n = around_length xs from n l in
     let in-n : m ≤ n = omega (arith, q.0) in
-    let alone : verdict (take m bs) ≡ Whole m =
-    (exactly nesting (take m bs) (Whole m)).1 (rw (length-take-le m bs q.0) (omega arith), rw (take-take m m bs (omega arith)) q.1) in
+    let alone : verdict (take m bs) ≡ Ok m =
+    (exactly nesting (take m bs) (Ok m)).1 (rw (length-take-le m bs q.0) (omega arith), rw (take-take m m bs (omega arith)) q.1) in
     (in-n, ap verdict (sym (around_take xs from m n in-n)) ∙ alone)
 
 -- ---- the ways out of the code

@@ -1,11 +1,10 @@
 -- What look, drop and put ask, of one instance (document 01, "Messages and transitions" and "Numbers and their order", where look and drop are take;
 -- document 02, K1, K3 and K4). They apply it to the view that the record gives of the instance.
-use Rattle.std.specs.Prelude.{ℕ, Bool, false, cond, not, ◌&&◌, ◌||◌, List, eqb, length, get_or, set, take}
+use Rattle.std.specs.Prelude.{ℕ, Bool, false, cond, not, ◌&&◌, ◌||◌, List, eqb, length, get_or, set, take, Ok, Err}
 use Rattle.wire.specs.declared.instances.Party.{Party}
 use Rattle.wire.specs.Instances.{handshake, role_of, initiates}
-use Rattle.item.specs.declared.Verdict.{Verdict}
-use Rattle.item.specs.declared.Verdict.TheVariants.{Whole, Bad, Incomplete}
-use Rattle.item.specs.Verdict.{verdict}
+use Rattle.item.specs.declared.NotWhole.TheVariants.{Bad, Incomplete}
+use Rattle.item.specs.Verdict.{verdict, Verdict}
 use Rattle.rows.specs.declared.Protocol.{Protocol}
 use Rattle.rows.specs.declared.Agency.{Agency}
 use Rattle.rows.specs.declared.Agency.TheVariants.{Initiator, Responder, Nobody}
@@ -139,9 +138,9 @@ judged_of p state bs = by_reading p state (length bs) (message_of p bs)
 
 -- the bytes held, by the verdict on them: incomplete, notice 1, or 20 if closed; bad, 14 and which byte; else 15, 16 or a message
 abbrev pub by_verdict : Protocol → ℕ → Bool → List ℕ → Verdict → Judged
-by_verdict p state closed bs Incomplete = unjudged (cond closed Closed Waiting)
-by_verdict p state closed bs (Bad at) = unjudged (BytesBad at)
-by_verdict p state closed bs (Whole n) = judged_of p state (take n bs)
+by_verdict p state closed bs (Err Incomplete) = unjudged (cond closed Closed Waiting)
+by_verdict p state closed bs (Err (Bad at)) = unjudged (BytesBad at)
+by_verdict p state closed bs (Ok n) = judged_of p state (take n bs)
 
 -- look and drop: 19; at Done, notice 3 with nothing held, else 17; our agency, notice 2; and then the bytes decide
 unfoldable pub heard : View → Judged

@@ -6,16 +6,15 @@
 // carries what else is known; `number_of` and `offset_of` tell what an answer says of it.
 #![tactic(auto)]
 
-ghost use Rattle.std.specs.Prelude.{◌≡◌, not, ◌&&◌, cond, ◌≤◌, ◌<◌, eqb, length};
+ghost use Rattle.std.specs.Prelude.{◌≡◌, not, ◌&&◌, cond, ◌≤◌, ◌<◌, eqb, length, Ok};
 ghost use Rattle.ring.specs.Inside.{around};
 ghost use Rattle.wire.specs.Instances.{instances, handshake, initiates, role_of};
-ghost use Rattle.item.specs.declared.Verdict.TheVariants.{Whole};
 ghost use Rattle.item.specs.Verdict.{verdict};
 ghost use Rattle.rows.specs.Rows.{agency_of};
 ghost use Rattle.judging.specs.Judging.{outcome_number, outcome_offset, holds, unjudged, by_row, judged_of, by_verdict, heard, said, marks};
 
 use connection::closings::{AFTER_DONE, BYTES_BAD, NO_MESSAGE, NO_ROW};
-use item::Verdict;
+use item::NotWhole;
 use messages::{Message, Reading};
 use rows::{Agency, Next, Protocol};
 use wire::instances::{HANDSHAKE, Party};
@@ -179,7 +178,7 @@ fn by_row(n: usize, message: Message, next: Next) -> Judged
 
 // The n bytes from the place `from` on of a slice seen as a ring, which were measured, in a state of the protocol.
 fn judge(p: Protocol, state: u64, s: &[u8], from: usize, n: usize) -> Judged
-    requires { (from ≤ length s.now) × (n ≤ length s.now) × (verdict (around s.now from n) ≡ Whole n) }
+    requires { (from ≤ length s.now) × (n ≤ length s.now) × (verdict (around s.now from n) ≡ Ok n) }
     ensures { result ≡ judged_of p state (around s.now from n) }
 {
     let answer = messages::read(p, s, from, n);
@@ -210,9 +209,9 @@ fn measured(p: Protocol, state: u64, closed: bool, area: &[u8], start: usize, n:
 {
     let v = cbor::measure(area, start, n);
     match v {
-        Verdict::Whole(len) => judge(p, state, area, start, len),
-        Verdict::Bad(at) => unjudged(Outcome::BytesBad(at)),
-        Verdict::Incomplete => unjudged(not_whole(closed)),
+        Ok(len) => judge(p, state, area, start, len),
+        Err(NotWhole::Bad(at)) => unjudged(Outcome::BytesBad(at)),
+        Err(NotWhole::Incomplete) => unjudged(not_whole(closed)),
     }
 }
 
@@ -263,7 +262,7 @@ fn no_message() -> Judged
 
 // The slice, whose first n bytes are an item.
 fn judge_item(p: Protocol, state: u64, s: &[u8], n: usize) -> Judged
-    requires { verdict s.now ≡ Whole n }
+    requires { verdict s.now ≡ Ok n }
     ensures { result ≡ judged_of p state s.now }
 {
     if n == s.len() {
@@ -278,9 +277,8 @@ fn judge_slice(p: Protocol, state: u64, s: &[u8]) -> Judged
 {
     let v = cbor::measure_slice(s);
     match v {
-        Verdict::Whole(n) => judge_item(p, state, s, n),
-        Verdict::Bad(_) => no_message(),
-        Verdict::Incomplete => no_message(),
+        Ok(n) => judge_item(p, state, s, n),
+        Err(_) => no_message(),
     }
 }
 

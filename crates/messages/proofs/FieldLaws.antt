@@ -12,7 +12,7 @@ use native.Mathlib.Numerals.{add-one}
 use lib.Dec.{eqb}
 use lib.ListN.{length, get_or, set, drop}
 use lib.Seq.{drop-cons, drop-length}
-use Rattle.item.specs.declared.Verdict.TheVariants.{Whole}
+use Rattle.std.specs.Prelude.{Ok}
 use Rattle.item.specs.Grammar.{One, Items, Reads, item}
 use Rattle.item.specs.Verdict.{verdict}
 use Rattle.item.proofs.Theorem.{one_end}
@@ -220,13 +220,13 @@ module _ (bs : List ℕ) where
     last_known {n} long e f =
         last_told x g (ap (last_end x (c + 1)) long ∙ ap (λ (k : ℕ). last_end x (k + 1) n) (sym is) ∙ sym e ∙ f)
 
-  pub message_array : (p : Protocol) {x : Extent} {a : ℕ} {n : Opening} {r : Answer} → verdict bs ≡ Whole (length bs) → n ≡ opens_at bs array 0
+  pub message_array : (p : Protocol) {x : Extent} {a : ℕ} {n : Opening} {r : Answer} → verdict bs ≡ Ok (length bs) → n ≡ opens_at bs array 0
       → n ≡ opening.At x a → r ≡ numbered_of p bs (count_from bs x a) a → r ≡ message_of p bs
   unfolding message_of
   message_array p w e f g =
       opening_then (failed NotArray) (λ x a. numbered_of p bs (count_from bs x a) a) e f g ∙ sym (rw (w, eq-eqb (length bs) (length bs) refl))
 
-  pub message_none : (p : Protocol) {n : Opening} → verdict bs ≡ Whole (length bs) → n ≡ opens_at bs array 0 → n ≡ opening.Not
+  pub message_none : (p : Protocol) {n : Opening} → verdict bs ≡ Ok (length bs) → n ≡ opens_at bs array 0 → n ≡ opening.Not
       → failed NotArray ≡ message_of p bs
   unfolding message_of
   message_none p w e f =

@@ -11,13 +11,12 @@ use lib.Dec.{eqb}
 use lib.ListN.{length, get_or, drop, length-drop}
 use lib.Seq.{drop-length}
 use borrow.Author.Tests.{eqb-true, eq-eqb}
+use Rattle.std.specs.Prelude.{Ok, Err}
 use Rattle.base.proofs.Conds.{cond_cases}
 use Rattle.head.specs.Read.{head_at}
 use Rattle.head.specs.declared.read.Head.TheVariants as head
-use Rattle.item.specs.declared.Verdict.{Verdict}
-use Rattle.item.specs.declared.Verdict.TheVariants.{Whole, Bad, Incomplete}
 use Rattle.item.specs.Grammar.{One, Items, nesting}
-use Rattle.item.specs.Verdict.{verdict}
+use Rattle.item.specs.Verdict.{verdict, Verdict}
 use Rattle.item.proofs.Parts.{whole_reads, reads_whole}
 use Rattle.item.proofs.Theorem.{one_end}
 use Rattle.rows.specs.declared.Protocol.{Protocol}
@@ -85,16 +84,15 @@ module _ (bs : List ℕ) where
 
   -- ---- the message
 
-  wholly_true : (v : Verdict) (n : ℕ) → wholly v n ≡ true → v ≡ Whole n
-  wholly_true (Whole q) n t = ap Whole (eqb-true q n t)
-  wholly_true (Bad q) n t = absurd (let z : ◌≡◌ {A = ℕ} 0 1 = cc in omega arith)
-  wholly_true Incomplete n t = absurd (let z : ◌≡◌ {A = ℕ} 0 1 = cc in omega arith)
+  wholly_true : (v : Verdict) (n : ℕ) → wholly v n ≡ true → v ≡ Ok n
+  wholly_true (Ok q) n t = ap Ok (eqb-true q n t)
+  wholly_true (Err e) n t = absurd (let z : ◌≡◌ {A = ℕ} 0 1 = cc in omega arith)
 
   -- bytes that are wholly one item are the item from the first place to the last
-  pub whole_item : verdict bs ≡ Whole (length bs) → ItemAt bs nesting 0 (length bs)
+  pub whole_item : verdict bs ≡ Ok (length bs) → ItemAt bs nesting 0 (length bs)
   whole_item e = record { forward = omega arith; inside = omega arith; reads = whole_reads bs 0 (length bs) nesting One e }
 
-  item_whole : ItemAt bs nesting 0 (length bs) → verdict bs ≡ Whole (length bs)
+  item_whole : ItemAt bs nesting 0 (length bs) → verdict bs ≡ Ok (length bs)
   item_whole s = reads_whole bs 0 (length bs) nesting One (omega arith) (omega arith) s.reads
 
   -- two readings of the same items end at the same place

@@ -1,7 +1,6 @@
 -- What only functions below the operations cite, here and in `build`: how the table of forms is laid out, and how far reading has come.
-use Rattle.std.specs.Prelude.{ℕ, ◌+◌, ◌-◌, ◌*◌, ◌/◌, ◌%◌, ◌<◌, ◌≤◌, ◌≡◌, Bool, cond, false, List, [], ◌∷◌, eqb, ltb, length, get_or}
+use Rattle.std.specs.Prelude.{ℕ, ◌+◌, ◌-◌, ◌*◌, ◌/◌, ◌%◌, ◌<◌, ◌≤◌, ◌≡◌, Bool, cond, false, List, [], ◌∷◌, eqb, ltb, length, get_or, Ok}
 use Rattle.std.proofs.Math.Option.{none, some}
-use Rattle.item.specs.declared.Verdict.TheVariants.{Whole}
 use Rattle.item.specs.Verdict.{verdict}
 use Rattle.rows.specs.declared.Protocol.{Protocol}
 use Rattle.rows.specs.Inside.{table}
@@ -76,7 +75,7 @@ Finds p kind Unknown = form_of p kind ≡ none
 -- the bytes are one item, an array of this extent, whose first element is the kind, from this place up to the next
 abbrev pub Begins : List ℕ → Extent → ℕ → ℕ → ℕ → Type 0
 Begins bs x first kind next =
-    (verdict bs ≡ Whole (length bs)) × (opens_at bs array 0 ≡ opening.At x first) × (unsigned_at bs first ≡ Is kind next)
+    (verdict bs ≡ Ok (length bs)) × (opens_at bs array 0 ≡ opening.At x first) × (unsigned_at bs first ≡ Is kind next)
 
 -- reading so many fields, the first of them at this place, came to the place `at` with so many left
 abbrev pub Stopped : List ℕ → ℕ → ℕ → ℕ → ℕ → Type 0

@@ -1,9 +1,7 @@
 -- What reading a message answers, in phases.
-use Rattle.std.specs.Prelude.{ℕ, ◌+◌, Bool, true, false, cond, List, [], ◌∷◌, eqb, length, get_or}
+use Rattle.std.specs.Prelude.{ℕ, ◌+◌, Bool, true, false, cond, List, [], ◌∷◌, eqb, length, get_or, Ok, Err}
 use Rattle.std.proofs.Math.Option.{Option, none, some}
-use Rattle.item.specs.declared.Verdict.{Verdict}
-use Rattle.item.specs.declared.Verdict.TheVariants.{Whole, Bad, Incomplete}
-use Rattle.item.specs.Verdict.{verdict}
+use Rattle.item.specs.Verdict.{verdict, Verdict}
 use Rattle.rows.specs.declared.Protocol.{Protocol}
 use Rattle.rows.specs.declared.Protocol.TheVariants.{Handshake, ChainSync, BlockFetch, TxSubmission, KeepAlive, LocalTxSubmission, LocalStateQuery}
 use Rattle.elements.specs.declared.Element.TheVariants as element
@@ -63,9 +61,8 @@ count_from bs Rest a = 0
 
 -- The bytes are exactly one item. Where they are bad, the verdict has the offset; put and build have no use for it (K3).
 abbrev pub wholly : Verdict → ℕ → Bool
-wholly (Whole q) n = eqb q n
-wholly (Bad q) n = false
-wholly Incomplete n = false
+wholly (Ok q) n = eqb q n
+wholly (Err e) n = false
 
 -- What reading answers: exactly one item; an array that an unsigned number opens; of a kind that the protocol has; with
 -- as many elements as the form; and these are the form's.

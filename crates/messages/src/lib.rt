@@ -7,10 +7,9 @@
 
 pub mod forms;
 
-ghost use Rattle.std.specs.Prelude.{◌≡◌, cond, ℕ, ◌≤◌, ◌<◌, eqb, length, get_or, set};
+ghost use Rattle.std.specs.Prelude.{◌≡◌, cond, ℕ, ◌≤◌, ◌<◌, eqb, length, get_or, set, Ok};
 ghost use Rattle.std.proofs.Math.Option.{some};
 ghost use Rattle.ring.specs.Inside.{around};
-ghost use Rattle.item.specs.declared.Verdict.TheVariants.{Whole};
 ghost use Rattle.item.specs.Verdict.{verdict};
 ghost use Rattle.elements.specs.Besides.Matching.{ItemsAt};
 ghost use Rattle.elements.specs.Matching.{array, in_message};
@@ -303,7 +302,7 @@ fn formed(
 
 // The kind, which opens the array of this extent, its first element at a place.
 fn opened(p: Protocol, s: &[u8], from: usize, n: usize, x: Extent, first: usize) -> Answer
-    requires from_in_bounds { (from ≤ length s.now) × (n ≤ length s.now) × (verdict (around s.now from n) ≡ Whole n) }
+    requires from_in_bounds { (from ≤ length s.now) × (n ≤ length s.now) × (verdict (around s.now from n) ≡ Ok n) }
     requires array_value { opens_at (around s.now from n) array 0 ≡ Opening.At x first }
     ensures { result ≡ numbered_of p (around s.now from n) (count_from (around s.now from n) x first) first }
 {
@@ -316,7 +315,7 @@ fn opened(p: Protocol, s: &[u8], from: usize, n: usize, x: Extent, first: usize)
 
 // Reads the n bytes from the place `from` on of a slice seen as a ring, which are exactly one item within the nesting.
 pub fn read(p: Protocol, s: &[u8], from: usize, n: usize) -> Answer
-    requires { (from ≤ length s.now) × (n ≤ length s.now) × (verdict (around s.now from n) ≡ Whole n) }
+    requires { (from ≤ length s.now) × (n ≤ length s.now) × (verdict (around s.now from n) ≡ Ok n) }
     ensures { result ≡ message_of p (around s.now from n) }
 {
     let array = elements::opens_at(s, from, n, ARRAY, 0);

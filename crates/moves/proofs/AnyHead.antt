@@ -10,6 +10,7 @@ use lib.ListN.{length, take, drop, get_or, length-append, length-drop, get_or-ap
 use lib.Seq.{drop-append-le}
 use native.Mathlib.Omega.{arith}
 use borrow.Author.Tests.{ltb-true}
+use Rattle.std.specs.Prelude.{Err}
 use Rattle.base.specs.Numbers.{number}
 use Rattle.ring.specs.Ring.{run}
 use Rattle.head.specs.Initial.{initial}
@@ -17,7 +18,7 @@ use Rattle.head.specs.declared.Major.{Major}
 use Rattle.head.specs.declared.Major.TheVariants.{Number, Bytes, Text, Array, Map, Tag}
 use Rattle.head.specs.declared.Initial.{Initial}
 use Rattle.head.specs.declared.Initial.TheVariants.{Short, Long, Indefinite, Simple, Break, Reserved}
-use Rattle.item.specs.declared.Verdict.TheVariants.{Bad, Incomplete}
+use Rattle.item.specs.declared.NotWhole.TheVariants.{Bad, Incomplete}
 use Rattle.item.specs.Grammar.{Frame, One, Items, Elements, Pairs, Chunks, Content, Second, Argument, content, indefinite, nesting}
 use Rattle.item.specs.Verdict.{Stack, push}
 use Rattle.item.specs.Besides.Verdict.{alone}
@@ -73,44 +74,44 @@ module _ (xs : List ℕ) (at k c d : ℕ) (l : at < length xs) (s : 0 < k + c) w
       (number_here xs ys (at + 1) (j + 1) (omega arith))
 
   pub cut_long : (m : Major) (j : ℕ) → initial (get_or xs at 0) ≡ Long m j → may_begin k d m ≡ true → length xs - (at + 1) ≤ j
-      → Stops xs at k c d Incomplete
+      → Stops xs at k c d (Err Incomplete)
   cut_long m j e p q fs h =
       later xs at h (nesting - d) (frame_of k c) fs l (level_holds k c) (level_unspent k c s) (Long m j) (Argument m 0 j) e (may_long k c d m j p) refl
       ∙ tell_cut xs (at + 1) h j 0 (nesting - d - 1) m (push (nesting - d) (kept (frame_of k c)) fs) q
 
   -- a first byte that may not stand here
   refused : (i : Initial) → initial (get_or xs at 0) ≡ i → begins (frame_of k c) (nesting - d) i ≡ none → NoBreak i (frame_of k c)
-      → Stops xs at k c d (Bad at)
+      → Stops xs at k c d (Err (Bad at))
   refused i e p q fs h = tell_refused xs at h (nesting - d) (frame_of k c) fs l (level_holds k c) (level_unspent k c s) i e p q
 
-  pub no_short : (m : Major) (v : ℕ) → initial (get_or xs at 0) ≡ Short m v → may_begin k d m ≡ false → Stops xs at k c d (Bad at)
+  pub no_short : (m : Major) (v : ℕ) → initial (get_or xs at 0) ≡ Short m v → may_begin k d m ≡ false → Stops xs at k c d (Err (Bad at))
   no_short m v e p = refused (Short m v) e (may_not_short k c d m v p) tt
 
-  pub no_long : (m : Major) (j : ℕ) → initial (get_or xs at 0) ≡ Long m j → may_begin k d m ≡ false → Stops xs at k c d (Bad at)
+  pub no_long : (m : Major) (j : ℕ) → initial (get_or xs at 0) ≡ Long m j → may_begin k d m ≡ false → Stops xs at k c d (Err (Bad at))
   no_long m j e p = refused (Long m j) e (may_not_long k c d m j p) tt
 
-  pub no_chunk : (m : Major) → initial (get_or xs at 0) ≡ Indefinite m → 4 ≤ k → Stops xs at k c d (Bad at)
+  pub no_chunk : (m : Major) → initial (get_or xs at 0) ≡ Indefinite m → 4 ≤ k → Stops xs at k c d (Err (Bad at))
   no_chunk m e p = refused (Indefinite m) e (chunk_indefinite k c (nesting - d) m p) tt
 
-  pub no_room : (m : Major) → initial (get_or xs at 0) ≡ Indefinite m → k < 4 → room_for m d ≡ false → Stops xs at k c d (Bad at)
+  pub no_room : (m : Major) → initial (get_or xs at 0) ≡ Indefinite m → k < 4 → room_for m d ≡ false → Stops xs at k c d (Err (Bad at))
   no_room m e h p = refused (Indefinite m) e (item_indefinite k c (nesting - d) m h ∙ indefinite_none m d p) tt
 
   -- no number and no tag has an indefinite length
-  pub no_number : initial (get_or xs at 0) ≡ Indefinite Number → k < 4 → Stops xs at k c d (Bad at)
+  pub no_number : initial (get_or xs at 0) ≡ Indefinite Number → k < 4 → Stops xs at k c d (Err (Bad at))
   unfolding indefinite
   no_number e h = refused (Indefinite Number) e (item_indefinite k c (nesting - d) Number h) tt
 
-  pub no_tag : initial (get_or xs at 0) ≡ Indefinite Tag → k < 4 → Stops xs at k c d (Bad at)
+  pub no_tag : initial (get_or xs at 0) ≡ Indefinite Tag → k < 4 → Stops xs at k c d (Err (Bad at))
   unfolding indefinite
   no_tag e h = refused (Indefinite Tag) e (item_indefinite k c (nesting - d) Tag h) tt
 
-  pub no_simple : initial (get_or xs at 0) ≡ Simple → 4 ≤ k → Stops xs at k c d (Bad at)
+  pub no_simple : initial (get_or xs at 0) ≡ Simple → 4 ≤ k → Stops xs at k c d (Err (Bad at))
   no_simple e p = refused Simple e (chunk_simple k c (nesting - d) p) tt
 
-  pub no_reserved : initial (get_or xs at 0) ≡ Reserved → Stops xs at k c d (Bad at)
+  pub no_reserved : initial (get_or xs at 0) ≡ Reserved → Stops xs at k c d (Err (Bad at))
   no_reserved e = refused Reserved e (never_reserved k c (nesting - d)) tt
 
-  pub no_end : initial (get_or xs at 0) ≡ Break → breakable (frame_of k c) ≡ false → Stops xs at k c d (Bad at)
+  pub no_end : initial (get_or xs at 0) ≡ Break → breakable (frame_of k c) ≡ false → Stops xs at k c d (Err (Bad at))
   no_end e p = refused Break e (never_break k c (nesting - d)) p
 
   -- a break: from then on the level wants nothing
@@ -140,11 +141,11 @@ module _ (xs : List ℕ) (at k c d : ℕ) (l : at < length xs) (s : 0 < k + c) w
   second_here e p fs h =
       later xs at h (nesting - d) (frame_of k c) fs l (level_holds k c) (level_unspent k c s) Simple Second e (item_simple k c (nesting - d) p) refl
 
-  pub simple_cut : initial (get_or xs at 0) ≡ Simple → k < 4 → length xs ≡ at + 1 → Stops xs at k c d Incomplete
+  pub simple_cut : initial (get_or xs at 0) ≡ Simple → k < 4 → length xs ≡ at + 1 → Stops xs at k c d (Err Incomplete)
   simple_cut e p q fs h =
       second_here e p fs h ∙ tell_no_second xs (at + 1) h (nesting - d - 1) (push (nesting - d) (kept (frame_of k c)) fs) (omega arith)
 
-  pub simple_low : initial (get_or xs at 0) ≡ Simple → k < 4 → at + 1 < length xs → get_or xs (at + 1) 0 < 32 → Stops xs at k c d (Bad (at + 1))
+  pub simple_low : initial (get_or xs at 0) ≡ Simple → k < 4 → at + 1 < length xs → get_or xs (at + 1) 0 < 32 → Stops xs at k c d (Err (Bad (at + 1)))
   simple_low e p q b fs h =
       second_here e p fs h ∙ tell_low xs (at + 1) h (nesting - d - 1) (push (nesting - d) (kept (frame_of k c)) fs) q b
 
@@ -269,7 +270,7 @@ module _ (xs : List ℕ) (at k c d : ℕ) (l : at < length xs) (s : 0 < k + c) w
         (record { tall = omega arith; low = λ a b. omega arith; none = λ a. absurd (omega arith) })
 
 -- The bytes end where a head is wanted.
-pub lacks : (xs : List ℕ) (at k c d : ℕ) → length xs ≤ at → 0 < k + c → Stops xs at k c d Incomplete
+pub lacks : (xs : List ℕ) (at k c d : ℕ) → length xs ≤ at → 0 < k + c → Stops xs at k c d (Err Incomplete)
 lacks xs at k c d l s fs h = tell_out xs at h (nesting - d) (frame_of k c) fs l (level_holds k c) (level_unspent k c s)
 
 -- Where an array, a map or a tag may begin, items are wanted, and the nesting has room.

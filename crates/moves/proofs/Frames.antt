@@ -9,12 +9,13 @@ use lib.Dec.{ltb, leb, eqb, eqb-suc-zero}
 use lib.ListN.{length, get_or}
 use native.Mathlib.Omega.{arith}
 use borrow.Author.Tests.{ne_eqb, ltb-true, ltb-false, eqb-true, eqb-false, le-leb}
+use Rattle.std.specs.Prelude.{Err}
 use Rattle.head.specs.Initial.{initial}
 use Rattle.head.specs.declared.Major.{Major}
 use Rattle.head.specs.declared.Major.TheVariants.{Number, Bytes, Text, Array, Map, Tag}
 use Rattle.head.specs.declared.Initial.{Initial}
 use Rattle.head.specs.declared.Initial.TheVariants.{Short, Long, Indefinite, Simple, Break, Reserved}
-use Rattle.item.specs.declared.Verdict.TheVariants.{Bad, Incomplete}
+use Rattle.item.specs.declared.NotWhole.TheVariants.{Bad, Incomplete}
 use Rattle.item.specs.Grammar.{Frame, One, Items, Elements, Pairs, Value, Chunks, Content, Second, Argument, content, within, nest, indefinite, alike}
 use Rattle.item.specs.Grammar.{enter, enter_chunk, nesting}
 use Rattle.item.specs.Verdict.{Stack, push, into, or_break, step, met}
@@ -133,7 +134,7 @@ module _ (zs : List ℕ) (at h d : ℕ) (f : Frame) (fs : Stack) (l : at < lengt
       ∙ ap (λ (t : ℕ). tell zs (at + 1) (h + t) (push (d - 1) g (push d (kept f) fs)))
       (tally_head f d fs (get_or zs at 0) holds unspent ∙ ap alone e)
 
-  pub tell_refused : (i : Initial) → initial (get_or zs at 0) ≡ i → begins f d i ≡ none → NoBreak i f → tell zs at h (push d f fs) ≡ (Bad at, h)
+  pub tell_refused : (i : Initial) → initial (get_or zs at 0) ≡ i → begins f d i ≡ none → NoBreak i f → tell zs at h (push d f fs) ≡ (Err (Bad at), h)
   tell_refused i e p q =
       tell_bad zs at h (push d f fs) l (unmet f d fs holds unspent)
       (step-none f d fs (get_or zs at 0) holds unspent (ap (begins f d) e ∙ p) (subst⁻¹ (λ (j : Initial). NoBreak j f) e q))
@@ -144,7 +145,7 @@ module _ (zs : List ℕ) (at h d : ℕ) (f : Frame) (fs : Stack) (l : at < lengt
       ∙ ap (λ (t : ℕ). tell zs (at + 1) (h + t) fs) (tally_head f d fs (get_or zs at 0) holds unspent ∙ ap alone e)
 
 pub tell_out : (zs : List ℕ) (at h d : ℕ) (f : Frame) (fs : Stack) → length zs ≤ at → Holds f → spent f ≡ false
-    → tell zs at h (push d f fs) ≡ (Incomplete, h)
+    → tell zs at h (push d f fs) ≡ ((Err Incomplete), h)
 tell_out zs at h d f fs l holds unspent = tell_end zs at h (push d f fs) l (unmet f d fs holds unspent)
 
 -- What a level stands for.

@@ -11,12 +11,12 @@ use lib.Seq.{drop-cons, drop-drop, take-append-le}
 use native.Mathlib.Omega.{arith}
 use native.Mathlib.Numerals.{add-one}
 use borrow.Author.Tests.{le-leb, lt-leb}
+use Rattle.std.specs.Prelude.{Ok, Err}
 use Rattle.base.specs.Numbers.{spelled, number}
 use Rattle.head.specs.declared.Major.{Major}
-use Rattle.item.specs.declared.Verdict.{Verdict}
-use Rattle.item.specs.declared.Verdict.TheVariants.{Whole, Bad, Incomplete}
+use Rattle.item.specs.declared.NotWhole.TheVariants.{Bad, Incomplete}
 use Rattle.item.specs.Grammar.{Items, Content, Second, Argument, One, content}
-use Rattle.item.specs.Verdict.{Stack, nil, push, step, met, onward, judge}
+use Rattle.item.specs.Verdict.{Stack, nil, push, step, met, onward, judge, Verdict}
 use Rattle.item.specs.Besides.Verdict.{tally, counting, heads}
 use Rattle.moves.specs.Inside.Levels.{tell}
 
@@ -34,18 +34,18 @@ say_step b bs at h fs gs p q =
     pair (ap₂ (λ t n. onward t at n (λ gs. judge bs (suc at) gs)) p q)
     (ap₂ (λ t n. h + counting t (tally fs b) n (λ gs. heads bs gs)) p q ∙ omega arith)
 
-say_bad : (b : ℕ) (bs : List ℕ) (at h : ℕ) (fs : Stack) → met fs ≡ false → step fs b ≡ none → say (b ∷ bs) at h fs ≡ (Bad at, h)
+say_bad : (b : ℕ) (bs : List ℕ) (at h : ℕ) (fs : Stack) → met fs ≡ false → step fs b ≡ none → say (b ∷ bs) at h fs ≡ (Err (Bad at), h)
 unfolding judge heads
 say_bad b bs at h fs p q =
     pair (ap₂ (λ t n. onward t at n (λ gs. judge bs (suc at) gs)) p q)
     (ap₂ (λ t n. h + counting t (tally fs b) n (λ gs. heads bs gs)) p q ∙ omega arith)
 
-say_end : (at h : ℕ) (fs : Stack) → met fs ≡ false → say [] at h fs ≡ (Incomplete, h)
+say_end : (at h : ℕ) (fs : Stack) → met fs ≡ false → say [] at h fs ≡ ((Err Incomplete), h)
 unfolding judge heads
-say_end at h fs p = pair (ap (λ (t : Bool). cond t (Whole at) Incomplete) p) (omega arith)
+say_end at h fs p = pair (ap (λ (t : Bool). cond t (Ok at) (Err Incomplete)) p) (omega arith)
 
 -- nothing more is wanted at all
-say_nil : (bs : List ℕ) (at h : ℕ) → say bs at h nil ≡ (Whole at, h)
+say_nil : (bs : List ℕ) (at h : ℕ) → say bs at h nil ≡ (Ok at, h)
 unfolding judge heads met
 say_nil [] at h = pair refl (omega arith)
 say_nil (b ∷ bs) at h = pair refl (omega arith)
@@ -114,7 +114,7 @@ say_argument (suc k) (x ∷ bs) at h d m v fs l =
     ∙ ap (λ (n : ℕ). say (drop (suc k) bs) n (h + 1) (push d (content m (spelled (v * 256 + x) (take (suc k) bs))) fs)) (omega arith)
 
 say_cut : (k : ℕ) (bs : List ℕ) (at h d : ℕ) (m : Major) (v : ℕ) (fs : Stack) → length bs ≤ k
-    → say bs at h (push d (Argument m v k) fs) ≡ (Incomplete, h)
+    → say bs at h (push d (Argument m v k) fs) ≡ ((Err Incomplete), h)
 unfolding met
 say_cut k [] at h d m v fs l = say_end at h (push d (Argument m v k) fs) refl
 say_cut zero (x ∷ bs) at h d m v fs l = absurd (omega arith)
@@ -128,14 +128,14 @@ module _ (zs : List ℕ) (at h : ℕ) where
       ap (λ (bs : List ℕ). say bs at h fs) (drop-cons zs at 0 l) ∙ say_step (get_or zs at 0) (drop (suc at) zs) at h fs gs p q
       ∙ ap (λ (n : ℕ). say (drop n zs) n (h + tally fs (get_or zs at 0)) gs) (sym (add-one at))
 
-  pub tell_bad : (fs : Stack) → at < length zs → met fs ≡ false → step fs (get_or zs at 0) ≡ none → tell zs at h fs ≡ (Bad at, h)
+  pub tell_bad : (fs : Stack) → at < length zs → met fs ≡ false → step fs (get_or zs at 0) ≡ none → tell zs at h fs ≡ (Err (Bad at), h)
   tell_bad fs l p q =
       ap (λ (bs : List ℕ). say bs at h fs) (drop-cons zs at 0 l) ∙ say_bad (get_or zs at 0) (drop (suc at) zs) at h fs p q
 
-  pub tell_end : (fs : Stack) → length zs ≤ at → met fs ≡ false → tell zs at h fs ≡ (Incomplete, h)
+  pub tell_end : (fs : Stack) → length zs ≤ at → met fs ≡ false → tell zs at h fs ≡ ((Err Incomplete), h)
   tell_end fs l p = ap (λ (bs : List ℕ). say bs at h fs) (drop_of_length-le zs {i = at} l) ∙ say_end at h fs p
 
-  pub tell_nil : tell zs at h nil ≡ (Whole at, h)
+  pub tell_nil : tell zs at h nil ≡ (Ok at, h)
   tell_nil = say_nil (drop at zs) at h
 
   pub tell_none : (d : ℕ) (fs : Stack) → tell zs at h (push d (Items zero) fs) ≡ tell zs at h fs
@@ -172,7 +172,7 @@ module _ (zs : List ℕ) (at h : ℕ) where
       ∙ ap (λ (bs : List ℕ). say bs (at + suc k) (h + 1) (push d (content m (spelled v (take (suc k) (drop at zs)))) fs)) (drop-drop (suc k) at zs)
       ∙ ap (λ (j : ℕ). tell zs (at + j) (h + 1) (push d (content m (spelled v (take j (drop at zs)))) fs)) (sym (add-one k))
 
-  pub tell_cut : (k v d : ℕ) (m : Major) (fs : Stack) → length zs - at ≤ k → tell zs at h (push d (Argument m v k) fs) ≡ (Incomplete, h)
+  pub tell_cut : (k v d : ℕ) (m : Major) (fs : Stack) → length zs - at ≤ k → tell zs at h (push d (Argument m v k) fs) ≡ ((Err Incomplete), h)
   tell_cut k v d m fs l = say_cut k (drop at zs) at h d m v fs (omega (arith, length-drop at zs))
 
   -- the byte of a simple value
@@ -181,16 +181,16 @@ module _ (zs : List ℕ) (at h : ℕ) where
   tell_high d fs l k =
       tell_step (push d Second fs) fs l refl (ap (λ (t : Bool). cond t (some fs) none) (le-leb 32 (get_or zs at 0) k))
 
-  pub tell_low : (d : ℕ) (fs : Stack) → at < length zs → get_or zs at 0 < 32 → tell zs at h (push d Second fs) ≡ (Bad at, h)
+  pub tell_low : (d : ℕ) (fs : Stack) → at < length zs → get_or zs at 0 < 32 → tell zs at h (push d Second fs) ≡ (Err (Bad at), h)
   unfolding met step
   tell_low d fs l k = tell_bad (push d Second fs) l refl (ap (λ (t : Bool). cond t (some fs) none) (lt-leb 32 (get_or zs at 0) k))
 
-  pub tell_no_second : (d : ℕ) (fs : Stack) → length zs ≤ at → tell zs at h (push d Second fs) ≡ (Incomplete, h)
+  pub tell_no_second : (d : ℕ) (fs : Stack) → length zs ≤ at → tell zs at h (push d Second fs) ≡ ((Err Incomplete), h)
   unfolding met
   tell_no_second d fs l = tell_end (push d Second fs) l refl
 
   -- bytes of a string are wanted, and there are none
-  pub tell_starved : (v d : ℕ) (fs : Stack) → length zs ≤ at → 0 < v → tell zs at h (push d (Content v) fs) ≡ (Incomplete, h)
+  pub tell_starved : (v d : ℕ) (fs : Stack) → length zs ≤ at → 0 < v → tell zs at h (push d (Content v) fs) ≡ ((Err Incomplete), h)
   unfolding met
   tell_starved zero d fs l p = absurd (omega arith)
   tell_starved (suc v) d fs l p = tell_end (push d (Content (suc v)) fs) l refl

@@ -12,15 +12,15 @@ use lib.Dec.{eqb, leb, ltb}
 use lib.ListN as lists
 use lib.ListN.{length, get_or}
 use lib.Seq.{drop_at}
+use Rattle.std.specs.Prelude.{Ok, Err}
 use Rattle.base.proofs.Conds.{by_test, cond_cases}
 use Rattle.ring.specs.Ring.{base_of}
 use Rattle.wire.specs.declared.instances.Party.{Party}
 use Rattle.wire.specs.Segments.{Carried, Divided}
 use Rattle.wire.specs.Instances.{instances}
 use Rattle.wire.proofs.SegmentLaws.{divided_once}
-use Rattle.item.specs.declared.Verdict.{Verdict}
-use Rattle.item.specs.declared.Verdict.TheVariants.{Whole, Bad, Incomplete}
-use Rattle.item.specs.Verdict.{verdict}
+use Rattle.item.specs.declared.NotWhole.TheVariants.{Bad, Incomplete}
+use Rattle.item.specs.Verdict.{verdict, Verdict}
 use Rattle.rows.specs.declared.Protocol.{Protocol}
 use Rattle.rows.specs.declared.Next.{Next}
 use Rattle.rows.specs.Spoken.{speaks}
@@ -99,9 +99,9 @@ judged_alike {xs = xs} (message m to s x) = alike (led (length xs) m to) (λ z. 
 
 turned_by_verdict : (v : View) (d : Verdict)
     → Turned (by_verdict (spoken v) v.state true v.bytes d) (by_verdict (spoken v) v.state false v.bytes d)
-turned_by_verdict v Incomplete = turned
-turned_by_verdict v (Bad at) = alike (unjudged (outcome.BytesBad at)) (λ z. omega arith)
-turned_by_verdict v (Whole n) = judged_alike (judges (spoken v) v.state (lists.take n v.bytes))
+turned_by_verdict v (Err Incomplete) = turned
+turned_by_verdict v (Err (Bad at)) = alike (unjudged (outcome.BytesBad at)) (λ z. omega arith)
+turned_by_verdict v (Ok n) = judged_alike (judges (spoken v) v.state (lists.take n v.bytes))
 
 closed_turns : (v : View) → Turned (judge (but v true)) (judge (but v false))
 unfolding judge heard

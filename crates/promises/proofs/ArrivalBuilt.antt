@@ -9,8 +9,8 @@ use native.Mathlib.Omega.{arith}
 use native.Mathlib.Numerals.{add-one}
 use lib.ListN.{length, get_or, set, take, length-set, length-take}
 use lib.Seq.{sets, take-suc-set, get_or-set_same, get_or-set_other}
+use Rattle.std.specs.Prelude.{Ok}
 use Rattle.ring.specs.Ring as ring
-use Rattle.item.specs.declared.Verdict.TheVariants.{Whole}
 use Rattle.item.specs.Grammar.{Item, nesting}
 use Rattle.item.proofs.Theorem.{exactly}
 use Rattle.rows.specs.declared.Protocol.{Protocol}
@@ -145,7 +145,7 @@ module _ (w : World) (i : ℕ) (bs : List ℕ) (m : Message) (next : ℕ) (asked
         spells =
             record {
               awaited = awaited;
-              whole = (exactly nesting (holding w i) (Whole n)).1 (all, rw held it);
+              whole = (exactly nesting (holding w i) (Ok n)).1 (all, rw held it);
               says = subst (λ (xs : List ℕ). Says (speaks c.settings.party.bundle i) xs m) (sym held) says;
               row = row;
             };

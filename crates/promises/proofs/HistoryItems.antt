@@ -8,7 +8,7 @@ use native.Mathlib.Omega.{arith}
 use lib.ListN as lists
 use lib.ListN.{length, length-append}
 use lib.Seq.{take_at, drop_at}
-use Rattle.item.specs.declared.Verdict.TheVariants.{Whole}
+use Rattle.std.specs.Prelude.{Ok}
 use Rattle.item.specs.Grammar.{Item, nesting}
 use Rattle.item.specs.Verdict.{verdict}
 use Rattle.item.proofs.Theorem.{exactly}
@@ -55,10 +55,10 @@ spelled_long (a_drop {bs = bs} {ms = ms} h s) = omega (arith, h.long, spelled_lo
 
 one_item_lem : (a b x y : List ℕ) → Item nesting a → Item nesting b → a ++ x ≡ b ++ y → (a ≡ b) × (x ≡ y)
 one_item_lem a b x y g h e =
-    let whole : (c z : List ℕ) → Item nesting c → verdict (c ++ z) ≡ Whole (length c) =
-    λ c z k. (exactly nesting (c ++ z) (Whole (length c))).1 (omega (arith, length-append c z), rw (take_at c z (length c) refl) k) in
-    let p : verdict (a ++ x) ≡ Whole (length a) = whole a x g in
-    let q : verdict (a ++ x) ≡ Whole (length b) = ap verdict e ∙ whole b y h in
+    let whole : (c z : List ℕ) → Item nesting c → verdict (c ++ z) ≡ Ok (length c) =
+    λ c z k. (exactly nesting (c ++ z) (Ok (length c))).1 (omega (arith, length-append c z), rw (take_at c z (length c) refl) k) in
+    let p : verdict (a ++ x) ≡ Ok (length a) = whole a x g in
+    let q : verdict (a ++ x) ≡ Ok (length b) = ap verdict e ∙ whole b y h in
     let n : length b ≡ length a = cc in (
       sym (take_at a x (length a) refl) ∙ ap (lists.take (length a)) e ∙ take_at b y (length a) n,
       sym (drop_at a x (length a) refl) ∙ ap (lists.drop (length a)) e ∙ drop_at b y (length a) n,

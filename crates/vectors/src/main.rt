@@ -15,7 +15,7 @@
 ghost use Rattle.std.specs.Prelude.{◌<◌, ◌≤◌, length};
 
 use input::Lines;
-use item::Verdict;
+use item::{NotWhole, Verdict};
 use output::Pen;
 use script::runs::Run;
 use script::{Word, runs};
@@ -181,34 +181,34 @@ fn measured(store: &[u8; ROOM], from: usize, n: usize) -> Verdict
 // Whether two verdicts are the same, by cases.
 fn agree(v: Verdict, w: Verdict) -> bool {
     match v {
-        Verdict::Whole(n) => whole(w, n),
-        Verdict::Bad(at) => bad(w, at),
-        Verdict::Incomplete => incomplete(w),
+        Ok(n) => whole(w, n),
+        Err(NotWhole::Bad(at)) => bad(w, at),
+        Err(NotWhole::Incomplete) => incomplete(w),
     }
 }
 
 // The three cases, each with its number.
 fn whole(v: Verdict, n: usize) -> bool {
     match v {
-        Verdict::Whole(m) => m == n,
-        Verdict::Bad(_) => false,
-        Verdict::Incomplete => false,
+        Ok(m) => m == n,
+        Err(NotWhole::Bad(_)) => false,
+        Err(NotWhole::Incomplete) => false,
     }
 }
 
 fn bad(v: Verdict, at: usize) -> bool {
     match v {
-        Verdict::Whole(_) => false,
-        Verdict::Bad(m) => m == at,
-        Verdict::Incomplete => false,
+        Ok(_) => false,
+        Err(NotWhole::Bad(m)) => m == at,
+        Err(NotWhole::Incomplete) => false,
     }
 }
 
 fn incomplete(v: Verdict) -> bool {
     match v {
-        Verdict::Whole(_) => false,
-        Verdict::Bad(_) => false,
-        Verdict::Incomplete => true,
+        Ok(_) => false,
+        Err(NotWhole::Bad(_)) => false,
+        Err(NotWhole::Incomplete) => true,
     }
 }
 
@@ -233,9 +233,9 @@ fn chosen(so: bool, first: usize, second: usize) -> usize {
 // A verdict in words, with its number.
 fn verdict(out: &mut [u8], p: Pen, v: Verdict, longest: usize) -> Pen {
     match v {
-        Verdict::Whole(n) => count(out, p, b" whole", n),
-        Verdict::Bad(at) => offset(out, p, at, longest),
-        Verdict::Incomplete => output::words(out, p, b" incomplete"),
+        Ok(n) => count(out, p, b" whole", n),
+        Err(NotWhole::Bad(at)) => offset(out, p, at, longest),
+        Err(NotWhole::Incomplete) => output::words(out, p, b" incomplete"),
     }
 }
 

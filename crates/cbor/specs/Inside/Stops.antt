@@ -1,6 +1,6 @@
 -- Where a walk stopped, and the walk that it then is.
+use Rattle.item.specs.Verdict.{Verdict}
 use Rattle.std.specs.Prelude.{ℕ, List}
-use Rattle.item.specs.declared.Verdict.{Verdict}
 use Rattle.cbor.specs.declared.Stop.{Stop}
 use Rattle.cbor.specs.declared.Walk.{Walk}
 use Rattle.cbor.specs.Inside.Walk.{walk_of}

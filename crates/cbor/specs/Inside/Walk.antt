@@ -1,8 +1,7 @@
 -- What a walk under way stands for, and what taking it up again gives.
 use Rattle.std.specs.Prelude.{ℕ, zero, suc, ◌+◌, ◌-◌, ◌≤◌, ◌<◌, List, ◌++◌, ◌≡◌, length, get_or, replicate}
-use Rattle.item.specs.declared.Verdict.{Verdict}
 use Rattle.item.specs.Grammar.{Content, nesting}
-use Rattle.item.specs.Verdict.{Stack, nil, push}
+use Rattle.item.specs.Verdict.{Stack, nil, push, Verdict}
 use Rattle.moves.specs.Inside.Levels.{frame_of, tell, Good}
 use Rattle.cbor.specs.declared.Walk.{Walk}
 

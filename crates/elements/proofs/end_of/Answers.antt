@@ -3,5 +3,5 @@ use mathlib.Core.Path.{sym, ap}
 use Rattle.elements.specs.Reading.{ended}
 use Rattle.elements.proofs.end_of.Goals as goal
 
-pub returns-in-Whole : goal.returns-in-Whole
-returns-in-Whole c = ap ended (sym c.in-Whole.is)
+pub returns-in-Ok : goal.returns-in-Ok
+returns-in-Ok c = ap ended (sym c.in-Ok.is)

@@ -1,8 +1,8 @@
 -- What is heard, exactly when (document 01, "Numbers and their order"), which byte is bad, and what a closing names, as statements.
-use Rattle.std.specs.Prelude.{ℕ, suc, ◌≤◌, ◌≡◌, true, false, List, ◌↔◌, length, take}
+use Rattle.std.specs.Prelude.{ℕ, suc, ◌≤◌, ◌≡◌, true, false, List, ◌↔◌, length, take, Err}
 use Rattle.std.proofs.Math.Option.{some}
 use Rattle.wire.specs.Instances.{instances}
-use Rattle.item.specs.declared.Verdict.TheVariants.{Bad, Incomplete}
+use Rattle.item.specs.declared.NotWhole.TheVariants.{Bad, Incomplete}
 use Rattle.item.specs.Verdict.{verdict}
 use Rattle.messages.specs.declared.Message.{Message}
 use Rattle.messages.specs.Matching.{begun}
@@ -49,8 +49,8 @@ done n m = record { number = 0; len = n; offset = 0; message = m }
 -- K3: with 14, the offset tells which byte: so many of the bytes held are incomplete, and with one more they are bad, which holds of one offset alone
 -- (`item` `FirstBad`). With any other number it is 0.
 pub record Offset (bs : List ℕ) (s : Shown) : Type 0 where
-  pub before : s.number ≡ bytes_bad → verdict (take s.offset bs) ≡ Incomplete
-  pub with_it : s.number ≡ bytes_bad → verdict (take (suc s.offset) bs) ≡ Bad s.offset
+  pub before : s.number ≡ bytes_bad → verdict (take s.offset bs) ≡ Err Incomplete
+  pub with_it : s.number ≡ bytes_bad → verdict (take (suc s.offset) bs) ≡ Err (Bad s.offset)
   pub else_none : (s.number ≡ bytes_bad → ⊥) → s.offset ≡ 0
 
 abbrev pub WhichByte : Type 0

@@ -1,11 +1,10 @@
 -- What the verdict means (document 01, "CBOR"), as statements; the proofs are in proofs/Theorem.antt.
-use Rattle.std.specs.Prelude.{ℕ, suc, ◌+◌, ◌≤◌, ◌<◌, List, ◌∷◌, ◌++◌, ◌≡◌, ◌↔◌, length, take}
+use Rattle.std.specs.Prelude.{ℕ, suc, ◌+◌, ◌≤◌, ◌<◌, List, ◌∷◌, ◌++◌, ◌≡◌, ◌↔◌, length, take, Ok, Err}
 use Rattle.base.specs.Numbers.{Bytes}
-use Rattle.item.specs.declared.Verdict.{Verdict}
-use Rattle.item.specs.declared.Verdict.TheVariants.{Whole, Bad, Incomplete}
+use Rattle.item.specs.declared.NotWhole.TheVariants.{Bad, Incomplete}
 use Rattle.item.specs.Grammar.{Frame, Reads, one, no_more, item, end_array, element, end_map, key, value, end_string, chunk, no_byte, byte}
 use Rattle.item.specs.Grammar.{simple, last, digit, Item}
-use Rattle.item.specs.Verdict.{judge, start}
+use Rattle.item.specs.Verdict.{judge, start, Verdict}
 use Rattle.item.specs.Besides.Verdict.{heads}
 
 -- Incomplete: a proper prefix of a well-formed item within the nesting.
@@ -18,9 +17,9 @@ Begins d bs n = (n ≤ length bs) × Item d (take n bs)
 
 -- What each verdict says. Bad at n: an item is still possible after n bytes, and after one byte more none is.
 abbrev pub Says : ℕ → List ℕ → Verdict → Type 0
-Says d bs (Whole n) = Begins d bs n
-Says d bs (Bad n) = (n < length bs) × Begun d (take n bs) × ((cs : List ℕ) → Item d (take (suc n) bs ++ cs) → ⊥)
-Says d bs Incomplete = Begun d bs
+Says d bs (Ok n) = Begins d bs n
+Says d bs (Err (Bad n)) = (n < length bs) × Begun d (take n bs) × ((cs : List ℕ) → Item d (take (suc n) bs ++ cs) → ⊥)
+Says d bs (Err Incomplete) = Begun d bs
 
 -- The verdict is v if and only if what v says holds: one of the three, one only, and the first bad byte.
 abbrev pub Exactly : Type 0
@@ -30,13 +29,13 @@ Exactly = (d : ℕ) (bs : List ℕ) (v : Verdict) → (judge bs 0 (start d) ≡ 
 abbrev pub BadIsNeither : Type 0
 BadIsNeither =
     (d : ℕ) (bs : List ℕ)
-    → ((n : ℕ) × (judge bs 0 (start d) ≡ Bad n)) ↔ ((Begun d bs → ⊥) × ((n : ℕ) → Begins d bs n → ⊥))
+    → ((n : ℕ) × (judge bs 0 (start d) ≡ Err (Bad n))) ↔ ((Begun d bs → ⊥) × ((n : ℕ) → Begins d bs n → ⊥))
 
 -- Which byte (document 02, K3): where the verdict is bad at n, the first n bytes are incomplete, and with one more they are bad. That holds of no
 -- other n, so n is one number, whatever comes behind.
 pub record FirstBad (d : ℕ) (bs : List ℕ) (n : ℕ) : Type 0 where
-  pub so : judge bs 0 (start d) ≡ Bad n → (judge (take n bs) 0 (start d) ≡ Incomplete) × (judge (take (suc n) bs) 0 (start d) ≡ Bad n)
-  pub only : (m : ℕ) → judge (take n bs) 0 (start d) ≡ Incomplete → judge (take (suc n) bs) 0 (start d) ≡ Bad m → judge bs 0 (start d) ≡ Bad n
+  pub so : judge bs 0 (start d) ≡ Err (Bad n) → (judge (take n bs) 0 (start d) ≡ Err Incomplete) × (judge (take (suc n) bs) 0 (start d) ≡ Err (Bad n))
+  pub only : (m : ℕ) → judge (take n bs) 0 (start d) ≡ Err Incomplete → judge (take (suc n) bs) 0 (start d) ≡ Err (Bad m) → judge bs 0 (start d) ≡ Err (Bad n)
 
 abbrev pub WhichByte : Type 0
 WhichByte = (d : ℕ) (bs : List ℕ) (n : ℕ) → FirstBad d bs n

@@ -5,8 +5,7 @@ use Prim.Native.Nat.{ℕ}
 use native.Mathlib.Omega.{arith}
 use lib.ListN.{length}
 use borrow.Author.Tests.{ne_eqb}
-use Rattle.item.specs.declared.Verdict.{Verdict}
-use Rattle.item.specs.Verdict.{verdict}
+use Rattle.item.specs.Verdict.{verdict, Verdict}
 use Rattle.messages.specs.Reading.{wholly}
 use Rattle.ring.specs.Inside.{around}
 use Rattle.ring.proofs.Around.{around_all}

@@ -3,7 +3,7 @@ use mathlib.Core.Path.{sym, ap, ◌∙◌}
 use mathlib.Core.List.{List}
 use Prim.Native.Nat.{ℕ}
 use lib.ListN.{length}
-use Rattle.item.specs.declared.Verdict.{Verdict}
+use Rattle.item.specs.Verdict.{Verdict}
 use Rattle.messages.specs.Reading.{wholly}
 use Rattle.judging.proofs.JudgingLaws.{judged_not_one}
 use Rattle.judging.proofs.judge_slice.Goals as goal
@@ -11,18 +11,10 @@ use Rattle.judging.proofs.judge_slice.Goals as goal
 pub judge_item-requires : goal.judge_item-requires
 judge_item-requires c = cc
 
-pub returns-in-Bad : goal.returns-in-Bad
-returns-in-Bad c =
+pub returns-in-Err : goal.returns-in-Err
+returns-in-Err c =
     let a = c.args in
     let xs : List ℕ = a.s.now in
     c.no_message.ensures
     ∙ judged_not_one a.p a.state xs
-    (ap (λ (v : Verdict). wholly v (length xs)) (sym c.measure_slice-v.ensures ∙ c.in-Bad.is))
-
-pub returns-in-Incomplete : goal.returns-in-Incomplete
-returns-in-Incomplete c =
-    let a = c.args in
-    let xs : List ℕ = a.s.now in
-    c.no_message-in-Incomplete.ensures
-    ∙ judged_not_one a.p a.state xs
-    (ap (λ (v : Verdict). wholly v (length xs)) (sym c.measure_slice-v.ensures ∙ c.in-Incomplete.is))
+    (ap (λ (v : Verdict). wholly v (length xs)) (sym c.measure_slice-v.ensures ∙ c.in-Err.is))

@@ -1,6 +1,6 @@
 -- T2 for what look and drop ask of a view: which outcome is told, exactly when (document 01, "Numbers and their order").
-use Rattle.std.specs.Prelude.{ℕ, ◌≡◌, true, false, ◌↔◌, length, take}
-use Rattle.item.specs.declared.Verdict.TheVariants.{Whole, Bad, Incomplete}
+use Rattle.std.specs.Prelude.{ℕ, ◌≡◌, true, false, ◌↔◌, length, take, Ok, Err}
+use Rattle.item.specs.declared.NotWhole.TheVariants.{Bad, Incomplete}
 use Rattle.item.specs.Verdict.{verdict}
 use Rattle.rows.specs.declared.Next.TheVariants.{To, None}
 use Rattle.rows.specs.Rows.{done_of}
@@ -24,7 +24,7 @@ pub record Awaited (v : View) : Type 0 where
 -- The same, and the first n bytes are an item: a message of the protocol, which says m and has a row in the present state, to next.
 pub record Spells (v : View) (n : ℕ) (m : Message) (next : ℕ) : Type 0 where
   pub awaited : Awaited v
-  pub whole : verdict v.bytes ≡ Whole n
+  pub whole : verdict v.bytes ≡ Ok n
   pub says : Says (spoken v) (take n v.bytes) m
   pub row : leads_to v m ≡ To next
 
@@ -36,12 +36,12 @@ pub data Unheard (v : View) : Outcome → Type 0 where
   past_done : barred v ≡ false → v.state ≡ done_of (spoken v) → (length v.bytes ≡ 0 → ⊥) → Unheard v AfterDone
   our_turn : barred v ≡ false → (v.state ≡ done_of (spoken v) → ⊥) → ours_now v ≡ true → Unheard v OurTurn
   -- incomplete, notice 1, or 20 if closed
-  waiting : Awaited v → verdict v.bytes ≡ Incomplete → v.closed ≡ false → Unheard v Waiting
-  closed : Awaited v → verdict v.bytes ≡ Incomplete → v.closed ≡ true → Unheard v Closed
-  are_bad : {at : ℕ} → Awaited v → verdict v.bytes ≡ Bad at → Unheard v (BytesBad at)
-  not_a_message : {n : ℕ} {r : Reading} → Awaited v → verdict v.bytes ≡ Whole n → (message_of (spoken v) (take n v.bytes)).reading ≡ r
+  waiting : Awaited v → verdict v.bytes ≡ Err Incomplete → v.closed ≡ false → Unheard v Waiting
+  closed : Awaited v → verdict v.bytes ≡ Err Incomplete → v.closed ≡ true → Unheard v Closed
+  are_bad : {at : ℕ} → Awaited v → verdict v.bytes ≡ Err (Bad at) → Unheard v (BytesBad at)
+  not_a_message : {n : ℕ} {r : Reading} → Awaited v → verdict v.bytes ≡ Ok n → (message_of (spoken v) (take n v.bytes)).reading ≡ r
       → ((m : Message) → Says (spoken v) (take n v.bytes) m → ⊥) → Unheard v (NoMessage r)
-  no_row : {n : ℕ} {m : Message} → Awaited v → verdict v.bytes ≡ Whole n → Says (spoken v) (take n v.bytes) m → leads_to v m ≡ None → Unheard v NoRow
+  no_row : {n : ℕ} {m : Message} → Awaited v → verdict v.bytes ≡ Ok n → Says (spoken v) (take n v.bytes) m → leads_to v m ≡ None → Unheard v NoRow
 
 -- a refusal or notice, or a message
 pub data Hears (v : View) : Judged → Type 0 where

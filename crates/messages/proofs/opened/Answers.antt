@@ -1,8 +1,8 @@
 -- `messages::opened` meets its contract: the kind, or that there is none, as the definition goes by.
 use mathlib.Core.Path.{sym, ap, ◌∙◌}
 use native.Mathlib.Omega.{arith}
+use Rattle.std.specs.Prelude.{Ok}
 use Rattle.ring.proofs.Around.{around_length}
-use Rattle.item.specs.declared.Verdict.TheVariants.{Whole}
 use Rattle.messages.proofs.FieldLaws.{kind_named, kind_none}
 use borrow.Author.Rules.{rules}
 use Rattle.messages.proofs.opened.Goals as goal
@@ -13,7 +13,7 @@ formed-requires c =
     let a = s.args in
     let long = around_length a.s.now a.from a.n (omega arith) in record {
       from_in_bounds = (search rules, search rules);
-      begins = (s.requires.from_in_bounds.2 ∙ ap Whole (sym long), s.requires.array_value, sym c.unsigned_at-kind.ensures ∙ c.in-Is.is);
+      begins = (s.requires.from_in_bounds.2 ∙ ap Ok (sym long), s.requires.array_value, sym c.unsigned_at-kind.ensures ∙ c.in-Is.is);
     }
 
 pub returns-in-Is : goal.returns-in-Is

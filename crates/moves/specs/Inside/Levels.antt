@@ -1,8 +1,7 @@
 -- The levels of a walk, and what is told of the bytes from a place on.
 use Rattle.std.specs.Prelude.{ℕ, zero, suc, ◌+◌, ◌^◌, ◌≤◌, ◌<◌, ◌%◌, List, true, false, cond, ◌≡◌, eqb, drop}
-use Rattle.item.specs.declared.Verdict.{Verdict}
 use Rattle.item.specs.Grammar.{Frame, Items, Elements, Pairs, Value, Chunks, nesting}
-use Rattle.item.specs.Verdict.{Stack, judge}
+use Rattle.item.specs.Verdict.{Stack, judge, Verdict}
 use Rattle.item.specs.Besides.Verdict.{heads}
 
 -- What a level wants, by its kind and its count.

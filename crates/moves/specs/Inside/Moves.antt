@@ -1,13 +1,12 @@
 -- What a head does to a walk, whatever bytes come after those that are there.
-use Rattle.std.specs.Prelude.{ℕ, ◌+◌, ◌*◌, ◌-◌, ◌≤◌, ◌<◌, List, ◌++◌, true, ◌≡◌, length, get_or}
+use Rattle.std.specs.Prelude.{ℕ, ◌+◌, ◌*◌, ◌-◌, ◌≤◌, ◌<◌, List, ◌++◌, true, ◌≡◌, length, get_or, Err}
 use Rattle.head.specs.Initial.{initial}
 use Rattle.head.specs.declared.Major.{Major}
 use Rattle.head.specs.declared.Initial.{Initial}
 use Rattle.head.specs.declared.Initial.TheVariants.{Indefinite, Break}
-use Rattle.item.specs.declared.Verdict.{Verdict}
-use Rattle.item.specs.declared.Verdict.TheVariants.{Bad, Incomplete}
+use Rattle.item.specs.declared.NotWhole.TheVariants.{Bad, Incomplete}
 use Rattle.item.specs.Grammar.{Frame, Items, Content, content, nesting}
-use Rattle.item.specs.Verdict.{Stack, push}
+use Rattle.item.specs.Verdict.{Stack, push, Verdict}
 use Rattle.moves.specs.declared.Level.{Level}
 use Rattle.moves.specs.declared.Move.{Move}
 use Rattle.moves.specs.declared.Move.TheVariants.{Stay, Down, Skip, Fault, Lack}
@@ -52,8 +51,8 @@ abbrev pub Moves : List ℕ → ℕ → ℕ → ℕ → ℕ → Move → Type 0
 Moves xs at k c d (Stay p l) = Stays xs at k c d p l
 Moves xs at k c d (Down p l i) = Downs xs at k c d p l i
 Moves xs at k c d (Skip v l) = Skips xs at k c d v l
-Moves xs at k c d (Fault p) = Stops xs at k c d (Bad p)
-Moves xs at k c d Lack = Stops xs at k c d Incomplete
+Moves xs at k c d (Fault p) = Stops xs at k c d (Err (Bad p))
+Moves xs at k c d Lack = Stops xs at k c d (Err Incomplete)
 
 -- What is left of a level once an item of it has begun.
 pub record Leaves (k c : ℕ) (l : Level) : Type 0 where

@@ -1,5 +1,5 @@
 -- P1 to P12 (document 01, "Checked examples"): one table, and what each of its entries says.
-use Rattle.std.specs.Prelude.{ℕ, zero, suc, ◌*◌, ◌≡◌, false, cond, List, [], ◌∷◌, ◌++◌, eqb, take, drop, replicate, set}
+use Rattle.std.specs.Prelude.{ℕ, zero, suc, ◌*◌, ◌≡◌, false, cond, List, [], ◌∷◌, ◌++◌, eqb, take, drop, replicate, set, Ok, Err}
 use Rattle.wire.specs.declared.segment.Segment.{Segment}
 use Rattle.wire.specs.declared.instances.Side.{Side}
 use Rattle.wire.specs.declared.instances.Side.TheVariants.{Dialler, Accepter}
@@ -7,9 +7,8 @@ use Rattle.wire.specs.declared.instances.Party.{Party}
 use Rattle.wire.specs.declared.instances.Route.TheVariants.{To}
 use Rattle.wire.specs.Segments.{header_length, empty, decoded, encoded}
 use Rattle.wire.specs.Instances.{most, route_of}
-use Rattle.item.specs.declared.Verdict.{Verdict}
-use Rattle.item.specs.declared.Verdict.TheVariants.{Whole, Bad, Incomplete}
-use Rattle.item.specs.Verdict.{verdict}
+use Rattle.item.specs.declared.NotWhole.TheVariants.{Bad, Incomplete}
+use Rattle.item.specs.Verdict.{verdict, Verdict}
 use Rattle.rows.specs.declared.Protocol.{Protocol}
 use Rattle.rows.specs.declared.Protocol.TheVariants.{ChainSync, KeepAlive}
 use Rattle.rows.specs.Spoken.{speaks}
@@ -112,11 +111,11 @@ table =
     ∷ says ChainSync (0x82 ∷ 0x04 ∷ 0x80 ∷ []) (placed 4 (3 ∷ 0 ∷ 0 ∷ 0 ∷ []) 1)
     ∷ says ChainSync (0x83 ∷ 0x02 ∷ 0x41 ∷ 0xaa ∷ 0x82 ∷ 0x80 ∷ 0x00 ∷ []) (placed 2 (2 ∷ 2 ∷ 4 ∷ 3 ∷ []) 2)
     -- P7: f81f bad, f820 well-formed, f8 incomplete. P8: 9fff well-formed, ff bad. P9: bf00ff bad.
-    ∷ judged (0xf8 ∷ 0x1f ∷ []) (Bad 1) ∷ judged (0xf8 ∷ 0x20 ∷ []) (Whole 2) ∷ judged (0xf8 ∷ []) Incomplete
-    ∷ judged (0x9f ∷ 0xff ∷ []) (Whole 2) ∷ judged (0xff ∷ []) (Bad 0)
-    ∷ judged (0xbf ∷ 0x00 ∷ 0xff ∷ []) (Bad 2)
+    ∷ judged (0xf8 ∷ 0x1f ∷ []) (Err (Bad 1)) ∷ judged (0xf8 ∷ 0x20 ∷ []) (Ok 2) ∷ judged (0xf8 ∷ []) (Err Incomplete)
+    ∷ judged (0x9f ∷ 0xff ∷ []) (Ok 2) ∷ judged (0xff ∷ []) (Err (Bad 0))
+    ∷ judged (0xbf ∷ 0x00 ∷ 0xff ∷ []) (Err (Bad 2))
     -- P10: sixteen 81 then 00 well-formed; seventeen 81 bad
-    ∷ judged (replicate 16 0x81 ++ (0x00 ∷ [])) (Whole 17) ∷ judged (replicate 17 0x81) (Bad 16)
+    ∷ judged (replicate 16 0x81 ++ (0x00 ∷ [])) (Ok 17) ∷ judged (replicate 17 0x81) (Err (Bad 16))
     -- P11: capacity 16, 13 held: n = 3 accepted, n = 4 gives 13
     ∷ answered 3 0 ∷ answered 4 13
     -- P12: S = 4, turn 1, instance 1 with 10 bytes and 7 with 3: word 130, two ready, lowest 1; segments 1 (4), 7 (3), 1 (4), 1 (2), then notice 4
