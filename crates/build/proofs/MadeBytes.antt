@@ -4,6 +4,7 @@ use Prim.Native.Nat.{ℕ, ◌+◌}
 use mathlib.Core.Bool.{Bool, cond}
 use mathlib.Core.List.{List, [], ◌∷◌, ◌++◌}
 use mathlib.Core.Option.{Option, none, some}
+use Rattle.std.specs.Prelude.{Some, None}
 use native.Mathlib.Omega.{arith}
 use lib.Dec.{eqb, ltb}
 use lib.ListN.{length}
@@ -16,11 +17,9 @@ use Rattle.rows.specs.declared.Protocol.{Protocol}
 use Rattle.elements.specs.declared.Element.{Element}
 use Rattle.elements.specs.declared.Field.{Field}
 use Rattle.elements.specs.declared.Field.TheVariants as field
-use Rattle.elements.specs.declared.End.{End}
-use Rattle.elements.specs.declared.End.TheVariants.{At, Nowhere}
 use Rattle.messages.specs.Forms.{form_of}
 use Rattle.elements.specs.Matching.{array, Break, in_message, opener}
-use Rattle.elements.specs.Reading.{on_end, item_end}
+use Rattle.elements.specs.Reading.{End, on_end, item_end}
 use Rattle.elements.proofs.ElementLaws.{opener_low}
 use Rattle.parts.specs.Given.{numeric}
 use Rattle.layout.specs.Asked.{openly}
@@ -42,8 +41,8 @@ number_bytes field.Bool v =
     cond_cases (Found Bytes) (eqb v 0) (λ _. (omega arith, tt)) (λ _. cond_cases (Found Bytes) (eqb v 1) (λ _. (omega arith, tt)) (λ _. tt))
 
 item_bytes : (r : List ℕ) (e : End) → Bytes r → Found Bytes (on_end none e (λ q. cond (eqb q (length r)) (some r) none))
-item_bytes r (At q) b = cond_cases (Found Bytes) (eqb q (length r)) (λ _. b) (λ _. tt)
-item_bytes r Nowhere b = tt
+item_bytes r (Some q) b = cond_cases (Found Bytes) (eqb q (length r)) (λ _. b) (λ _. tt)
+item_bytes r None b = tt
 
 headed_bytes : (asked : Bool) (e : Element) (r : List ℕ) (o : Option ℕ) → Bytes r → Found Bytes (on_some o (λ k. some (headed asked e r k)))
 unfolding Bytes

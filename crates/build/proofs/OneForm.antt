@@ -5,6 +5,8 @@ use mathlib.Core.Path.{◌≡◌, refl, sym, ap, subst, ◌∙◌}
 use mathlib.Core.Bool.{Bool, true, false, true≢false}
 use mathlib.Core.List.{List, [], ◌∷◌, ◌++◌}
 use mathlib.Core.Option.{some}
+use Rattle.std.specs.Prelude.{Option, Some, None}
+use Rattle.std.proofs.lemmas.Option.{some_pair_parts}
 use native.Mathlib.Omega.{arith}
 use Rattle.base.proofs.Conds.{by_test}
 use Rattle.head.specs.Read.{head_at}
@@ -13,8 +15,6 @@ use Rattle.rows.specs.declared.Protocol.{Protocol}
 use Rattle.elements.specs.declared.Element.{Element}
 use Rattle.elements.specs.declared.Element.TheVariants as element
 use Rattle.elements.specs.declared.Extent.{Extent}
-use Rattle.elements.specs.declared.Opening.{Opening}
-use Rattle.elements.specs.declared.Opening.TheVariants as opening
 use Rattle.elements.specs.declared.Field.{Field}
 use Rattle.elements.specs.declared.Field.TheVariants as field
 use Rattle.elements.specs.Besides.Matching.{Value, Opens, FieldAt}
@@ -38,16 +38,16 @@ Leastly asked p bs kind = (xs : List Value) × (m : Matches p bs kind xs) × Own
 
 module _ (asked : Bool) (bs : List ℕ) where
   -- an array or map opens in one way
-  opens_one : (e : Element) (p : ℕ) (x y : Extent) {a b : ℕ} → Opens bs (opener e) p x a → Opens bs (opener e) p y b → opening.At x a ≡ opening.At y b
+  opens_one : (e : Element) (p : ℕ) (x y : Extent) {a b : ℕ} → Opens bs (opener e) p x a → Opens bs (opener e) p y b → ◌≡◌ {A = Option (Extent × ℕ)} (Some (x, a)) (Some (y, b))
   opens_one e p x y o u = sym (opens_found bs e p x o) ∙ opens_found bs e p y u
 
-  abbrev heads : Bool → Element → ℕ → Opening → Type 0
-  heads asked e p (opening.At x a) = ListLeast bs asked e x p a
-  heads asked e p opening.Not = Unit {0}
+  abbrev heads : Bool → Element → ℕ → Option (Extent × ℕ) → Type 0
+  heads asked e p (Some (x, a)) = ListLeast bs asked e x p a
+  heads asked e p None = Unit {0}
 
-  abbrev array_heads : Opening → Type 0
-  array_heads (opening.At x a) = ArrayLeast bs x a
-  array_heads opening.Not = Unit {0}
+  abbrev array_heads : Option (Extent × ℕ) → Type 0
+  array_heads (Some (x, a)) = ArrayLeast bs x a
+  array_heads None = Unit {0}
 
   number_one : (p : ℕ) {m v q w r : ℕ} → head_at bs p ≡ Definite m v q → head_at bs p ≡ Definite m w r → Least bs m v p q → Least bs m w p r
   number_one p {m} {v} {q} {w} {r} e f l =
@@ -84,7 +84,7 @@ module _ (asked : Bool) (bs : List ℕ) where
   pub own-one : (p : Protocol) {kind : ℕ} {xs ys : List Value} (m : Matches p bs kind xs) (n : Matches p bs kind ys) → OwnLeast asked m → OwnLeast asked n
   own-one p {kind} m n (a, (k, l)) =
       let o = opens_one element.Item 0 m.extent n.extent m.opens n.opens in
-      let first : m.first ≡ n.first = cc in
+      let first : m.first ≡ n.first = (some_pair_parts m.extent n.extent m.first n.first o).1 in
       let u : Definite 0 kind m.second ≡ Definite 0 kind n.second = sym m.named ∙ ap (head_at bs) first ∙ n.named in
       let second : m.second ≡ n.second = cc in
       let f : some m.fields ≡ some n.fields = sym m.form ∙ n.form in

@@ -5,6 +5,7 @@ use mathlib.Core.Path.{◌≡◌, refl, sym, ap, subst, ◌∙◌}
 use mathlib.Core.Bool.{Bool, true, false, true≢false, false≢true, cond, ◌&&◌}
 use mathlib.Core.List.{List, [], ◌∷◌, ◌++◌, append-nil}
 use mathlib.Core.Option.{Option, none, some}
+use Rattle.std.specs.Prelude.{Some, None}
 use native.Mathlib.Omega.{arith}
 use native.Mathlib.Numerals.{add-one}
 use lib.Dec.{eqb, ltb, leb}
@@ -17,10 +18,8 @@ use Rattle.head.specs.Write.{shortest}
 use Rattle.elements.specs.declared.Element.{Element}
 use Rattle.elements.specs.declared.Field.{Field}
 use Rattle.elements.specs.declared.Field.TheVariants as field
-use Rattle.elements.specs.declared.End.{End}
-use Rattle.elements.specs.declared.End.TheVariants.{At, Nowhere}
 use Rattle.elements.specs.Matching.{in_message, opener}
-use Rattle.elements.specs.Reading.{on_end, item_end}
+use Rattle.elements.specs.Reading.{End, on_end, item_end}
 use Rattle.parts.specs.Given.{numeric, all_given, empty}
 use Rattle.layout.specs.Asked.{openly}
 use Rattle.parts.specs.Counting.{on_some, count_of}
@@ -51,8 +50,8 @@ number_piece asked field.Bool (suc (suc v)) run t =
 one_piece : (asked : Bool) (run : List ℕ) (e : End) → on_end none e (λ q. cond (eqb q (length run)) (some run) none)
     ≡ on_some (on_end none e (λ q. cond (eqb q (length run)) (some 0) none)) (λ a. some (piece_of asked field.Item a run))
 unfolding piece_of
-one_piece asked run (At q) = by_test (eqb q (length run)) (λ t. rw t (ap some (sym (append-nil run)))) (λ t. rw t)
-one_piece asked run Nowhere = refl
+one_piece asked run (Some q) = by_test (eqb q (length run)) (λ t. rw t (ap some (sym (append-nil run)))) (λ t. rw t)
+one_piece asked run None = refl
 
 -- a list: its head and its run, and the break where it is of indefinite length
 list_piece : (asked : Bool) (e : Element) (run : List ℕ) (k : ℕ) → headed asked e run k ≡ piece_of asked (field.List e) k run

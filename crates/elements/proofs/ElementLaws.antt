@@ -5,13 +5,13 @@ use mathlib.Core.Path.{◌≡◌, refl, sym, ap, subst, subst⁻¹, ◌∙◌}
 use mathlib.Core.Bool.{true, false, cond, ◌&&◌}
 use mathlib.Core.List.{List, ◌∷◌}
 use mathlib.Core.Option.{some}
+use Rattle.std.specs.Prelude.{Option, Some, None, Ok, Err}
 use native.Mathlib.Omega.{arith}
 use native.Mathlib.Decide.{dec_lt}
 use lib.Dec.{ltb, leb, eqb}
 use lib.ListN.{length, get_or, drop, drop_of_length-le, length-drop, length-append, get_or-eq_default}
 use lib.Seq.{drop-cons, drop-drop, drop-append_seam}
 use borrow.Author.Tests.{ltb-true, leb-true, eqb-true, lt-ltb, le-leb, eq-eqb, ne_eqb}
-use Rattle.std.specs.Prelude.{Ok, Err}
 use Rattle.base.proofs.Conds.{cond_cases, both_true}
 use Rattle.head.specs.Initial.{initial}
 use Rattle.head.specs.declared.Initial.TheVariants as says
@@ -28,64 +28,49 @@ use Rattle.elements.specs.declared.Element.{Element}
 use Rattle.elements.specs.declared.Element.TheVariants as element
 use Rattle.elements.specs.declared.Extent.{Extent}
 use Rattle.elements.specs.declared.Extent.TheVariants.{Counted, Open, Rest}
-use Rattle.elements.specs.declared.Opening.{Opening}
-use Rattle.elements.specs.declared.Opening.TheVariants as opening
 use Rattle.elements.specs.declared.Field.{Field}
 use Rattle.elements.specs.declared.Field.TheVariants as field
-use Rattle.elements.specs.declared.Number.{Number}
-use Rattle.elements.specs.declared.Number.TheVariants.{Is, Not}
-use Rattle.elements.specs.declared.End.{End}
-use Rattle.elements.specs.declared.End.TheVariants.{At, Nowhere}
 use Rattle.elements.specs.declared.Part.{Part}
 use Rattle.elements.specs.declared.Part.TheVariants as part
 use Rattle.elements.specs.Besides.Matching.{Value, number, place, ItemAt, ItemsAt, UnsignedAt, Opens, Closes, ElementAt, an_item, a_pair, a_version, ElementsAt, no_element, an_element, FieldAt}
 use Rattle.elements.specs.Matching.{Break, past, array, map, versions, sizes, False, True, in_message, in_list, opener}
 use Rattle.elements.specs.Besides.Matching as matching
 use Rattle.elements.specs.Inside.{before, items_up_to}
-use Rattle.elements.specs.Reading.{on_number, on_opening, on_end, unsigned, unsigned_at, opens, opens_at, closed, ended, item_end, leaving, size_end, sized_end, two_end, pair_end, key_at, version_at, element_at, walk, elements_of, below, up_to, listed, bool_of, part_of}
+use Rattle.elements.specs.Reading.{on_pair, on_end, unsigned, unsigned_at, opens, opens_at, closed, ended, item_end, leaving, size_end, sized_end, two_end, pair_end, key_at, version_at, element_at, walk, elements_of, below, up_to, listed, bool_of, part_of}
 use Rattle.elements.proofs.Heads.{into, out, break_byte, open_byte, byte_head}
 
 -- ---- by cases on what was found
 
 -- what holds where something is found
-abbrev pub Numbers : (ℕ → ℕ → Type 0) → Number → Type 0
-Numbers R (Is v q) = R v q
-Numbers R Not = Unit {0}
+abbrev pub Pairwise : {A : Type 0} {B : Type 0} → (A → B → Type 0) → Option (A × B) → Type 0
+Pairwise R (Some (x, y)) = R x y
+Pairwise R None = Unit {0}
 
-abbrev pub Openings : (Extent → ℕ → Type 0) → Opening → Type 0
-Openings R (opening.At x a) = R x a
-Openings R opening.Not = Unit {0}
+abbrev pub Ends : (ℕ → Type 0) → Option ℕ → Type 0
+Ends R (Some q) = R q
+Ends R None = Unit {0}
 
-abbrev pub Ends : (ℕ → Type 0) → End → Type 0
-Ends R (At q) = R q
-Ends R Nowhere = Unit {0}
+pub pair_cases : {A : Type 0} {B : Type 0} {C : Type 0} (P : C → Type 0) {R : A → B → Type 0} {other : C} (k : A → B → C) (o : Option (A × B))
+    → Pairwise R o → P other → ((x : A) (y : B) → R x y → P (k x y)) → P (on_pair other o k)
+pair_cases P k (Some (x, y)) r z f = f x y r
+pair_cases P k None r z f = z
 
-pub number_cases : {A : Type 0} (P : A → Type 0) {R : ℕ → ℕ → Type 0} {other : A} (k : ℕ → ℕ → A) (n : Number) → Numbers R n
-    → P other → ((v q : ℕ) → R v q → P (k v q)) → P (on_number other n k)
-number_cases P k (Is v q) r x f = f v q r
-number_cases P k Not r x f = x
-
-pub opening_cases : {A : Type 0} (P : A → Type 0) {R : Extent → ℕ → Type 0} {other : A} (k : Extent → ℕ → A) (o : Opening) → Openings R o
-    → P other → ((x : Extent) (a : ℕ) → R x a → P (k x a)) → P (on_opening other o k)
-opening_cases P k (opening.At x a) r y f = f x a r
-opening_cases P k opening.Not r y f = y
-
-pub end_cases : {A : Type 0} (P : A → Type 0) {R : ℕ → Type 0} {other : A} (k : ℕ → A) (e : End) → Ends R e
+pub end_cases : {A : Type 0} (P : A → Type 0) {R : ℕ → Type 0} {other : A} (k : ℕ → A) (e : Option ℕ) → Ends R e
     → P other → ((q : ℕ) → R q → P (k q)) → P (on_end other e k)
-end_cases P k (At q) r x f = f q r
-end_cases P k Nowhere r x f = x
+end_cases P k (Some q) r x f = f q r
+end_cases P k None r x f = x
 
-ends_map : {R S : ℕ → Type 0} (e : End) → ((q : ℕ) → R q → S q) → Ends R e → Ends S e
-ends_map (At q) f r = f q r
-ends_map Nowhere f r = tt
+ends_map : {R S : ℕ → Type 0} (e : Option ℕ) → ((q : ℕ) → R q → S q) → Ends R e → Ends S e
+ends_map (Some q) f r = f q r
+ends_map None f r = tt
 
-numbers_map : {R S : ℕ → ℕ → Type 0} (n : Number) → ((v q : ℕ) → R v q → S v q) → Numbers R n → Numbers S n
-numbers_map (Is v q) f r = f v q r
-numbers_map Not f r = tt
+pairs_map : {R S : ℕ → ℕ → Type 0} (n : Option (ℕ × ℕ)) → ((v q : ℕ) → R v q → S v q) → Pairwise R n → Pairwise S n
+pairs_map (Some (v, q)) f r = f v q r
+pairs_map None f r = tt
 
-leaving_map : {R : ℕ → Type 0} (S : ℕ → ℕ → Type 0) (next : ℕ) (e : End) → ((q : ℕ) → R q → S next q) → Ends R e → Numbers S (leaving next e)
-leaving_map S next (At q) f r = f q r
-leaving_map S next Nowhere f r = tt
+leaving_map : {R : ℕ → Type 0} (S : ℕ → ℕ → Type 0) (next : ℕ) (e : Option ℕ) → ((q : ℕ) → R q → S next q) → Ends R e → Pairwise S (leaving next e)
+leaving_map S next (Some q) f r = f q r
+leaving_map S next None f r = tt
 
 -- the major type of a list is that of an array or a map
 pub opener_low : (e : Element) → opener e < 7
@@ -100,9 +85,9 @@ opener_high element.Version = omega arith
 
 -- ---- heads
 
-unsigned_says : (h : Head) → Numbers (λ v q. h ≡ head.Definite 0 v q) (unsigned h)
+unsigned_says : (h : Head) → Pairwise (λ v q. h ≡ head.Definite 0 v q) (unsigned h)
 unsigned_says (head.Definite M v q) =
-    cond_cases (Numbers (λ w r. head.Definite M v q ≡ head.Definite 0 w r)) (eqb M 0)
+    cond_cases (Pairwise (λ w r. head.Definite M v q ≡ head.Definite 0 w r)) (eqb M 0)
     (λ t. ap (λ (n : ℕ). head.Definite n v q) (eqb-true M 0 t)) (λ _. tt)
 unsigned_says (head.Indefinite M q) = tt
 unsigned_says (head.Break q) = tt
@@ -110,23 +95,23 @@ unsigned_says head.Short = tt
 unsigned_says head.Bad = tt
 
 module _ (bs : List ℕ) where
-  pub unsigned_sound : (p : ℕ) → Numbers (λ v q. UnsignedAt bs p v q) (unsigned_at bs p)
+  pub unsigned_sound : (p : ℕ) → Pairwise (λ v q. UnsignedAt bs p v q) (unsigned_at bs p)
   unfolding unsigned_at
   unsigned_sound p = unsigned_says (head_at bs p)
 
-  pub unsigned_found : (p : ℕ) {v q : ℕ} → UnsignedAt bs p v q → unsigned_at bs p ≡ Is v q
+  pub unsigned_found : (p : ℕ) {v q : ℕ} → UnsignedAt bs p v q → unsigned_at bs p ≡ Some (v, q)
   unfolding unsigned_at
   unsigned_found p e = ap unsigned e
 
-  pub opens_sound : (m p : ℕ) → Openings (λ x a. Opens bs m p x a) (opens_at bs m p)
+  pub opens_sound : (m p : ℕ) → Pairwise (λ x a. Opens bs m p x a) (opens_at bs m p)
   unfolding opens_at
   opens_sound m p = of (head_at bs p) refl
     where
-      of : (h : Head) → head_at bs p ≡ h → Openings (λ x a. Opens bs m p x a) (opens m h)
+      of : (h : Head) → head_at bs p ≡ h → Pairwise (λ x a. Opens bs m p x a) (opens m h)
       of (head.Definite M v q) e =
-          cond_cases (Openings (λ x a. Opens bs m p x a)) (eqb M m) (λ t. e ∙ ap (λ (n : ℕ). head.Definite n v q) (eqb-true M m t)) (λ _. tt)
+          cond_cases (Pairwise (λ x a. Opens bs m p x a)) (eqb M m) (λ t. e ∙ ap (λ (n : ℕ). head.Definite n v q) (eqb-true M m t)) (λ _. tt)
       of (head.Indefinite M q) e =
-          cond_cases (Openings (λ x a. Opens bs m p x a)) (eqb M m)
+          cond_cases (Pairwise (λ x a. Opens bs m p x a)) (eqb M m)
           (λ t. let w = open_byte bs p e in (omega (arith, w.0, eqb-true M m t), w.1)) (λ _. tt)
       of (head.Break q) e = tt
       of head.Short e = tt
@@ -145,10 +130,10 @@ module _ (bs : List ℕ) where
   open_head element.Pair p h = byte_head bs p 159 h (omega arith)
   open_head element.Version p h = byte_head bs p 191 h (omega arith)
 
-  pub opens_found : (e : Element) (p : ℕ) (x : Extent) {a : ℕ} → Opens bs (opener e) p x a → opens_at bs (opener e) p ≡ opening.At x a
+  pub opens_found : (e : Element) (p : ℕ) (x : Extent) {a : ℕ} → Opens bs (opener e) p x a → opens_at bs (opener e) p ≡ Some (x, a)
   unfolding opens_at
   opens_found e p (Counted k) o = ap (opens (opener e)) o ∙ rw (eq-eqb (opener e) (opener e) refl)
-  opens_found e p Open (b, n) = ap (opens (opener e)) (open_head e p b) ∙ rw (eq-eqb (opener e) (opener e) refl) (ap (opening.At Open) (sym n))
+  opens_found e p Open (b, n) = ap (opens (opener e)) (open_head e p b) ∙ rw (eq-eqb (opener e) (opener e) refl) (ap (λ (a : ℕ). Some (Open, a)) (sym n))
   opens_found e p Rest o = absurd o
 
   pub opens_within : (m p : ℕ) (x : Extent) {a : ℕ} → 0 < m → Opens bs m p x a → (p < a) × (a ≤ length bs)
@@ -179,7 +164,7 @@ module _ (bs : List ℕ) where
   ended_sound (Err e) = tt
 
   -- past the end there is no item
-  pub item_past : (d p : ℕ) → length bs < p → Nowhere ≡ item_end bs d p
+  pub item_past : (d p : ℕ) → length bs < p → None ≡ item_end bs d p
   unfolding item_end judge met
   item_past d p h = let e : drop p bs ≡ _ = drop_of_length-le bs {i = p} (omega arith) in rw e
 
@@ -198,7 +183,7 @@ module _ (bs : List ℕ) where
     | no x ↦ item_here d p (omega arith)
   ]
 
-  pub item_found : {d p q : ℕ} → ItemAt bs d p q → item_end bs d p ≡ At q
+  pub item_found : {d p q : ℕ} → ItemAt bs d p q → item_end bs d p ≡ Some q
   unfolding item_end
   item_found {d} {p} {q} s = ap ended (reads_whole bs p q d One s.forward s.inside s.reads)
 
@@ -421,7 +406,7 @@ module _ (bs : List ℕ) where
   size_sound : (p : ℕ) → Ends (SizeAt p) (size_end bs p)
   unfolding size_end
   size_sound p =
-      number_cases (Ends (SizeAt p)) (λ v q. cond (ltb v sizes) (At q) Nowhere) (unsigned_at bs p) (unsigned_sound p) tt
+      pair_cases (Ends (SizeAt p)) (λ v q. cond (ltb v sizes) (Some q) None) (unsigned_at bs p) (unsigned_sound p) tt
       (λ v q e. cond_cases (Ends (SizeAt p)) (ltb v sizes) (λ t. (v, e, ltb-true v sizes t)) (λ _. tt))
 
   sized_sound : (d p : ℕ) → Ends (SizedAt d p) (sized_end bs d p)
@@ -433,14 +418,14 @@ module _ (bs : List ℕ) where
   sized_inside : {d p q : ℕ} → SizedAt d p q → q ≤ length bs
   sized_inside (b, i, (v, u, l)) = (definite_within bs b u).1
 
-  pub sized_end_lem : (d p : ℕ) {q : ℕ} → sized_end bs d p ≡ At q → q ≤ length bs
+  pub sized_end_lem : (d p : ℕ) {q : ℕ} → sized_end bs d p ≡ Some q → q ≤ length bs
   sized_end_lem d p e = sized_inside (subst (Ends (SizedAt d p)) e (sized_sound d p))
 
   pair_sound : (d low p : ℕ) → Ends (λ q. ElementAt bs d element.Pair low p 0 q) (pair_end bs d p)
   unfolding pair_end
   pair_sound d low p =
-      let P : End → Type 0 = Ends (λ q. ElementAt bs d element.Pair low p 0 q) in
-      opening_cases P (λ x a. on_end Nowhere (sized_end bs (d - 1) a) (λ q. two_end bs x q)) (opens_at bs array p) (opens_sound array p) tt
+      let P : Option ℕ → Type 0 = Ends (λ q. ElementAt bs d element.Pair low p 0 q) in
+      pair_cases P (λ x a. on_end None (sized_end bs (d - 1) a) (λ q. two_end bs x q)) (opens_at bs array p) (opens_sound array p) tt
       (λ x a o.
       end_cases P (λ q. two_end bs x q) (sized_end bs (d - 1) a) (sized_sound (d - 1) a) tt
       (λ q (b, i, (v, u, l)). cond_cases P (closed bs x 2 q) (λ t. a_pair x o i u l (closed_true x 2 q t)) (λ _. tt)))
@@ -448,29 +433,33 @@ module _ (bs : List ℕ) where
   abbrev KeyAt : ℕ → ℕ → ℕ → ℕ → Type 0
   KeyAt low p v a = UnsignedAt bs p v a × (low ≤ v) × (v < versions)
 
-  pub key_sound : (low p : ℕ) → Numbers (KeyAt low p) (key_at bs low p)
+  key_sound : (low p : ℕ) → Pairwise (KeyAt low p) (key_at bs low p)
   unfolding key_at
   key_sound low p =
-      number_cases (Numbers (KeyAt low p)) (λ v q. cond (leb low v && ltb v versions) (Is v q) Not) (unsigned_at bs p) (unsigned_sound p) tt
+      pair_cases (Pairwise (KeyAt low p)) (λ v q. cond (leb low v && ltb v versions) (Some (v, q)) None) (unsigned_at bs p) (unsigned_sound p) tt
       (λ v q u.
-      cond_cases (Numbers (KeyAt low p)) (leb low v && ltb v versions)
+      cond_cases (Pairwise (KeyAt low p)) (leb low v && ltb v versions)
       (λ t. let ts = both_true (leb low v) (ltb v versions) t in (u, leb-true low v ts.0, ltb-true v versions ts.1)) (λ _. tt))
 
-  version_sound : (d low p : ℕ) → Numbers (λ next q. ElementAt bs d element.Version low p next q) (version_at bs d low p)
+  -- a key is a version
+  pub key_small : (low p : ℕ) {v q : ℕ} → key_at bs low p ≡ Some (v, q) → v < versions
+  key_small low p e = (subst (Pairwise (KeyAt low p)) e (key_sound low p)).2
+
+  version_sound : (d low p : ℕ) → Pairwise (λ next q. ElementAt bs d element.Version low p next q) (version_at bs d low p)
   unfolding version_at
   version_sound d low p =
-      let P : Number → Type 0 = Numbers (λ next q. ElementAt bs d element.Version low p next q) in
-      number_cases P (λ v a. leaving (v + 1) (item_end bs d a)) (key_at bs low p) (key_sound low p) tt
+      let P : Option (ℕ × ℕ) → Type 0 = Pairwise (λ next q. ElementAt bs d element.Version low p next q) in
+      pair_cases P (λ v a. leaving (v + 1) (item_end bs d a)) (key_at bs low p) (key_sound low p) tt
       (λ v a (u, l, l'). leaving_map (λ next q. ElementAt bs d element.Version low p next q) (v + 1) (item_end bs d a) (λ q i. a_version u l l' i) (item_sound d a))
 
   -- what is found next stands there, and what stands there is found
-  pub next_sound : (d : ℕ) (e : Element) (low p : ℕ) → Numbers (λ next q. ElementAt bs d e low p next q) (element_at bs d e low p)
+  pub next_sound : (d : ℕ) (e : Element) (low p : ℕ) → Pairwise (λ next q. ElementAt bs d e low p next q) (element_at bs d e low p)
   unfolding element_at
   next_sound d element.Item low p = leaving_map (λ next q. ElementAt bs d element.Item low p next q) 0 (item_end bs d p) (λ q i. an_item i) (item_sound d p)
   next_sound d element.Pair low p = leaving_map (λ next q. ElementAt bs d element.Pair low p next q) 0 (pair_end bs d p) (λ q s. s) (pair_sound d low p)
   next_sound d element.Version low p = version_sound d low p
 
-  next_found : {d : ℕ} {e : Element} {low p next q : ℕ} → ElementAt bs d e low p next q → element_at bs d e low p ≡ Is next q
+  next_found : {d : ℕ} {e : Element} {low p next q : ℕ} → ElementAt bs d e low p next q → element_at bs d e low p ≡ Some (next, q)
   unfolding element_at pair_end sized_end size_end version_at key_at
   next_found (an_item i) = rw (item_found i)
   next_found (a_pair {p = p} {b = b} {v = v} {q = q} x o i u l c) =
@@ -562,51 +551,51 @@ module _ (bs : List ℕ) where
     abbrev pub Walked : ℕ → ℕ → ℕ → ℕ → ℕ → Type 0
     Walked k low p n q = (j : ℕ) × (n ≡ k + j) × ElementsAt bs d e low j p q × Closes bs x n q
 
-    walk_sound : (bytes k low p : ℕ) → Numbers (Walked k low p) (walk bs d e x bytes k low p)
+    walk_sound : (bytes k low p : ℕ) → Pairwise (Walked k low p) (walk bs d e x bytes k low p)
     unfolding walk
     walk_sound zero k low p =
-        cond_cases (Numbers (Walked k low p)) (closed bs x k p) (λ t. (0, omega arith, no_element, closed_true x k p t)) (λ _. tt)
+        cond_cases (Pairwise (Walked k low p)) (closed bs x k p) (λ t. (0, omega arith, no_element, closed_true x k p t)) (λ _. tt)
     walk_sound (suc bytes) k low p =
-        let P : Number → Type 0 = Numbers (Walked k low p) in
+        let P : Option (ℕ × ℕ) → Type 0 = Pairwise (Walked k low p) in
         cond_cases P (closed bs x k p) (λ t. (0, omega arith, no_element, closed_true x k p t))
         (λ _.
-        number_cases P (λ next q. walk bs d e x bytes (k + 1) next q) (element_at bs d e low p) (next_sound d e low p) tt
+        pair_cases P (λ next q. walk bs d e x bytes (k + 1) next q) (element_at bs d e low p) (next_sound d e low p) tt
         (λ next q s.
-        numbers_map (walk bs d e x bytes (k + 1) next q) (λ n r (j, z, rest, c). (suc j, omega (arith, z), an_element s rest, c))
+        pairs_map (walk bs d e x bytes (k + 1) next q) (λ n r (j, z, rest, c). (suc j, omega (arith, z), an_element s rest, c))
         (walk_sound bytes (k + 1) next q)))
 
     walk-found : (j bytes k low p : ℕ) {q : ℕ} → ElementsAt bs d e low j p q → Closes bs x (k + j) q → q ≤ p + bytes
-        → walk bs d e x bytes k low p ≡ Is (k + j) q
+        → walk bs d e x bytes k low p ≡ Some (k + j, q)
     unfolding walk
-    walk-found zero zero k low p no_element c h = let z : k ≡ k + 0 = omega arith in rw (closes_true x k p (subst⁻¹ (λ (n : ℕ). Closes bs x n p) z c)) (ap (λ (n : ℕ). Is n p) z)
-    walk-found zero (suc bytes) k low p no_element c h = let z : k ≡ k + 0 = omega arith in rw (closes_true x k p (subst⁻¹ (λ (n : ℕ). Closes bs x n p) z c)) (ap (λ (n : ℕ). Is n p) z)
+    walk-found zero zero k low p no_element c h = let z : k ≡ k + 0 = omega arith in rw (closes_true x k p (subst⁻¹ (λ (n : ℕ). Closes bs x n p) z c)) (ap (λ (n : ℕ). Some (n, p)) z)
+    walk-found zero (suc bytes) k low p no_element c h = let z : k ≡ k + 0 = omega arith in rw (closes_true x k p (subst⁻¹ (λ (n : ℕ). Closes bs x n p) z c)) (ap (λ (n : ℕ). Some (n, p)) z)
     walk-found (suc j) zero k low p (an_element s r) c h = absurd (omega (arith, (advance s).0, elements_on r))
     walk-found (suc j) (suc bytes) k low p {q} (an_element {next = next} {q = b} s r) c h =
         let z : k + 1 + j ≡ k + suc j = omega arith in
-        let go : walk bs d e x bytes (k + 1) next b ≡ Is (k + 1 + j) q =
+        let go : walk bs d e x bytes (k + 1) next b ≡ Some (k + 1 + j, q) =
         walk-found j bytes (k + 1) next b r (subst⁻¹ (λ (n : ℕ). Closes bs x n q) z c) (omega (arith, (advance s).0)) in
-        rw (still_open x k s (omega arith) (omega (arith, elements_on r)) c, next_found s) (go ∙ ap (λ (n : ℕ). Is n q) z)
+        rw (still_open x k s (omega arith) (omega (arith, elements_on r)) c, next_found s) (go ∙ ap (λ (n : ℕ). Some (n, q)) z)
 
-    pub elements_sound : (p : ℕ) → Numbers (λ k q. ElementsAt bs d e 0 k p q × Closes bs x k q) (elements_of bs d e x p)
+    pub elements_sound : (p : ℕ) → Pairwise (λ k q. ElementsAt bs d e 0 k p q × Closes bs x k q) (elements_of bs d e x p)
     elements_sound p =
-        numbers_map (elements_of bs d e x p)
+        pairs_map (elements_of bs d e x p)
         (λ k q (j, z, s, c). let y : j ≡ k = omega arith in (subst (λ (n : ℕ). ElementsAt bs d e 0 n p q) y s, c)) (walk_sound (length bs) 0 0 p)
 
-    pub elements_found : {k p q : ℕ} → p ≤ length bs → ElementsAt bs d e 0 k p q → Closes bs x k q → elements_of bs d e x p ≡ Is k q
+    pub elements_found : {k p q : ℕ} → p ≤ length bs → ElementsAt bs d e 0 k p q → Closes bs x k q → elements_of bs d e x p ≡ Some (k, q)
     elements_found {k} {p} {q} h s c =
         let z : 0 + k ≡ k = omega arith in
-        walk-found k (length bs) 0 0 p s (subst⁻¹ (λ (n : ℕ). Closes bs x n q) z c) (omega (arith, elements_inside h s)) ∙ ap (λ (n : ℕ). Is n q) z
+        walk-found k (length bs) 0 0 p s (subst⁻¹ (λ (n : ℕ). Closes bs x n q) z c) (omega (arith, elements_inside h s)) ∙ ap (λ (n : ℕ). Some (n, q)) z
 
   -- where elements are found, they end in the bytes
-  elements_end : (d : ℕ) (e : Element) (x : Extent) (p : ℕ) {k q : ℕ} → p ≤ length bs → elements_of bs d e x p ≡ Is k q → past x q ≤ length bs
+  elements_end : (d : ℕ) (e : Element) (x : Extent) (p : ℕ) {k q : ℕ} → p ≤ length bs → elements_of bs d e x p ≡ Some (k, q) → past x q ≤ length bs
   elements_end d e x p {k} {q} h f =
-      let s = subst (Numbers (λ k q. ElementsAt bs d e 0 k p q × Closes bs x k q)) f (elements_sound d e x p) in
+      let s = subst (Pairwise (λ k q. ElementsAt bs d e 0 k p q × Closes bs x k q)) f (elements_sound d e x p) in
       (past_inside x k (elements_inside h s.0) s.1).1
 
-  pub list_end : (e : Element) (x : Extent) (p : ℕ) {a k q : ℕ} → opens_at bs (opener e) p ≡ opening.At x a → elements_of bs in_list e x a ≡ Is k q
+  pub list_end : (e : Element) (x : Extent) (p : ℕ) {a k q : ℕ} → opens_at bs (opener e) p ≡ Some (x, a) → elements_of bs in_list e x a ≡ Some (k, q)
       → past x q ≤ length bs
   list_end e x p {a} found f =
-      let o = subst (Openings (λ x a. Opens bs (opener e) p x a)) found (opens_sound (opener e) p) in
+      let o = subst (Pairwise (λ x a. Opens bs (opener e) p x a)) found (opens_sound (opener e) p) in
       elements_end in_list e x a (opens_within (opener e) p x (opener_high e) o).1 f
 
   before_past : (x : Extent) (q : ℕ) → before x (past x q) ≡ q
@@ -615,49 +604,49 @@ module _ (bs : List ℕ) where
   before_past Rest q = refl
 
   -- a list of items ends where its array ends
-  pub items_end : (x : Extent) (p : ℕ) {a : ℕ} → opens_at bs array p ≡ opening.At x a
+  pub items_end : (x : Extent) (p : ℕ) {a : ℕ} → opens_at bs array p ≡ Some (x, a)
       → items_up_to x a (item_end bs in_message p) ≡ listed x a (elements_of bs in_list element.Item x a)
   items_end x p {a} found =
       of (item_end bs in_message p) refl (item_sound in_message p) (elements_of bs in_list element.Item x a) refl
       (elements_sound in_list element.Item x a)
     where
       o : Opens bs array p x a
-      o = subst (Openings (λ x a. Opens bs array p x a)) found (opens_sound array p)
+      o = subst (Pairwise (λ x a. Opens bs array p x a)) found (opens_sound array p)
 
       low : a ≤ length bs
       low = (opens_within array p x (omega arith) o).1
 
-      of : (e : End) → item_end bs in_message p ≡ e → Ends (λ q. ItemAt bs in_message p q) e → (n : Number)
-          → elements_of bs in_list element.Item x a ≡ n → Numbers (λ j q. ElementsAt bs in_list element.Item 0 j a q × Closes bs x j q) n
+      of : (e : Option ℕ) → item_end bs in_message p ≡ e → Ends (λ q. ItemAt bs in_message p q) e → (n : Option (ℕ × ℕ))
+          → elements_of bs in_list element.Item x a ≡ n → Pairwise (λ j q. ElementsAt bs in_list element.Item 0 j a q × Closes bs x j q) n
           → items_up_to x a e ≡ listed x a n
-      of (At r) h i n m s =
+      of (Some r) h i n m s =
           let f = array_elements x o i in
           let q : ℕ = f.1 in
-          let is : elements_of bs in_list element.Item x a ≡ Is f.0 q = elements_found in_list element.Item x low (items_elements f.0 0 f.2) f.3 in
+          let is : elements_of bs in_list element.Item x a ≡ Some (f.0, q) = elements_found in_list element.Item x low (items_elements f.0 0 f.2) f.3 in
           let b : before x r ≡ q = ap (before x) (sym f.4) ∙ before_past x q in
-          ap (λ (q : ℕ). part.Place a (q - a) r) b ∙ ap (part.Place a (q - a)) (sym f.4) ∙ ap (listed x a) (sym is ∙ m)
-      of Nowhere h i (Is j q) m (s, c) =
+          ap (λ (q : ℕ). Some (part.Place a (q - a), r)) b ∙ ap (λ (r : ℕ). Some (part.Place a (q - a), r)) (sym f.4) ∙ ap (listed x a) (sym is ∙ m)
+      of None h i (Some (j, q)) m (s, c) =
           let whole = item_found (list_item element.Item x j o (elements_items (omega arith) low s) c) in
-          absurd (let y : At (past x q) ≡ Nowhere = sym whole ∙ h in let x : ◌≡◌ {A = ℕ} 0 1 = cc in omega arith)
-      of Nowhere h i Not m s = refl
+          absurd (let y : Some (past x q) ≡ None = sym whole ∙ h in let x : ◌≡◌ {A = ℕ} 0 1 = cc in omega arith)
+      of None h i None m s = refl
 
   -- ---- fields
 
   -- what a field says, where it says something
-  abbrev pub Parts : (Value → ℕ → Type 0) → Part → Type 0
-  Parts R (part.Number v q) = R (number v) q
-  Parts R (part.Place a l q) = R (place a l) q
-  Parts R part.Wrong = Unit {0}
+  abbrev pub Parts : (Value → ℕ → Type 0) → Option (Part × ℕ) → Type 0
+  Parts R (Some (part.Number v, q)) = R (number v) q
+  Parts R (Some (part.Place a l, q)) = R (place a l) q
+  Parts R None = Unit {0}
 
   below_sound : (limit p : ℕ) (R : Value → ℕ → Type 0) → ((v q : ℕ) → UnsignedAt bs p v q → v < limit → R (number v) q)
       → Parts R (below limit (unsigned_at bs p))
   below_sound limit p R f =
-      number_cases (Parts R) (λ v q. cond (ltb v limit) (part.Number v q) part.Wrong) (unsigned_at bs p) (unsigned_sound p) tt
+      pair_cases (Parts R) (λ v q. cond (ltb v limit) (Some (part.Number v, q)) None) (unsigned_at bs p) (unsigned_sound p) tt
       (λ v q u. cond_cases (Parts R) (ltb v limit) (λ t. f v q u (ltb-true v limit t)) (λ _. tt))
 
-  up_to_sound : {S : ℕ → Type 0} (a : ℕ) (R : Value → ℕ → Type 0) (e : End) → Ends S e → ((q : ℕ) → S q → R (place a (q - a)) q)
+  up_to_sound : {S : ℕ → Type 0} (a : ℕ) (R : Value → ℕ → Type 0) (e : Option ℕ) → Ends S e → ((q : ℕ) → S q → R (place a (q - a)) q)
       → Parts R (up_to a e)
-  up_to_sound a R e s f = end_cases (Parts R) (λ q. part.Place a (q - a) q) e s tt f
+  up_to_sound a R e s f = end_cases (Parts R) (λ q. Some (part.Place a (q - a), q)) e s tt f
 
   bool_sound : (p b : ℕ) → get_or bs p 0 ≡ b → Parts (λ x q. FieldAt bs field.Bool p x q) (bool_of b p)
   bool_sound p b e =
@@ -669,20 +658,20 @@ module _ (bs : List ℕ) where
   part_sound field.Item p =
       up_to_sound p (λ x q. FieldAt bs field.Item p x q) (item_end bs in_message p) (item_sound in_message p) (λ q i. matching.item i)
   part_sound (field.List e) p =
-      let P : Part → Type 0 = Parts (λ x q. FieldAt bs (field.List e) p x q) in
-      opening_cases P (λ x a. listed x a (elements_of bs in_list e x a)) (opens_at bs (opener e) p) (opens_sound (opener e) p) tt
+      let P : Option (Part × ℕ) → Type 0 = Parts (λ x q. FieldAt bs (field.List e) p x q) in
+      pair_cases P (λ x a. listed x a (elements_of bs in_list e x a)) (opens_at bs (opener e) p) (opens_sound (opener e) p) tt
       (λ x a o.
-      number_cases P (λ n q. part.Place a (q - a) (past x q)) (elements_of bs in_list e x a) (elements_sound in_list e x a) tt
+      pair_cases P (λ n q. Some (part.Place a (q - a), past x q)) (elements_of bs in_list e x a) (elements_sound in_list e x a) tt
       (λ n q (s, c). matching.list x o s c))
   part_sound (field.Below limit) p = below_sound limit p (λ x q. FieldAt bs (field.Below limit) p x q) (λ v q u l. matching.below u l)
   part_sound field.Bool p = bool_sound p (get_or bs p 0) refl
 
   -- what a value at a place is in the answer
-  abbrev pub got : Value → ℕ → Part
-  got (number v) q = part.Number v q
-  got (place a l) q = part.Place a l q
+  abbrev pub got : Value → ℕ → Option (Part × ℕ)
+  got (number v) q = Some (part.Number v, q)
+  got (place a l) q = Some (part.Place a l, q)
 
-  below_found : (limit p : ℕ) {v q : ℕ} → UnsignedAt bs p v q → v < limit → below limit (unsigned_at bs p) ≡ part.Number v q
+  below_found : (limit p : ℕ) {v q : ℕ} → UnsignedAt bs p v q → v < limit → below limit (unsigned_at bs p) ≡ Some (part.Number v, q)
   below_found limit p {v} {q} u l = rw (unsigned_found p u, lt-ltb v limit l)
 
   pub part_found : {f : Field} {p q : ℕ} {x : Value} → FieldAt bs f p x q → part_of bs f p ≡ got x q

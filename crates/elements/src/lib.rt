@@ -1,21 +1,21 @@
 // The elements of a message, one at a place: numbers, items, lists, pairs and versions, and what a field says. They are read
-// among the n bytes of a ring, from the place `from` on of a slice.
+// in a view, whose bytes may lie around a slice's end.
 //
 // What is found at a place is exactly what stands there by `Matching`. One walk passes the elements of a list, of a map and of a
 // run that build is given. Nothing is walked twice that need not be: the bytes are known to be one item, so that its last element
 // ends where they end. Places past the end are met by no head and no item.
 #![tactic(auto)]
 
-ghost use Rattle.std.specs.Prelude.{◌≡◌, cond, ℕ, ◌+◌, ◌≤◌, ◌<◌, eqb, length, get_or};
-ghost use Rattle.ring.specs.Inside.{around};
+ghost use Rattle.std.specs.Prelude.{◌≡◌, ℕ, ◌+◌, ◌^◌, ◌≤◌, ◌<◌, eqb, get_or, Option, Some, None};
+ghost use Rattle.ring.specs.View.{seen};
 ghost use Rattle.item.specs.Grammar.{nesting};
 ghost use Rattle.elements.specs.Matching.{in_message, in_list, Break, past, opener};
-ghost use Rattle.elements.specs.Inside.{before, items_up_to};
-ghost use Rattle.elements.specs.Reading.{on_end, ended, unsigned_at, opens_at, closed, item_end, leaving, size_end, sized_end, two_end, pair_end, key_at, version_at, element_at, elements_of, below, up_to, listed, bool_of, part_of};
+ghost use Rattle.elements.specs.Inside.{before};
+ghost use Rattle.elements.specs.Reading.{unsigned_at, opens_at, closed, item_end, size_end, sized_end, pair_end, key_at, version_at, element_at, elements_of, below, listed, bool_of, part_of};
 
 use head::read::Head;
 use head::{ARRAY, MAP, UNSIGNED};
-use item::{NESTING, Verdict};
+use item::NESTING;
 use ring::view::View;
 
 // An element of a list, or of a map: an item; a pair [item, size]; a version, which is a key, and its value.
@@ -43,33 +43,11 @@ pub enum Extent {
     Rest,
 }
 
-// How far the elements of an array or a map go, and the place of the first of them; or it is none.
-#[derive(Clone, Copy)]
-pub enum Opening {
-    At(Extent, usize),
-    Not,
-}
-
-// A number and the place behind it, or none.
-#[derive(Clone, Copy)]
-pub enum Number {
-    Is(u64, usize),
-    Not,
-}
-
-// Where something ends, if it is what it should be.
-#[derive(Clone, Copy)]
-pub enum End {
-    At(usize),
-    Nowhere,
-}
-
-// What a field says, and the place behind it: a number; start and length; or it is not what it should be.
+// What a field says: a number, or start and length.
 #[derive(Clone, Copy)]
 pub enum Part {
-    Number(u64, usize),
-    Place(usize, usize, usize),
-    Wrong,
+    Number(u64),
+    Place(usize, usize),
 }
 
 // The message's own array counts in the nesting, and so do a list, a pair and a map.
@@ -94,327 +72,206 @@ const FALSE: u8 = 0xf4;
 
 const TRUE: u8 = 0xf5;
 
-// An end, a number, and an opening, that a test lets pass.
-pub fn end_if(test: bool, q: usize) -> End
-    ensures { result ≡ cond test (End.At q) End.Nowhere }
+// An unsigned number, of any width, and the place behind it.
+#[tactic(auto, unfolding(crate::specs::Reading::unsigned_at))]
+pub fn unsigned_at(v: View<'_>, at: usize) -> Option<(u64, usize)>
+    ensures { result ≡ unsigned_at (seen v.entry) at }
 {
-    if test {
-        return End::At(q);
-    }
-    End::Nowhere
-}
-
-fn number_if(test: bool, v: u64, q: usize) -> Number
-    ensures { result ≡ cond test (Number.Is v q) Number.Not }
-{
-    if test {
-        return Number::Is(v, q);
-    }
-    Number::Not
-}
-
-fn opening_if(test: bool, x: Extent, first: usize) -> Opening
-    ensures { result ≡ cond test (Opening.At x first) Opening.Not }
-{
-    if test {
-        return Opening::At(x, first);
-    }
-    Opening::Not
-}
-
-// An unsigned number, of any width.
-pub fn unsigned_at(s: &[u8], from: usize, n: usize, at: usize) -> Number
-    requires { (from ≤ length s.now) × (n ≤ length s.now) }
-    ensures { result ≡ unsigned_at (around s.now from n) at }
-{
-    let v = View {
-        bytes: s,
-        from,
-        len: n,
-    };
-    let h = head::read::head_at(v, at);
-    match h {
+    match head::read::head_at(v, at) {
         Head::Definite {
             major,
             argument,
             next,
-        } => number_if(major == UNSIGNED, argument, next),
-        Head::Indefinite { major: _, next: _ } => Number::Not,
-        Head::Break { next: _ } => Number::Not,
-        Head::Short => Number::Not,
-        Head::Bad => Number::Not,
+        } => (major == UNSIGNED).then_some((argument, next)),
+        Head::Indefinite { .. } | Head::Break { .. } | Head::Short | Head::Bad => None,
     }
 }
 
 // How far the elements of an array, or the pairs of a map, go, and the place of the first.
-pub fn opens_at(s: &[u8], from: usize, n: usize, major: u8, at: usize) -> Opening
-    requires { (from ≤ length s.now) × (n ≤ length s.now) }
-    ensures { result ≡ opens_at (around s.now from n) major at }
+#[tactic(auto, unfolding(crate::specs::Reading::opens_at))]
+pub fn opens_at(v: View<'_>, major: u8, at: usize) -> Option<(Extent, usize)>
+    ensures { result ≡ opens_at (seen v.entry) major at }
 {
-    let v = View {
-        bytes: s,
-        from,
-        len: n,
-    };
-    let h = head::read::head_at(v, at);
-    match h {
+    match head::read::head_at(v, at) {
         Head::Definite {
             major: m,
             argument,
             next,
-        } => opening_if(m == major, Extent::Counted(argument), next),
-        Head::Indefinite { major: m, next } => opening_if(m == major, Extent::Open, next),
-        Head::Break { next: _ } => Opening::Not,
-        Head::Short => Opening::Not,
-        Head::Bad => Opening::Not,
+        } => (m == major).then_some((Extent::Counted(argument), next)),
+        Head::Indefinite { major: m, next } => (m == major).then_some((Extent::Open, next)),
+        Head::Break { .. } | Head::Short | Head::Bad => None,
     }
 }
 
 // A break stands at a place.
-fn breaks(s: &[u8], from: usize, n: usize, at: usize) -> bool
-    requires { (from ≤ length s.now) × (n ≤ length s.now) }
-    ensures { result ≡ eqb (get_or (around s.now from n) at 0) Break }
+fn breaks(v: View<'_>, at: usize) -> bool
+    ensures { result ≡ eqb (get_or (seen v.entry) at 0) Break }
 {
-    if n <= at {
-        return false;
-    }
-    ring::byte_at(s, from, n, at) == BREAK
+    at < v.len && v.byte(at) == BREAK
 }
 
-// Elements are at their end, with k of them, the last of which ends at this place.
-fn is_closed(s: &[u8], from: usize, n: usize, x: Extent, k: u64, at: usize) -> bool
-    requires { (from ≤ length s.now) × (n ≤ length s.now) }
-    ensures { result ≡ closed (around s.now from n) x k at }
-{
-    match x {
-        Extent::Counted(count) => k == count,
-        Extent::Open => breaks(s, from, n, at),
-        Extent::Rest => at == n,
+impl Extent {
+    // Elements are at their end, with k of them, the last of which ends at this place.
+    fn is_closed(self, v: View<'_>, k: u64, at: usize) -> bool
+        ensures { result ≡ closed (seen v.entry) self k at }
+    {
+        match self {
+            Extent::Counted(count) => k == count,
+            Extent::Open => breaks(v, at),
+            Extent::Rest => at == v.len,
+        }
     }
-}
 
-// The place behind elements that are at their end: a break counts to the array or map.
-fn past_of(x: Extent, q: usize, n: usize) -> usize
-    requires { past x q ≤ n }
-    ensures { result ≡ past x q }
-{
-    match x {
-        Extent::Counted(_) => q,
-        Extent::Open => q + 1,
-        Extent::Rest => q,
+    // The place behind elements that are at their end: a break counts to the array or map.
+    fn past(self, q: usize) -> usize
+        requires { past self q < 2 ^ 64 }
+        ensures { result ≡ past self q }
+    {
+        match self {
+            Extent::Open => q + 1,
+            Extent::Counted(_) | Extent::Rest => q,
+        }
     }
-}
 
-// Where the item that a verdict is about ends.
-fn end_of(v: Verdict) -> End
-    ensures { result ≡ ended v }
-{
-    match v {
-        Ok(q) => End::At(q),
-        Err(_) => End::Nowhere,
+    // Where the elements end, by where their array does: in front of a break.
+    fn before(self, r: usize) -> usize
+        ensures { result ≡ before self r }
+    {
+        match self {
+            Extent::Open => r.saturating_sub(1),
+            Extent::Counted(_) | Extent::Rest => r,
+        }
     }
 }
 
 // Where the item at a place ends, within the nesting d.
-pub fn item_end(s: &[u8], from: usize, n: usize, at: usize, d: usize) -> End
-    requires { (from ≤ length s.now) × (n ≤ length s.now) × (d ≤ nesting) }
-    ensures { result ≡ item_end (around s.now from n) d at }
+#[tactic(auto, unfolding(crate::specs::Reading::item_end))]
+pub fn item_end(v: View<'_>, at: usize, d: usize) -> Option<usize>
+    requires { d ≤ nesting }
+    ensures { result ≡ item_end (seen v.entry) d at }
 {
-    if n < at {
-        return End::Nowhere;
+    if v.len < at {
+        return None;
     }
-    end_of(cbor::item_at(s, from, n, at, d))
-}
-
-// The end of an element, and what the element leaves to the next.
-fn leave(next: u64, e: End) -> Number
-    ensures { result ≡ leaving next e }
-{
-    match e {
-        End::At(q) => Number::Is(next, q),
-        End::Nowhere => Number::Not,
-    }
+    cbor::item_at(v.bytes, v.from, v.len, at, d).ok()
 }
 
 // Where a size ends, and an item with its size.
-fn size_end(s: &[u8], from: usize, n: usize, at: usize) -> End
-    requires { (from ≤ length s.now) × (n ≤ length s.now) }
-    ensures { result ≡ size_end (around s.now from n) at }
+#[tactic(auto, unfolding(crate::specs::Reading::size_end))]
+fn size_end(v: View<'_>, at: usize) -> Option<usize>
+    ensures { result ≡ size_end (seen v.entry) at }
 {
-    let size = unsigned_at(s, from, n, at);
-    match size {
-        Number::Is(v, q) => end_if(v < SIZE_LIMIT, q),
-        Number::Not => End::Nowhere,
-    }
+    let (size, q) = unsigned_at(v, at)?;
+    (size < SIZE_LIMIT).then_some(q)
 }
 
-fn sized_end(s: &[u8], from: usize, n: usize, d: usize, at: usize) -> End
-    requires { (from ≤ length s.now) × (n ≤ length s.now) × (d ≤ nesting) }
-    ensures { result ≡ sized_end (around s.now from n) d at }
+#[tactic(auto, unfolding(crate::specs::Reading::sized_end))]
+fn sized_end(v: View<'_>, d: usize, at: usize) -> Option<usize>
+    requires { d ≤ nesting }
+    ensures { result ≡ sized_end (seen v.entry) d at }
 {
-    let e = item_end(s, from, n, at, d);
-    match e {
-        End::At(q) => size_end(s, from, n, q),
-        End::Nowhere => End::Nowhere,
-    }
-}
-
-// Where an array of two ends that are an item and its size.
-fn close_two(s: &[u8], from: usize, n: usize, x: Extent, at: usize) -> End
-    requires { (from ≤ length s.now) × (n ≤ length s.now) × (at ≤ n) }
-    ensures { result ≡ two_end (around s.now from n) x at }
-{
-    if is_closed(s, from, n, x, 2, at) {
-        return End::At(past_of(x, at, n));
-    }
-    End::Nowhere
-}
-
-fn two_end(s: &[u8], from: usize, n: usize, d: usize, x: Extent, first: usize) -> End
-    requires { (from ≤ length s.now) × (n ≤ length s.now) × (d ≤ nesting) }
-    ensures { result ≡ on_end End.Nowhere (sized_end (around s.now from n) d first) (λ q. two_end (around s.now from n) x q) }
-{
-    let e = sized_end(s, from, n, d, first);
-    match e {
-        End::At(q) => close_two(s, from, n, x, q),
-        End::Nowhere => End::Nowhere,
-    }
+    let q = item_end(v, at, d)?;
+    size_end(v, q)
 }
 
 // Where a pair [item, size] ends.
-fn pair_end(s: &[u8], from: usize, n: usize, d: usize, at: usize) -> End
-    requires { (from ≤ length s.now) × (n ≤ length s.now) × (0 < d) × (d ≤ nesting) }
-    ensures { result ≡ pair_end (around s.now from n) d at }
+#[tactic(auto, unfolding(crate::specs::Reading::pair_end))]
+fn pair_end(v: View<'_>, d: usize, at: usize) -> Option<usize>
+    requires { (0 < d) × (d ≤ nesting) }
+    ensures { result ≡ pair_end (seen v.entry) d at }
 {
-    let pair = opens_at(s, from, n, ARRAY, at);
-    match pair {
-        Opening::At(x, first) => two_end(s, from, n, d - 1, x, first),
-        Opening::Not => End::Nowhere,
+    let (x, first) = opens_at(v, ARRAY, at)?;
+    let q = sized_end(v, d - 1, first)?;
+    if x.is_closed(v, 2, q) {
+        Some(x.past(q))
+    } else {
+        None
     }
 }
 
 // The key of a version map: a version not below `low`.
-fn key_at(s: &[u8], from: usize, n: usize, low: u64, at: usize) -> Number
-    requires { (from ≤ length s.now) × (n ≤ length s.now) }
-    ensures { result ≡ key_at (around s.now from n) low at }
+#[tactic(auto, unfolding(crate::specs::Reading::key_at))]
+fn key_at(v: View<'_>, low: u64, at: usize) -> Option<(u64, usize)>
+    ensures { result ≡ key_at (seen v.entry) low at }
 {
-    let key = unsigned_at(s, from, n, at);
-    match key {
-        Number::Is(v, q) => number_if(base::and(low <= v, v < VERSION_LIMIT), v, q),
-        Number::Not => Number::Not,
+    let (key, q) = unsigned_at(v, at)?;
+    if low <= key && key < VERSION_LIMIT {
+        Some((key, q))
+    } else {
+        None
     }
 }
 
 // A key of a version map and its value: the next key is greater.
-fn version_at(s: &[u8], from: usize, n: usize, d: usize, low: u64, at: usize) -> Number
-    requires { (from ≤ length s.now) × (n ≤ length s.now) × (d ≤ nesting) }
-    ensures { result ≡ version_at (around s.now from n) d low at }
+#[tactic(auto, unfolding(crate::specs::Reading::version_at))]
+fn version_at(v: View<'_>, d: usize, low: u64, at: usize) -> Option<(u64, usize)>
+    requires { d ≤ nesting }
+    ensures { result ≡ version_at (seen v.entry) d low at }
 {
-    let key = key_at(s, from, n, low, at);
-    match key {
-        Number::Is(v, q) => leave(v + 1, item_end(s, from, n, q, d)),
-        Number::Not => Number::Not,
-    }
+    let (key, q) = key_at(v, low, at)?;
+    Some((key + 1, item_end(v, q, d)?))
 }
 
-// The next element, where the one before left this.
-fn element_at(s: &[u8], from: usize, n: usize, d: usize, e: Element, low: u64, at: usize) -> Number
-    requires { (from ≤ length s.now) × (n ≤ length s.now) × (0 < d) × (d ≤ nesting) }
-    ensures { result ≡ element_at (around s.now from n) d e low at }
+// The next element, where the one before left this: what it leaves to the next, and where it ends.
+#[tactic(auto, unfolding(crate::specs::Reading::element_at))]
+fn element_at(v: View<'_>, d: usize, e: Element, low: u64, at: usize) -> Option<(u64, usize)>
+    requires { (0 < d) × (d ≤ nesting) }
+    ensures { result ≡ element_at (seen v.entry) d e low at }
 {
     match e {
-        Element::Item => leave(0, item_end(s, from, n, at, d)),
-        Element::Pair => leave(0, pair_end(s, from, n, d, at)),
-        Element::Version => version_at(s, from, n, d, low, at),
+        Element::Item => Some((0, item_end(v, at, d)?)),
+        Element::Pair => Some((0, pair_end(v, d, at)?)),
+        Element::Version => version_at(v, d, low, at),
     }
 }
 
 // Passes elements from a place on, within the nesting d: how many there are, and where the last of them ends.
-pub fn walk(
-    s: &[u8],
-    from: usize,
-    n: usize,
-    d: usize,
-    e: Element,
-    x: Extent,
-    first: usize,
-) -> Number
-    requires { (from ≤ length s.now) × (n ≤ length s.now) × (0 < d) × (d ≤ nesting) }
-    ensures { result ≡ elements_of (around s.now from n) d e x first }
+pub fn walk(v: View<'_>, d: usize, e: Element, x: Extent, first: usize) -> Option<(u64, usize)>
+    requires { (0 < d) × (d ≤ nesting) }
+    ensures { result ≡ elements_of (seen v.entry) d e x first }
 {
     let mut k: u64 = 0;
     let mut low: u64 = 0;
     let mut at = first;
-    while !is_closed(s, from, n, x, k, at) {
-        let next = element_at(s, from, n, d, e, low, at);
-        let Number::Is(l, q) = next else {
-            return Number::Not;
-        };
-        low = l;
+    while !x.is_closed(v, k, at) {
+        let (next, q) = element_at(v, d, e, low, at)?;
+        low = next;
         at = q;
         k += 1;
     }
-    Number::Is(k, at)
-}
-
-// The place from a up to an end.
-fn up_to(a: usize, e: End) -> Part
-    ensures { result ≡ up_to a e }
-{
-    match e {
-        End::At(q) => Part::Place(a, base::less(q, a), q),
-        End::Nowhere => Part::Wrong,
-    }
-}
-
-// What a field says that is a number which a test lets pass.
-fn part_if(test: bool, v: u64, q: usize) -> Part
-    ensures { result ≡ cond test (Part.Number v q) Part.Wrong }
-{
-    if test {
-        return Part::Number(v, q);
-    }
-    Part::Wrong
+    Some((k, at))
 }
 
 // A number below a limit.
-fn below_at(s: &[u8], from: usize, n: usize, limit: u64, at: usize) -> Part
-    requires { (from ≤ length s.now) × (n ≤ length s.now) }
-    ensures { result ≡ below limit (unsigned_at (around s.now from n) at) }
+fn below_at(v: View<'_>, limit: u64, at: usize) -> Option<(Part, usize)>
+    ensures { result ≡ below limit (unsigned_at (seen v.entry) at) }
 {
-    let number = unsigned_at(s, from, n, at);
-    match number {
-        Number::Is(v, q) => part_if(v < limit, v, q),
-        Number::Not => Part::Wrong,
-    }
+    let (n, q) = unsigned_at(v, at)?;
+    (n < limit).then_some((Part::Number(n), q))
 }
 
 // A bool: one byte.
-fn bool_at(s: &[u8], from: usize, n: usize, at: usize) -> Part
-    requires { (from ≤ length s.now) × (n ≤ length s.now) }
-    ensures { result ≡ bool_of (get_or (around s.now from n) at 0) at }
+fn bool_at(v: View<'_>, at: usize) -> Option<(Part, usize)>
+    ensures { result ≡ bool_of (get_or (seen v.entry) at 0) at }
 {
-    if n <= at {
-        return Part::Wrong;
+    if v.len <= at {
+        return None;
     }
-    let b = ring::byte_at(s, from, n, at);
-    if b == FALSE {
-        return Part::Number(0, at + 1);
+    match v.byte(at) {
+        FALSE => Some((Part::Number(0), at + 1)),
+        TRUE => Some((Part::Number(1), at + 1)),
+        _ => None,
     }
-    if b == TRUE {
-        return Part::Number(1, at + 1);
-    }
-    Part::Wrong
 }
 
 // Where an element of the message ends, which may be known.
-fn element_end(s: &[u8], from: usize, n: usize, at: usize, known: End) -> End
-    requires { (from ≤ length s.now) × (n ≤ length s.now) × ((q : ℕ) → known ≡ End.At q → item_end (around s.now from n) in_message at ≡ End.At q) }
-    ensures { result ≡ item_end (around s.now from n) in_message at }
+fn element_end(v: View<'_>, at: usize, known: Option<usize>) -> Option<usize>
+    requires { (q : ℕ) → known ≡ Some q → item_end (seen v) in_message at ≡ Some q }
+    ensures { result ≡ item_end (seen v.entry) in_message at }
 {
     match known {
-        End::At(q) => End::At(q),
-        End::Nowhere => item_end(s, from, n, at, IN_MESSAGE),
+        Some(q) => Some(q),
+        None => item_end(v, at, IN_MESSAGE),
     }
 }
 
@@ -423,86 +280,58 @@ pub fn opener_of(e: Element) -> u8
     ensures { (result ≡ opener e) × (result < 8) }
 {
     match e {
-        Element::Item => ARRAY,
-        Element::Pair => ARRAY,
+        Element::Item | Element::Pair => ARRAY,
         Element::Version => MAP,
-    }
-}
-
-// The place of elements, from the first of them to where the last ends.
-fn list_of(x: Extent, first: usize, elements: Number, n: usize) -> Part
-    requires { (k q : ℕ) → elements ≡ Number.Is k q → past x q ≤ n }
-    ensures { result ≡ listed x first elements }
-{
-    match elements {
-        Number::Is(_, q) => Part::Place(first, base::less(q, first), past_of(x, q, n)),
-        Number::Not => Part::Wrong,
-    }
-}
-
-// Where the elements end, by where their array does: in front of a break.
-fn before_of(x: Extent, r: usize) -> usize
-    ensures { result ≡ before x r }
-{
-    match x {
-        Extent::Counted(_) => r,
-        Extent::Open => base::less(r, 1),
-        Extent::Rest => r,
-    }
-}
-
-// The same of items, by where their array ends.
-fn items_of(x: Extent, first: usize, e: End) -> Part
-    ensures { result ≡ items_up_to x first e }
-{
-    match e {
-        End::At(r) => Part::Place(first, base::less(before_of(x, r), first), r),
-        End::Nowhere => Part::Wrong,
     }
 }
 
 // The elements of the list at a place, the first of them behind its head: items end where the list does.
 fn elements_at(
-    s: &[u8],
-    from: usize,
-    n: usize,
+    v: View<'_>,
     e: Element,
     at: usize,
     x: Extent,
     first: usize,
-    known: End,
-) -> Part
-    requires { (from ≤ length s.now) × (n ≤ length s.now) × ((q : ℕ) → known ≡ End.At q → item_end (around s.now from n) in_message at ≡ End.At q) × (opens_at (around s.now from n) (opener e) at ≡ Opening.At x first) }
-    ensures { result ≡ listed x first (elements_of (around s.now from n) in_list e x first) }
+    known: Option<usize>,
+) -> Option<(Part, usize)>
+    requires { ((q : ℕ) → known ≡ Some q → item_end (seen v) in_message at ≡ Some q) × (opens_at (seen v) (opener e) at ≡ Some (x, first)) }
+    ensures { result ≡ listed x first (elements_of (seen v.entry) in_list e x first) }
 {
     match e {
-        Element::Item => items_of(x, first, element_end(s, from, n, at, known)),
-        Element::Pair => list_of(x, first, walk(s, from, n, IN_LIST, e, x, first), n),
-        Element::Version => list_of(x, first, walk(s, from, n, IN_LIST, e, x, first), n),
+        Element::Item => {
+            let r = element_end(v, at, known)?;
+            Some((Part::Place(first, x.before(r).saturating_sub(first)), r))
+        }
+        Element::Pair | Element::Version => {
+            let (_, q) = walk(v, IN_LIST, e, x, first)?;
+            Some((Part::Place(first, q.saturating_sub(first)), x.past(q)))
+        }
     }
 }
 
 // A list, or a map.
-fn list_at(s: &[u8], from: usize, n: usize, e: Element, at: usize, known: End) -> Part
-    requires { (from ≤ length s.now) × (n ≤ length s.now) × ((q : ℕ) → known ≡ End.At q → item_end (around s.now from n) in_message at ≡ End.At q) }
-    ensures { result ≡ part_of (around s.now from n) (Field.List e) at }
+#[tactic(auto, unfolding(crate::specs::Reading::part_of))]
+fn list_at(v: View<'_>, e: Element, at: usize, known: Option<usize>) -> Option<(Part, usize)>
+    requires { (q : ℕ) → known ≡ Some q → item_end (seen v) in_message at ≡ Some q }
+    ensures { result ≡ part_of (seen v.entry) (Field.List e) at }
 {
-    let list = opens_at(s, from, n, opener_of(e), at);
-    match list {
-        Opening::At(x, first) => elements_at(s, from, n, e, at, x, first, known),
-        Opening::Not => Part::Wrong,
-    }
+    let (x, first) = opens_at(v, opener_of(e), at)?;
+    elements_at(v, e, at, x, first, known)
 }
 
-// What a field at a place says; `known` is where it ends, if that is known.
-pub fn part_at(s: &[u8], from: usize, n: usize, f: Field, at: usize, known: End) -> Part
-    requires { (from ≤ length s.now) × (n ≤ length s.now) × ((q : ℕ) → known ≡ End.At q → item_end (around s.now from n) in_message at ≡ End.At q) }
-    ensures { result ≡ part_of (around s.now from n) f at }
+// What a field at a place says, and the place behind it, if it is what it should be; `known` is where it ends, if that is known.
+#[tactic(auto, unfolding(crate::specs::Reading::part_of))]
+pub fn part_at(v: View<'_>, f: Field, at: usize, known: Option<usize>) -> Option<(Part, usize)>
+    requires { (q : ℕ) → known ≡ Some q → item_end (seen v) in_message at ≡ Some q }
+    ensures { result ≡ part_of (seen v.entry) f at }
 {
     match f {
-        Field::Item => up_to(at, element_end(s, from, n, at, known)),
-        Field::List(e) => list_at(s, from, n, e, at, known),
-        Field::Below(limit) => below_at(s, from, n, limit, at),
-        Field::Bool => bool_at(s, from, n, at),
+        Field::Item => {
+            let q = element_end(v, at, known)?;
+            Some((Part::Place(at, q.saturating_sub(at)), q))
+        }
+        Field::List(e) => list_at(v, e, at, known),
+        Field::Below(limit) => below_at(v, limit, at),
+        Field::Bool => bool_at(v, at),
     }
 }

@@ -9,10 +9,10 @@ use borrow.Author.Tests.{eq-eqb, ne_eqb, eqb-true}
 use native.Mathlib.Omega.{arith}
 use native.Mathlib.Decide.{ℕ_discrete, dec_lt}
 use native.Mathlib.Numerals.{add-one}
+use Rattle.std.specs.Prelude.{Option, Some, None, Ok}
 use lib.Dec.{eqb}
 use lib.ListN.{length, get_or, set, drop}
 use lib.Seq.{drop-cons, drop-length}
-use Rattle.std.specs.Prelude.{Ok}
 use Rattle.item.specs.Grammar.{One, Items, Reads, item}
 use Rattle.item.specs.Verdict.{verdict}
 use Rattle.item.proofs.Theorem.{one_end}
@@ -21,16 +21,10 @@ use Rattle.messages.specs.declared.forms.Listed.{Listed}
 use Rattle.messages.specs.declared.forms.Listed.TheVariants.{Row, Unknown}
 use Rattle.elements.specs.declared.Extent.{Extent}
 use Rattle.elements.specs.declared.Extent.TheVariants.{Counted, Open, Rest}
-use Rattle.elements.specs.declared.Opening.{Opening}
-use Rattle.elements.specs.declared.Opening.TheVariants as opening
-use Rattle.elements.specs.declared.Number.{Number}
-use Rattle.elements.specs.declared.Number.TheVariants.{Is, Not}
 use Rattle.messages.specs.Forms.{form_of}
 use Rattle.messages.specs.Inside.{form_at, Finds, Begins, Stopped, last_end, has_count}
 use Rattle.elements.specs.declared.Field.{Field}
 use Rattle.elements.specs.declared.Field.TheVariants as field
-use Rattle.elements.specs.declared.End.{End}
-use Rattle.elements.specs.declared.End.TheVariants.{At, Nowhere}
 use Rattle.elements.specs.declared.Part.{Part}
 use Rattle.elements.specs.declared.Part.TheVariants as part
 use Rattle.messages.specs.declared.Reading.TheVariants.{NotArray, UnknownKind, WrongCount, WrongField}
@@ -39,10 +33,10 @@ use Rattle.messages.specs.declared.Answer.{Answer}
 use Rattle.elements.specs.Besides.Matching.{ItemAt, ItemsAt, UnsignedAt, Opens, FieldAt}
 use Rattle.elements.specs.Matching.{Break, array, in_message}
 use Rattle.messages.specs.Matching.{begun, with_number, with_place}
-use Rattle.elements.specs.Reading.{on_end, unsigned_at, opens_at, item_end, part_of}
-use Rattle.messages.specs.Reading.{failed, read, behind, with_part, fields_of, counted, numbered_of, count_from, message_of}
-use Rattle.elements.proofs.ElementLaws.{Numbers, Openings, unsigned_sound, opens_sound, forward, item_found, item_then, none_at, ahead, no_items, first_item, number_item, item_array, array_elements, item_no_break, Parts, part_sound, field_item}
-use Rattle.elements.proofs.Steps.{number_then, number_not, opening_then, opening_not, end_then, end_not}
+use Rattle.elements.specs.Reading.{on_pair, unsigned_at, opens_at, item_end, part_of}
+use Rattle.messages.specs.Reading.{failed, read, with_part, fields_of, counted, numbered_of, count_from, message_of}
+use Rattle.elements.proofs.ElementLaws.{Pairwise, unsigned_sound, opens_sound, forward, item_found, item_then, none_at, ahead, no_items, first_item, number_item, item_array, array_elements, item_no_break, Parts, part_sound, field_item}
+use Rattle.elements.proofs.Steps.{pair_then, pair_not}
 use Rattle.messages.proofs.Theorem.{whole_item, open_count}
 
 -- a message with a number more, or a place more
@@ -59,37 +53,33 @@ place_said m a s e f =
 
 -- a field more than a message so far has room for three at least
 pub with_count : (m : Message) (w : Part) (i : ℕ) → m.count ≤ i → m.parts ≤ i → ((with_part m w).count ≤ i + 1) × ((with_part m w).parts ≤ i + 1)
-with_count m (part.Number v q) i h l = (omega arith, omega arith)
-with_count m (part.Place a s q) i h l = (omega arith, omega arith)
-with_count m part.Wrong i h l = (omega arith, omega arith)
+with_count m (part.Number v) i h l = (omega arith, omega arith)
+with_count m (part.Place a s) i h l = (omega arith, omega arith)
 
 module _ (bs : List ℕ) where
   -- ---- what is left of the fields
 
   left_more : (fs : List Field) (i p : ℕ) (m : Message) → i < length fs
       → fields_of bs (drop i fs) (i + 1) p m
-      ≡ on_end (failed (WrongField (i + 1))) (behind (part_of bs (get_or fs i field.Item) p))
-      (λ q. fields_of bs (drop (i + 1) fs) (i + 1 + 1) q (with_part m (part_of bs (get_or fs i field.Item) p)))
+      ≡ on_pair (failed (WrongField (i + 1))) (part_of bs (get_or fs i field.Item) p) (λ x q. fields_of bs (drop (i + 1) fs) (i + 1 + 1) q (with_part m x))
   unfolding fields_of
   left_more fs i p m h =
       ap (λ (l : List Field). fields_of bs l (i + 1) p m)
       (drop-cons fs i field.Item h ∙ ap (λ (n : ℕ). get_or fs i field.Item ∷ drop n fs) (sym (add-one i)))
 
-  module _ (fs : List Field) (i p : ℕ) (m : Message) (h : i < length fs) {f : Field} {w : Part} {e : End}
-      (is : f ≡ get_or fs i field.Item) (found : w ≡ part_of bs f p) (ends : e ≡ behind w) where
+  module _ (fs : List Field) (i p : ℕ) (m : Message) (h : i < length fs) {f : Field} {w : Option (Part × ℕ)}
+      (is : f ≡ get_or fs i field.Item) (found : w ≡ part_of bs f p) where
     same : w ≡ part_of bs (get_or fs i field.Item) p
     same = found ∙ ap (λ (g : Field). part_of bs g p) is
 
-    pub one_more : {q : ℕ} → e ≡ At q → fields_of bs (drop (i + 1) fs) (i + 1 + 1) q (with_part m w) ≡ fields_of bs (drop i fs) (i + 1) p m
-    one_more {q} at =
-        end_then (failed (WrongField (i + 1))) (λ q. fields_of bs (drop (i + 1) fs) (i + 1 + 1) q (with_part m (part_of bs (get_or fs i field.Item) p)))
-        (ends ∙ ap behind same) at (ap (λ (x : Part). fields_of bs (drop (i + 1) fs) (i + 1 + 1) q (with_part m x)) same)
+    pub one_more : {x : Part} {q : ℕ} → w ≡ Some (x, q) → fields_of bs (drop (i + 1) fs) (i + 1 + 1) q (with_part m x) ≡ fields_of bs (drop i fs) (i + 1) p m
+    one_more at =
+        pair_then (failed (WrongField (i + 1))) (λ x q. fields_of bs (drop (i + 1) fs) (i + 1 + 1) q (with_part m x)) same at refl
         ∙ sym (left_more fs i p m h)
 
-    pub one_wrong : e ≡ Nowhere → failed (WrongField (i + 1)) ≡ fields_of bs (drop i fs) (i + 1) p m
+    pub one_wrong : w ≡ None → failed (WrongField (i + 1)) ≡ fields_of bs (drop i fs) (i + 1) p m
     one_wrong not =
-        end_not (failed (WrongField (i + 1))) (λ q. fields_of bs (drop (i + 1) fs) (i + 1 + 1) q (with_part m (part_of bs (get_or fs i field.Item) p)))
-        (ends ∙ ap behind same) not
+        pair_not (failed (WrongField (i + 1))) (λ x q. fields_of bs (drop (i + 1) fs) (i + 1 + 1) q (with_part m x)) same not
         ∙ sym (left_more fs i p m h)
 
   pub none_left : (fs : List Field) (i p : ℕ) (m : Message) → i ≡ length fs → read m ≡ fields_of bs (drop i fs) (i + 1) p m
@@ -127,37 +117,36 @@ module _ (bs : List ℕ) where
   then_item (suc k) s i = let f = first_item bs s in item_then bs f.1 (then_item k f.2 i)
 
   -- a field that is found is an item of the array
-  pub part_item : (f : Field) (p : ℕ) {q : ℕ} {w : Part} {e : End} → w ≡ part_of bs f p → e ≡ behind w → e ≡ At q → ItemAt bs in_message p q
-  part_item f p {q} {w} found ends at = of w (subst (Parts bs (λ x r. FieldAt bs f p x r)) (sym found) (part_sound bs f p)) (sym ends ∙ at)
+  pub part_item : (f : Field) (p : ℕ) {x : Part} {q : ℕ} {w : Option (Part × ℕ)} → w ≡ part_of bs f p → w ≡ Some (x, q) → ItemAt bs in_message p q
+  part_item f p {x} {q} found at = of x (subst (Parts bs (λ x r. FieldAt bs f p x r)) (sym found ∙ at) (part_sound bs f p))
     where
-      of : (w : Part) → Parts bs (λ x r. FieldAt bs f p x r) w → behind w ≡ At q → ItemAt bs in_message p q
-      of (part.Number v r) s e = let g : r ≡ q = cc in subst (λ (n : ℕ). ItemAt bs in_message p n) g (field_item bs s)
-      of (part.Place a l r) s e = let g : r ≡ q = cc in subst (λ (n : ℕ). ItemAt bs in_message p n) g (field_item bs s)
-      of part.Wrong s e = absurd (let z : ◌≡◌ {A = ℕ} 0 1 = cc in omega arith)
+      of : (x : Part) → Parts bs (λ x r. FieldAt bs f p x r) (Some (x, q)) → ItemAt bs in_message p q
+      of (part.Number v) s = field_item bs s
+      of (part.Place a l) s = field_item bs s
 
   -- the last of k items ends where they end, and that is known of it alone
-  pub last_ends : {d p q n : ℕ} (i k : ℕ) → i + 1 ≡ k → ItemsAt bs d i p q → ItemsAt bs d k p n → item_end bs d q ≡ At n
+  pub last_ends : {d p q n : ℕ} (i k : ℕ) → i + 1 ≡ k → ItemsAt bs d i p q → ItemsAt bs d k p n → item_end bs d q ≡ Some n
   last_ends {d} {p} {q} {n} i k e s t =
       let z : k - i ≡ 1 = omega arith in
       let f = first_item bs (subst (λ (j : ℕ). ItemsAt bs d j q n) z (items_behind i (omega arith) s t)) in
       item_found bs (subst (λ (r : ℕ). ItemAt bs d q r) (no_items bs f.2) f.1)
 
-  nowhere : {q : ℕ} → Nowhere ≡ At q → ⊥
+  nowhere : {q : ℕ} → None ≡ Some q → ⊥
   nowhere {q} e = let y : ◌≡◌ {A = ℕ} 0 1 = cc in omega arith
 
-  pub known_end : {q : ℕ} (t : Bool) {e end : End} → e ≡ cond t end Nowhere → e ≡ At q → (t ≡ true) × (end ≡ At q)
+  pub known_end : {q : ℕ} (t : Bool) {e end : Option ℕ} → e ≡ cond t end None → e ≡ Some q → (t ≡ true) × (end ≡ Some q)
   known_end true f g = (refl, sym f ∙ g)
   known_end false f g = absurd (nowhere (sym f ∙ g))
 
   -- ---- the phases
 
-  kind_is : (a : ℕ) {kind b : ℕ} {n : Number} → n ≡ unsigned_at bs a → n ≡ Is kind b → UnsignedAt bs a kind b
-  kind_is a e f = subst (Numbers (λ v q. UnsignedAt bs a v q)) (sym e ∙ f) (unsigned_sound bs a)
+  kind_is : (a : ℕ) {kind b : ℕ} {n : Option (ℕ × ℕ)} → n ≡ unsigned_at bs a → n ≡ Some (kind, b) → UnsignedAt bs a kind b
+  kind_is a e f = subst (Pairwise (λ v q. UnsignedAt bs a v q)) (sym e ∙ f) (unsigned_sound bs a)
 
   -- an array, whose first element is its kind
   module _ {x : Extent} {a kind b : ℕ} (g : Begins bs x a kind b) where
     array_opens : Opens bs array 0 x a
-    array_opens = subst (Openings (λ x a. Opens bs array 0 x a)) g.1 (opens_sound bs array 0)
+    array_opens = subst (Pairwise (λ x a. Opens bs array 0 x a)) g.1 (opens_sound bs array 0)
 
     pub kind_item : ItemAt bs in_message a b
     kind_item = number_item bs (kind_is a refl g.2)
@@ -202,7 +191,7 @@ module _ (bs : List ℕ) where
   told Rest g s = absurd (array_opens g)
 
   -- and where its head tells it, its last element ends where the bytes end
-  last_told : (x : Extent) {a kind b c q : ℕ} → Begins bs x a kind b → last_end x (c + 1) (length bs) ≡ At q → ItemsAt bs in_message c b q
+  last_told : (x : Extent) {a kind b c q : ℕ} → Begins bs x a kind b → last_end x (c + 1) (length bs) ≡ Some q → ItemsAt bs in_message c b q
   last_told (Counted k) {b = b} {c = c} {q = q} g e =
       let f = known_end (eqb k (c + 1)) refl e in
       let z : k - 1 ≡ c = omega (arith, eqb-true k (c + 1) f.0) in
@@ -216,30 +205,30 @@ module _ (bs : List ℕ) where
     pub count_told : {left r : ℕ} {t : Bool} → t ≡ has_count bs x (k + 1) left r → Stopped bs c b left r → t ≡ eqb (count_from bs x a) (c + 1)
     count_told {left} {r} e s = e ∙ ap (λ (k : ℕ). has_count bs x (k + 1) left r) is ∙ told x g s
 
-    pub last_known : {n q : ℕ} {e : End} → length bs ≡ n → e ≡ last_end x (k + 1) n → e ≡ At q → ItemsAt bs in_message c b q
+    pub last_known : {n q : ℕ} {e : Option ℕ} → length bs ≡ n → e ≡ last_end x (k + 1) n → e ≡ Some q → ItemsAt bs in_message c b q
     last_known {n} long e f =
         last_told x g (ap (last_end x (c + 1)) long ∙ ap (λ (k : ℕ). last_end x (k + 1) n) (sym is) ∙ sym e ∙ f)
 
-  pub message_array : (p : Protocol) {x : Extent} {a : ℕ} {n : Opening} {r : Answer} → verdict bs ≡ Ok (length bs) → n ≡ opens_at bs array 0
-      → n ≡ opening.At x a → r ≡ numbered_of p bs (count_from bs x a) a → r ≡ message_of p bs
+  pub message_array : (p : Protocol) {x : Extent} {a : ℕ} {n : Option (Extent × ℕ)} {r : Answer} → verdict bs ≡ Ok (length bs) → n ≡ opens_at bs array 0
+      → n ≡ Some (x, a) → r ≡ numbered_of p bs (count_from bs x a) a → r ≡ message_of p bs
   unfolding message_of
   message_array p w e f g =
-      opening_then (failed NotArray) (λ x a. numbered_of p bs (count_from bs x a) a) e f g ∙ sym (rw (w, eq-eqb (length bs) (length bs) refl))
+      pair_then (failed NotArray) (λ x a. numbered_of p bs (count_from bs x a) a) e f g ∙ sym (rw (w, eq-eqb (length bs) (length bs) refl))
 
-  pub message_none : (p : Protocol) {n : Opening} → verdict bs ≡ Ok (length bs) → n ≡ opens_at bs array 0 → n ≡ opening.Not
+  pub message_none : (p : Protocol) {n : Option (Extent × ℕ)} → verdict bs ≡ Ok (length bs) → n ≡ opens_at bs array 0 → n ≡ None
       → failed NotArray ≡ message_of p bs
   unfolding message_of
   message_none p w e f =
-      opening_not (failed NotArray) (λ x a. numbered_of p bs (count_from bs x a) a) e f ∙ sym (rw (w, eq-eqb (length bs) (length bs) refl))
+      pair_not (failed NotArray) (λ x a. numbered_of p bs (count_from bs x a) a) e f ∙ sym (rw (w, eq-eqb (length bs) (length bs) refl))
 
-  pub kind_named : (p : Protocol) (k a : ℕ) {kind b : ℕ} {n : Number} {r : Answer} → n ≡ unsigned_at bs a → n ≡ Is kind b
+  pub kind_named : (p : Protocol) (k a : ℕ) {kind b : ℕ} {n : Option (ℕ × ℕ)} {r : Answer} → n ≡ unsigned_at bs a → n ≡ Some (kind, b)
       → r ≡ counted bs k kind b (form_of p kind) → r ≡ numbered_of p bs k a
   unfolding numbered_of
-  kind_named p k a e f g = number_then (failed NotArray) (λ kind b. counted bs k kind b (form_of p kind)) e f g
+  kind_named p k a e f g = pair_then (failed NotArray) (λ kind b. counted bs k kind b (form_of p kind)) e f g
 
-  pub kind_none : (p : Protocol) (k a : ℕ) {n : Number} → n ≡ unsigned_at bs a → n ≡ Not → failed NotArray ≡ numbered_of p bs k a
+  pub kind_none : (p : Protocol) (k a : ℕ) {n : Option (ℕ × ℕ)} → n ≡ unsigned_at bs a → n ≡ None → failed NotArray ≡ numbered_of p bs k a
   unfolding numbered_of
-  kind_none p k a e f = number_not (failed NotArray) (λ kind b. counted bs k kind b (form_of p kind)) e f
+  kind_none p k a e f = pair_not (failed NotArray) (λ kind b. counted bs k kind b (form_of p kind)) e f
 
   pub form_known : (p : Protocol) (k kind b : ℕ) {row : ℕ} {w : Listed} {r : Answer} → Finds p kind w → w ≡ Row row
       → r ≡ counted bs k kind b (some (form_at row).fields) → r ≡ counted bs k kind b (form_of p kind)

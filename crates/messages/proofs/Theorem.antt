@@ -5,13 +5,15 @@ use Prim.Native.Nat.{ℕ, suc, ◌+◌, ◌*◌, ◌≤◌}
 use mathlib.Core.Path.{◌≡◌, refl, sym, ap, subst, subst⁻¹, ◌∙◌}
 use mathlib.Core.Bool.{true}
 use mathlib.Core.List.{List, [], ◌∷◌}
-use mathlib.Core.Option.{Option, none, some}
+use mathlib.Core.Option as maybe
+use mathlib.Core.Option.{none, some}
+use Rattle.std.specs.Prelude.{Option, Some, None, Ok, Err}
+use Rattle.std.proofs.lemmas.Option.{some_pair_parts}
 use native.Mathlib.Omega.{arith}
 use lib.Dec.{eqb}
 use lib.ListN.{length, get_or, drop, length-drop}
 use lib.Seq.{drop-length}
 use borrow.Author.Tests.{eqb-true, eq-eqb}
-use Rattle.std.specs.Prelude.{Ok, Err}
 use Rattle.base.proofs.Conds.{cond_cases}
 use Rattle.head.specs.Read.{head_at}
 use Rattle.head.specs.declared.read.Head.TheVariants as head
@@ -23,8 +25,6 @@ use Rattle.rows.specs.declared.Protocol.{Protocol}
 use Rattle.elements.specs.declared.Element.TheVariants as element
 use Rattle.elements.specs.declared.Extent.{Extent}
 use Rattle.elements.specs.declared.Extent.TheVariants.{Counted, Open, Rest}
-use Rattle.elements.specs.declared.Opening.TheVariants as opening
-use Rattle.elements.specs.declared.Number.TheVariants.{Is}
 use Rattle.elements.specs.declared.Field.{Field}
 use Rattle.elements.specs.declared.Part.{Part}
 use Rattle.elements.specs.declared.Part.TheVariants as part
@@ -37,10 +37,10 @@ use Rattle.elements.specs.Besides.Matching.{Value, number, place, ItemAt, ItemsA
 use Rattle.elements.specs.Matching.{Break, past, array, in_message}
 use Rattle.messages.specs.Besides.Matching.{FieldsAt, no_field, a_field, Matches, saying, said_all, message_from}
 use Rattle.messages.specs.Matching.{begun, with_number, with_place}
-use Rattle.elements.specs.Reading.{on_end, unsigned_at, opens_at, elements_of, part_of}
-use Rattle.messages.specs.Reading.{failed, read, behind, with_part, fields_of, counted, wholly, numbered_of, count_from, message_of}
+use Rattle.elements.specs.Reading.{on_pair, unsigned_at, opens_at, elements_of, part_of}
+use Rattle.messages.specs.Reading.{failed, read, with_part, fields_of, counted, wholly, numbered_of, count_from, message_of}
 use Rattle.messages.specs.Besides.Theorem.{Says, ReadsForms, OneMatch, MessageIsItem}
-use Rattle.elements.proofs.ElementLaws.{number_cases, opening_cases, unsigned_sound, opens_sound, unsigned_found, opens_found, opens_within, number_item, array_elements, items_elements, elements_found, list_item, none_at, item_then, Parts, part_sound, got, part_found, field_item}
+use Rattle.elements.proofs.ElementLaws.{pair_cases, unsigned_sound, opens_sound, unsigned_found, opens_found, opens_within, number_item, array_elements, items_elements, elements_found, list_item, none_at, item_then, Parts, part_sound, got, part_found, field_item}
 
 module _ (bs : List ℕ) where
   fields_items : {fs : List Field} {p q : ℕ} {xs : List Value} → p ≤ length bs → FieldsAt bs fs p xs q → ItemsAt bs in_message (length fs) p q
@@ -50,8 +50,8 @@ module _ (bs : List ℕ) where
   -- ---- the fields
 
   -- on from what a field says
-  abbrev further : Part → List Field → ℕ → Message → Answer
-  further w fs i m = on_end (failed (WrongField i)) (behind w) (λ q. fields_of bs fs (i + 1) q (with_part m w))
+  abbrev further : Option (Part × ℕ) → List Field → ℕ → Message → Answer
+  further w fs i m = on_pair (failed (WrongField i)) w (λ x q. fields_of bs fs (i + 1) q (with_part m x))
 
   further_got : (x : Value) (q : ℕ) (fs : List Field) (i : ℕ) (m : Message) → further (got bs x q) fs i m ≡ fields_of bs fs (i + 1) q (saying m x)
   further_got (number v) q fs i m = refl
@@ -61,20 +61,20 @@ module _ (bs : List ℕ) where
   unfolding fields_of said_all
   fields_found i m no_field = refl
   fields_found i m (a_field {fs = fs} {q = q} {x = x} f r) =
-      ap (λ (w : Part). further w fs i m) (part_found bs f) ∙ further_got x q fs i m ∙ fields_found (i + 1) (saying m x) r
+      ap (λ (w : Option (Part × ℕ)). further w fs i m) (part_found bs f) ∙ further_got x q fs i m ∙ fields_found (i + 1) (saying m x) r
 
   abbrev Found : List Field → ℕ → Message → Message → Type 0
   Found fs p m n = (xs : List Value) × (q : ℕ) × FieldsAt bs fs p xs q × (n ≡ said_all m xs)
 
-  field_sound : (f : Field) (fs : List Field) (i p : ℕ) (m n : Message) (w : Part) → Parts bs (λ x q. FieldAt bs f p x q) w
+  field_sound : (f : Field) (fs : List Field) (i p : ℕ) (m n : Message) (w : Option (Part × ℕ)) → Parts bs (λ x q. FieldAt bs f p x q) w
       → ((q : ℕ) (o : Message) → fields_of bs fs (i + 1) q o ≡ read n → Found fs q o n)
       → further w fs i m ≡ read n → Found (f ∷ fs) p m n
   unfolding said_all
-  field_sound f fs i p m n (part.Number v q) s go e =
+  field_sound f fs i p m n (Some (part.Number v, q)) s go e =
       let r = go q (with_number m v) e in (number v ∷ r.0, r.1, a_field s r.2, r.3)
-  field_sound f fs i p m n (part.Place a l q) s go e =
+  field_sound f fs i p m n (Some (part.Place a l, q)) s go e =
       let r = go q (with_place m a l) e in (place a l ∷ r.0, r.1, a_field s r.2, r.3)
-  field_sound f fs i p m n part.Wrong s go e = absurd (let z : WrongField i ≡ Read = ap (λ (a : Answer). a.reading) e in let y : ◌≡◌ {A = ℕ} 0 1 = cc in omega arith)
+  field_sound f fs i p m n None s go e = absurd (let z : WrongField i ≡ Read = ap (λ (a : Answer). a.reading) e in let y : ◌≡◌ {A = ℕ} 0 1 = cc in omega arith)
 
   fields_sound : (fs : List Field) (i p : ℕ) (m n : Message) → fields_of bs fs i p m ≡ read n → Found fs p m n
   unfolding fields_of said_all
@@ -112,7 +112,7 @@ module _ (bs : List ℕ) where
   -- an array's count, by what is in it
   pub open_count : {a k q : ℕ} → a ≤ length bs → ItemsAt bs in_message k a q → get_or bs q 0 ≡ Break → count_from bs Open a ≡ k
   open_count {a} {k} {q} h s c =
-      let found : elements_of bs in_message element.Item Open a ≡ Is k q =
+      let found : elements_of bs in_message element.Item Open a ≡ Some (k, q) =
       elements_found bs in_message element.Item Open h (items_elements bs k 0 s) c in
       rw found
 
@@ -133,7 +133,7 @@ module _ (bs : List ℕ) where
         (list_item bs element.Item m.extent k m.opens
         (subst (λ (n : ℕ). ItemsAt bs in_message n m.first m.last) z (elements m.named m.matched)) m.closes)
 
-    counted_sound : (x : Extent) (kind a b : ℕ) (n : Message) (w : Option (List Field)) → form_of p kind ≡ w → ItemAt bs nesting 0 (length bs)
+    counted_sound : (x : Extent) (kind a b : ℕ) (n : Message) (w : maybe.Option (List Field)) → form_of p kind ≡ w → ItemAt bs nesting 0 (length bs)
         → Opens bs array 0 x a → UnsignedAt bs a kind b → counted bs (count_from bs x a) kind b w ≡ read n → Says p bs n
     counted_sound x kind a b n none f i o u = λ e. absurd (let z : UnknownKind ≡ Read = failing e in let y : ◌≡◌ {A = ℕ} 0 1 = cc in omega arith)
     counted_sound x kind a b n (some fs) f i o u =
@@ -172,9 +172,9 @@ module _ (bs : List ℕ) where
         cond_cases P (wholly (verdict bs) (length bs))
         (λ t.
         let i : ItemAt bs nesting 0 (length bs) = whole_item (wholly_true (verdict bs) (length bs) t) in
-        opening_cases P (λ x a. numbered_of p bs (count_from bs x a) a) (opens_at bs array 0) (opens_sound bs array 0) not-array
+        pair_cases P (λ x a. numbered_of p bs (count_from bs x a) a) (opens_at bs array 0) (opens_sound bs array 0) not-array
         (λ x a o.
-        number_cases P (λ kind b. counted bs (count_from bs x a) kind b (form_of p kind)) (unsigned_at bs a) (unsigned_sound bs a) not-array
+        pair_cases P (λ kind b. counted bs (count_from bs x a) kind b (form_of p kind)) (unsigned_at bs a) (unsigned_sound bs a) not-array
         (λ kind b u. counted_sound x kind a b n (form_of p kind) refl i o u)))
         (λ _. not-array)
 
@@ -196,10 +196,10 @@ module _ (bs : List ℕ) where
   -- ---- one match
 
   pub got_same : (x y : Value) (q r : ℕ) → got bs x q ≡ got bs y r → (x ≡ y) × (q ≡ r)
-  got_same (number v) (number w) q r e = (cc, cc)
-  got_same (number v) (place a l) q r e = absurd (let z : ◌≡◌ {A = ℕ} 0 1 = cc in omega arith)
-  got_same (place a l) (number v) q r e = absurd (let z : ◌≡◌ {A = ℕ} 0 1 = cc in omega arith)
-  got_same (place a l) (place b k) q r e = (cc, cc)
+  got_same (number v) (number w) q r e = let s = some_pair_parts (part.Number v) (part.Number w) q r e in let z : part.Number v ≡ part.Number w = s.0 in (cc, s.1)
+  got_same (number v) (place a l) q r e = absurd (let s = some_pair_parts (part.Number v) (part.Place a l) q r e in let y : part.Number v ≡ part.Place a l = s.0 in let z : ◌≡◌ {A = ℕ} 0 1 = cc in omega arith)
+  got_same (place a l) (number v) q r e = absurd (let s = some_pair_parts (part.Place a l) (part.Number v) q r e in let y : part.Place a l ≡ part.Number v = s.0 in let z : ◌≡◌ {A = ℕ} 0 1 = cc in omega arith)
+  got_same (place a l) (place b k) q r e = let s = some_pair_parts (part.Place a l) (part.Place b k) q r e in let z : part.Place a l ≡ part.Place b k = s.0 in (cc, s.1)
 
   fields_one : {fs : List Field} {p q r : ℕ} {xs ys : List Value} → FieldsAt bs fs p xs q → FieldsAt bs fs p ys r → xs ≡ ys
   fields_one no_field no_field = refl
@@ -215,9 +215,9 @@ message_is_item p bs kind xs m = rw drop-length at (matches_item bs p m).reads
 
 pub one_match : OneMatch
 one_match p bs kind other xs ys m n =
-    let o : opening.At m.extent m.first ≡ opening.At n.extent n.first =
-    sym (opens_found bs element.Item 0 m.extent m.opens) ∙ opens_found bs element.Item 0 n.extent n.opens in
-    let a : m.first ≡ n.first = cc in
+    let o = some_pair_parts m.extent n.extent m.first n.first
+    (sym (opens_found bs element.Item 0 m.extent m.opens) ∙ opens_found bs element.Item 0 n.extent n.opens) in
+    let a : m.first ≡ n.first = o.1 in
     let u : head.Definite 0 kind m.second ≡ head.Definite 0 other n.second = sym m.named ∙ ap (head_at bs) a ∙ n.named in
     let k : kind ≡ other = cc in
     let b : n.second ≡ m.second = cc in

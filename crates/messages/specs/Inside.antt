@@ -1,5 +1,5 @@
 -- What only functions below the operations cite, here and in `build`: how the table of forms is laid out, and how far reading has come.
-use Rattle.std.specs.Prelude.{ℕ, ◌+◌, ◌-◌, ◌*◌, ◌/◌, ◌%◌, ◌<◌, ◌≤◌, ◌≡◌, Bool, cond, false, List, [], ◌∷◌, eqb, ltb, length, get_or, Ok}
+use Rattle.std.specs.Prelude.{ℕ, ◌+◌, ◌-◌, ◌*◌, ◌/◌, ◌%◌, ◌<◌, ◌≤◌, ◌≡◌, Bool, cond, false, List, [], ◌∷◌, eqb, ltb, length, get_or, Option, Some, None, Ok}
 use Rattle.std.proofs.Math.Option.{none, some}
 use Rattle.item.specs.Verdict.{verdict}
 use Rattle.rows.specs.declared.Protocol.{Protocol}
@@ -9,10 +9,6 @@ use Rattle.elements.specs.declared.Element.TheVariants as element
 use Rattle.elements.specs.declared.Field.TheVariants as field
 use Rattle.elements.specs.declared.Extent.{Extent}
 use Rattle.elements.specs.declared.Extent.TheVariants.{Counted, Open, Rest}
-use Rattle.elements.specs.declared.Number.TheVariants.{Is}
-use Rattle.elements.specs.declared.Opening.TheVariants as opening
-use Rattle.elements.specs.declared.End.{End}
-use Rattle.elements.specs.declared.End.TheVariants.{At, Nowhere}
 use Rattle.elements.specs.Besides.Matching.{ItemsAt}
 use Rattle.elements.specs.Matching.{versions, words, array, in_message}
 use Rattle.elements.specs.Reading.{unsigned_at, opens_at}
@@ -75,17 +71,17 @@ Finds p kind Unknown = form_of p kind ≡ none
 -- the bytes are one item, an array of this extent, whose first element is the kind, from this place up to the next
 abbrev pub Begins : List ℕ → Extent → ℕ → ℕ → ℕ → Type 0
 Begins bs x first kind next =
-    (verdict bs ≡ Ok (length bs)) × (opens_at bs array 0 ≡ opening.At x first) × (unsigned_at bs first ≡ Is kind next)
+    (verdict bs ≡ Ok (length bs)) × (opens_at bs array 0 ≡ Some (x, first)) × (unsigned_at bs first ≡ Some (kind, next))
 
 -- reading so many fields, the first of them at this place, came to the place `at` with so many left
 abbrev pub Stopped : List ℕ → ℕ → ℕ → ℕ → ℕ → Type 0
 Stopped bs count first left at = (left ≤ count) × ItemsAt bs in_message (count - left) first at
 
 -- where the last of so many elements ends, if the head of their array says that it has so many: behind the last of n bytes
-abbrev pub last_end : Extent → ℕ → ℕ → End
-last_end (Counted k) count n = cond (eqb k count) (At n) Nowhere
-last_end Open count n = Nowhere
-last_end Rest count n = Nowhere
+abbrev pub last_end : Extent → ℕ → ℕ → Option ℕ
+last_end (Counted k) count n = cond (eqb k count) (Some n) None
+last_end Open count n = None
+last_end Rest count n = None
 
 -- the array has so many elements: its head says so, or as many as are left stand from the place `at` on
 abbrev pub has_count : List ℕ → Extent → ℕ → ℕ → ℕ → Bool

@@ -8,8 +8,6 @@ use Rattle.elements.specs.declared.Element.TheVariants as element
 use Rattle.elements.specs.declared.Extent.{Extent}
 use Rattle.elements.specs.declared.Extent.TheVariants.{Counted, Open, Rest}
 use Rattle.elements.specs.declared.Field.{Field}
-use Rattle.elements.specs.declared.End.{End}
-use Rattle.elements.specs.declared.End.TheVariants.{At, Nowhere}
 use Rattle.elements.specs.declared.Part.{Part}
 use Rattle.elements.specs.declared.Part.TheVariants as part
 use Rattle.messages.specs.declared.Reading.{Reading}
@@ -18,7 +16,7 @@ use Rattle.messages.specs.declared.Message.{Message}
 use Rattle.messages.specs.declared.Answer.{Answer}
 use Rattle.messages.specs.Forms.{form_of}
 use Rattle.elements.specs.Matching.{array, in_message}
-use Rattle.elements.specs.Reading.{on_number, on_opening, on_end, unsigned_at, opens_at, elements_of, part_of}
+use Rattle.elements.specs.Reading.{on_pair, unsigned_at, opens_at, elements_of, part_of}
 use Rattle.messages.specs.Matching.{begun, with_number, with_place}
 
 abbrev pub failed : Reading → Answer
@@ -27,22 +25,15 @@ failed r = record { reading = r; message = begun 0 }
 abbrev pub read : Message → Answer
 read m = record { reading = Read; message = m }
 
--- The place behind a field, and the message so far with what the field says.
-abbrev pub behind : Part → End
-behind (part.Number v q) = At q
-behind (part.Place a l q) = At q
-behind part.Wrong = Nowhere
-
+-- The message so far with what a field says.
 abbrev pub with_part : Message → Part → Message
-with_part m (part.Number v q) = with_number m v
-with_part m (part.Place a l q) = with_place m a l
-with_part m part.Wrong = m
+with_part m (part.Number v) = with_number m v
+with_part m (part.Place a l) = with_place m a l
 
 -- The fields from left to right, the first of them, element i, at place p.
 unfoldable pub fields_of : List ℕ → List Field → ℕ → ℕ → Message → Answer
 fields_of bs [] i p m = read m
-fields_of bs (f ∷ fs) i p m =
-    on_end (failed (WrongField i)) (behind (part_of bs f p)) (λ q. fields_of bs fs (i + 1) q (with_part m (part_of bs f p)))
+fields_of bs (f ∷ fs) i p m = on_pair (failed (WrongField i)) (part_of bs f p) (λ x q. fields_of bs fs (i + 1) q (with_part m x))
 
 -- The count of elements, the kind's own included.
 abbrev pub counted : List ℕ → ℕ → ℕ → ℕ → Option (List Field) → Answer
@@ -51,12 +42,12 @@ counted bs n kind p (some fs) = cond (eqb n (length fs + 1)) (fields_of bs fs 1 
 
 -- The kind, which opens an array of n elements.
 unfoldable pub numbered_of : Protocol → List ℕ → ℕ → ℕ → Answer
-numbered_of p bs n a = on_number (failed NotArray) (unsigned_at bs a) (λ kind b. counted bs n kind b (form_of p kind))
+numbered_of p bs n a = on_pair (failed NotArray) (unsigned_at bs a) (λ kind b. counted bs n kind b (form_of p kind))
 
 -- How many elements the array has, the first of them at place a: as many as its head says, or as stand in front of its break.
 abbrev pub count_from : List ℕ → Extent → ℕ → ℕ
 count_from bs (Counted n) a = n
-count_from bs Open a = on_number 0 (elements_of bs in_message element.Item Open a) (λ k q. k)
+count_from bs Open a = on_pair 0 (elements_of bs in_message element.Item Open a) (λ k q. k)
 count_from bs Rest a = 0
 
 -- The bytes are exactly one item. Where they are bad, the verdict has the offset; put and build have no use for it (K3).
@@ -69,7 +60,7 @@ wholly (Err e) n = false
 unfoldable pub message_of : Protocol → List ℕ → Answer
 message_of p bs =
     cond (wholly (verdict bs) (length bs))
-    (on_opening (failed NotArray) (opens_at bs array 0) (λ x a. numbered_of p bs (count_from bs x a) a))
+    (on_pair (failed NotArray) (opens_at bs array 0) (λ x a. numbered_of p bs (count_from bs x a) a))
     (failed NotArray)
 
 -- The bytes are a message.

@@ -7,21 +7,23 @@
 
 pub mod forms;
 
-ghost use Rattle.std.specs.Prelude.{◌≡◌, cond, ℕ, ◌≤◌, ◌<◌, eqb, length, get_or, set, Ok};
+ghost use Rattle.std.specs.Prelude.{◌≡◌, cond, ℕ, ◌≤◌, ◌<◌, eqb, length, get_or, set, Some, None, Ok};
 ghost use Rattle.std.proofs.Math.Option.{some};
 ghost use Rattle.ring.specs.Inside.{around};
+ghost use Rattle.ring.specs.View.{seen};
 ghost use Rattle.item.specs.Verdict.{verdict};
 ghost use Rattle.elements.specs.Besides.Matching.{ItemsAt};
 ghost use Rattle.elements.specs.Matching.{array, in_message};
 ghost use Rattle.elements.specs.Reading.{opens_at};
 ghost use Rattle.messages.specs.Matching.{begun, with_number, with_place};
-ghost use Rattle.messages.specs.Reading.{failed, with_part, behind, fields_of, counted, numbered_of, count_from, message_of, is_read, flag_of};
+ghost use Rattle.messages.specs.Reading.{failed, with_part, fields_of, counted, numbered_of, count_from, message_of, is_read, flag_of};
 ghost use Rattle.messages.specs.Forms.{form_of};
 ghost use Rattle.messages.specs.Inside.{form_count, form_at, Begins, Stopped, last_end, has_count};
 
-use elements::{Element, End, Extent, IN_MESSAGE, Number, Opening, Part};
+use elements::{Element, Extent, IN_MESSAGE, Part};
 use forms::Listed;
 use head::ARRAY;
+use ring::view::View;
 use rows::Protocol;
 
 // What reading comes to.
@@ -155,161 +157,109 @@ fn with_part(m: Message, part: Part) -> Message
     ensures { result ≡ with_part m part }
 {
     match part {
-        Part::Number(v, _) => with_number(m, v),
-        Part::Place(start, size, _) => with_place(m, start, size),
-        Part::Wrong => m,
+        Part::Number(v) => with_number(m, v),
+        Part::Place(start, size) => with_place(m, start, size),
     }
-}
-
-// The place behind a field.
-fn behind_of(part: Part) -> End
-    ensures { result ≡ behind part }
-{
-    match part {
-        Part::Number(_, q) => End::At(q),
-        Part::Place(_, _, q) => End::At(q),
-        Part::Wrong => End::Nowhere,
-    }
-}
-
-// Where a field ends, if it is the last and that is known of the last.
-fn end_if_last(last: bool, end: End) -> End
-    ensures { result ≡ cond last end End.Nowhere }
-{
-    if last {
-        return end;
-    }
-    End::Nowhere
 }
 
 // The fields of the form in a row, from left to right, the first of them at the place `first`; `end` is where the last ends, if
 // that is known.
-fn fields(s: &[u8], from: usize, n: usize, row: usize, kind: u64, first: usize, end: End) -> Stop
-    requires from_in_bounds { (from ≤ length s.now) × (n ≤ length s.now) × (row < form_count) × (first ≤ n) }
-    requires by_index { (q : ℕ) → end ≡ End.At q → ItemsAt (around s.now from n) in_message (length (form_at row).fields) first q }
-    ensures { (result.answer ≡ fields_of (around s.now from n) (form_at row).fields 1 first (begun kind)) × Stopped (around s.now from n) (length (form_at row).fields) first result.left result.at }
+fn fields(v: View<'_>, row: usize, kind: u64, first: usize, end: Option<usize>) -> Stop
+    requires in_bounds { (row < form_count) × (first ≤ v.len) }
+    requires by_index { (q : ℕ) → end ≡ Some q → ItemsAt (seen v) in_message (length (form_at row).fields) first q }
+    ensures { (result.answer ≡ fields_of (seen v.entry) (form_at row).fields 1 first (begun kind)) × Stopped (seen v.entry) (length (form_at row).fields) first result.left result.at }
 {
     let count = forms::fields(row);
     let mut message = begin(kind);
     let mut at = first;
-    let mut i: usize = 0;
-    while i < count {
-        let known = end_if_last(i + 1 == count, end);
-        let part = elements::part_at(s, from, n, forms::field_at(row, i), at, known);
-        let e = behind_of(part);
-        let End::At(q) = e else {
-            let answer = fail(Reading::WrongField((i + 1) as u64));
+    for i in 0..count {
+        let known = if i + 1 == count { end } else { None };
+        let Some((part, q)) = elements::part_at(v, forms::field_at(row, i), at, known) else {
             return Stop {
-                answer,
+                answer: fail(Reading::WrongField(i as u64 + 1)),
                 left: (count - i) as u64,
                 at,
             };
         };
         message = with_part(message, part);
         at = q;
-        i += 1;
     }
-    let answer = Answer {
-        reading: Reading::Read,
-        message,
-    };
     Stop {
-        answer,
+        answer: Answer {
+            reading: Reading::Read,
+            message,
+        },
         left: 0,
         at,
     }
 }
 
 // How many elements stand in an array of indefinite length from a place on: as many as are in front of its break.
-fn count_open(s: &[u8], from: usize, n: usize, first: usize) -> u64
-    requires { (from ≤ length s.now) × (n ≤ length s.now) }
-    ensures { result ≡ count_from (around s.now from n) Extent.Open first }
+fn count_open(v: View<'_>, first: usize) -> u64
+    ensures { result ≡ count_from (seen v.entry) Extent.Open first }
 {
-    let elements = elements::walk(s, from, n, IN_MESSAGE, Element::Item, Extent::Open, first);
-    match elements {
-        Number::Is(k, _) => k,
-        Number::Not => 0,
+    match elements::walk(v, IN_MESSAGE, Element::Item, Extent::Open, first) {
+        Some((k, _)) => k,
+        None => 0,
     }
 }
 
 // Where the last of so many elements ends, if the head of their array says that it has so many: where the bytes end.
-fn last_end(x: Extent, count: u64, n: usize) -> End
+fn last_end(x: Extent, count: u64, n: usize) -> Option<usize>
     ensures { result ≡ last_end x count n }
 {
     match x {
-        Extent::Counted(k) => elements::end_if(k == count, n),
-        Extent::Open => End::Nowhere,
-        Extent::Rest => End::Nowhere,
+        Extent::Counted(k) => (k == count).then_some(n),
+        Extent::Open | Extent::Rest => None,
     }
 }
 
 // Whether the array has so many elements: its head says so, or from the place `at` on as many stand up to its break as are left.
-fn has_count(s: &[u8], from: usize, n: usize, x: Extent, count: u64, left: u64, at: usize) -> bool
-    requires { (from ≤ length s.now) × (n ≤ length s.now) }
-    ensures { result ≡ has_count (around s.now from n) x count left at }
+fn has_count(v: View<'_>, x: Extent, count: u64, left: u64, at: usize) -> bool
+    ensures { result ≡ has_count (seen v.entry) x count left at }
 {
     match x {
         Extent::Counted(k) => k == count,
-        Extent::Open => count_open(s, from, n, at) == left,
+        Extent::Open => count_open(v, at) == left,
         Extent::Rest => false,
     }
 }
 
 // The fields of the form in a row, and whether the array has as many elements as it.
-fn filled(
-    s: &[u8],
-    from: usize,
-    n: usize,
-    row: usize,
-    x: Extent,
-    first: usize,
-    kind: u64,
-    next: usize,
-) -> Answer
-    requires from_in_bounds { (from ≤ length s.now) × (n ≤ length s.now) × (row < form_count) }
-    requires begins { Begins (around s.now from n) x first kind next }
-    ensures { result ≡ counted (around s.now from n) (count_from (around s.now from n) x first) kind next (some (form_at row).fields) }
+fn filled(v: View<'_>, row: usize, x: Extent, first: usize, kind: u64, next: usize) -> Answer
+    requires in_bounds { row < form_count }
+    requires begins { Begins (seen v) x first kind next }
+    ensures { result ≡ counted (seen v.entry) (count_from (seen v.entry) x first) kind next (some (form_at row).fields) }
 {
     let count = forms::fields(row) as u64 + 1;
-    let stop = fields(s, from, n, row, kind, next, last_end(x, count, n));
-    if has_count(s, from, n, x, count, stop.left, stop.at) {
+    let stop = fields(v, row, kind, next, last_end(x, count, v.len));
+    if has_count(v, x, count, stop.left, stop.at) {
         return stop.answer;
     }
     fail(Reading::WrongCount)
 }
 
 // The form of the kind.
-fn formed(
-    p: Protocol,
-    s: &[u8],
-    from: usize,
-    n: usize,
-    x: Extent,
-    first: usize,
-    kind: u64,
-    next: usize,
-) -> Answer
-    requires from_in_bounds { (from ≤ length s.now) × (n ≤ length s.now) }
-    requires begins { Begins (around s.now from n) x first kind next }
-    ensures { result ≡ counted (around s.now from n) (count_from (around s.now from n) x first) kind next (form_of p kind) }
+fn formed(p: Protocol, v: View<'_>, x: Extent, first: usize, kind: u64, next: usize) -> Answer
+    requires begins { Begins (seen v) x first kind next }
+    ensures { result ≡ counted (seen v.entry) (count_from (seen v.entry) x first) kind next (form_of p kind) }
 {
     let form = forms::find(p, kind);
     match form {
-        Listed::Row(row) => filled(s, from, n, row, x, first, kind, next),
+        Listed::Row(row) => filled(v, row, x, first, kind, next),
         Listed::Unknown => fail(Reading::UnknownKind),
     }
 }
 
 // The kind, which opens the array of this extent, its first element at a place.
-fn opened(p: Protocol, s: &[u8], from: usize, n: usize, x: Extent, first: usize) -> Answer
-    requires from_in_bounds { (from ≤ length s.now) × (n ≤ length s.now) × (verdict (around s.now from n) ≡ Ok n) }
-    requires array_value { opens_at (around s.now from n) array 0 ≡ Opening.At x first }
-    ensures { result ≡ numbered_of p (around s.now from n) (count_from (around s.now from n) x first) first }
+fn opened(p: Protocol, v: View<'_>, x: Extent, first: usize) -> Answer
+    requires whole { verdict (seen v) ≡ Ok v.len }
+    requires array_value { opens_at (seen v) array 0 ≡ Some (x, first) }
+    ensures { result ≡ numbered_of p (seen v.entry) (count_from (seen v.entry) x first) first }
 {
-    let kind = elements::unsigned_at(s, from, n, first);
-    match kind {
-        Number::Is(k, next) => formed(p, s, from, n, x, first, k, next),
-        Number::Not => fail(Reading::NotArray),
+    match elements::unsigned_at(v, first) {
+        Some((kind, next)) => formed(p, v, x, first, kind, next),
+        None => fail(Reading::NotArray),
     }
 }
 
@@ -318,10 +268,14 @@ pub fn read(p: Protocol, s: &[u8], from: usize, n: usize) -> Answer
     requires { (from ≤ length s.now) × (n ≤ length s.now) × (verdict (around s.now from n) ≡ Ok n) }
     ensures { result ≡ message_of p (around s.now from n) }
 {
-    let array = elements::opens_at(s, from, n, ARRAY, 0);
-    match array {
-        Opening::At(x, first) => opened(p, s, from, n, x, first),
-        Opening::Not => fail(Reading::NotArray),
+    let v = View {
+        bytes: s,
+        from,
+        len: n,
+    };
+    match elements::opens_at(v, ARRAY, 0) {
+        Some((x, first)) => opened(p, v, x, first),
+        None => fail(Reading::NotArray),
     }
 }
 

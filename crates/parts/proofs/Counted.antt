@@ -3,31 +3,29 @@
 use Prim.Native.Nat.{ℕ, ◌≤◌}
 use mathlib.Core.Path.{◌≡◌, refl, ap, subst}
 use mathlib.Core.List.{List}
+use mathlib.Core.Option.{none, some}
+use Rattle.std.specs.Prelude.{Option}
 use native.Mathlib.Omega.{arith}
 use lib.ListN.{length}
 use Rattle.elements.specs.declared.Element.{Element}
 use Rattle.elements.specs.declared.Extent.TheVariants.{Rest}
-use Rattle.elements.specs.declared.Number.{Number}
-use Rattle.elements.specs.declared.Number.TheVariants.{Is, Not}
 use Rattle.elements.specs.Besides.Matching.{ElementsAt}
 use Rattle.elements.specs.Matching.{in_list}
-use Rattle.elements.specs.Reading.{elements_of}
-use Rattle.elements.proofs.ElementLaws.{Numbers, elements_sound, elements_found, elements_on}
-use Rattle.parts.specs.Counting.{many, count_of}
+use Rattle.elements.specs.Reading.{on_pair, elements_of}
+use Rattle.elements.proofs.ElementLaws.{pair_cases, elements_sound, elements_found, elements_on}
+use Rattle.parts.specs.Counting.{count_of}
 use Rattle.parts.specs.Besides.Theorem.{Counts}
 use Rattle.parts.proofs.Counting.{Found}
 
 -- what is counted stands there, and there are no more elements than bytes
 pub counted : (e : Element) (run : List ℕ) → Found (λ k. ElementsAt run in_list e 0 k 0 (length run) × (k ≤ length run)) (count_of e run)
-counted e run = of (elements_of run in_list e Rest 0) (elements_sound run in_list e Rest 0)
-  where
-    of : (n : Number) → Numbers (λ k q. ElementsAt run in_list e 0 k 0 q × (q ≡ length run)) n
-        → Found (λ k. ElementsAt run in_list e 0 k 0 (length run) × (k ≤ length run)) (many n)
-    of (Is k q) (s, c) = let t = subst (λ (q : ℕ). ElementsAt run in_list e 0 k 0 q) c s in (t, omega (arith, elements_on run t))
-    of Not s = tt
+counted e run =
+    pair_cases (Found (λ k. ElementsAt run in_list e 0 k 0 (length run) × (k ≤ length run))) (λ k q. some k) (elements_of run in_list e Rest 0)
+    (elements_sound run in_list e Rest 0) tt
+    (λ k q (s, c). let t = subst (λ (q : ℕ). ElementsAt run in_list e 0 k 0 q) c s in (t, omega (arith, elements_on run t)))
 
 pub counts : Counts
 counts e run k = (
   λ c. (subst (Found (λ k. ElementsAt run in_list e 0 k 0 (length run) × (k ≤ length run))) c (counted e run)).0,
-  λ s. ap many (elements_found run in_list e Rest (omega arith) s refl),
+  λ s. ap (λ (o : Option (ℕ × ℕ)). on_pair none o (λ k q. some k)) (elements_found run in_list e Rest (omega arith) s refl),
 )

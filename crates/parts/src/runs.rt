@@ -6,16 +6,16 @@ ghost use Rattle.parts.specs.Counting.{count_of};
 ghost use Rattle.parts.specs.Inside.{argued, one_of, run_argument};
 
 use super::{Argument, argument_if};
-use elements::{Element, End, Extent, Field, IN_LIST, IN_MESSAGE, Number};
+use elements::{Element, Extent, Field, IN_LIST, IN_MESSAGE};
+use ring::view::View;
 
 // How many elements the run has, if it is elements end to end.
 fn count(e: Element, run: &[u8]) -> Argument
     ensures { argued result ≡ count_of e run.now }
 {
-    let found = elements::walk(run, 0, run.len(), IN_LIST, e, Extent::Rest, 0);
-    match found {
-        Number::Is(k, _) => Argument::Is(k),
-        Number::Not => Argument::Wrong,
+    match elements::walk(View::all(run), IN_LIST, e, Extent::Rest, 0) {
+        Some((k, _)) => Argument::Is(k),
+        None => Argument::Wrong,
     }
 }
 
@@ -23,10 +23,9 @@ fn count(e: Element, run: &[u8]) -> Argument
 fn one_item(run: &[u8]) -> Argument
     ensures { argued result ≡ one_of run.now }
 {
-    let e = elements::item_end(run, 0, run.len(), 0, IN_MESSAGE);
-    match e {
-        End::At(q) => argument_if(q == run.len(), 0),
-        End::Nowhere => Argument::Wrong,
+    match elements::item_end(View::all(run), 0, IN_MESSAGE) {
+        Some(q) => argument_if(q == run.len(), 0),
+        None => Argument::Wrong,
     }
 }
 

@@ -1,19 +1,13 @@
 -- `elements::breaks` meets its contract: past the end there is no byte.
-use mathlib.Core.Path.{ap}
-use Prim.Native.Nat.{ℕ}
+use mathlib.Core.Path.{◌∙◌}
 use native.Mathlib.Omega.{arith}
-use lib.Dec.{eqb}
-use Rattle.ring.specs.Inside.{around}
-use Rattle.ring.proofs.Around.{around_length}
-use Rattle.elements.specs.Matching.{Break}
+use borrow.Author.Tests.{le-ltb}
+use Rattle.ring.specs.View.{seen}
+use Rattle.ring.proofs.Views.{seen_length}
 use Rattle.elements.proofs.Steps.{break_past}
 use Rattle.elements.proofs.breaks.Goals as goal
 
-pub returns-then-n-at : goal.returns-then-n-at
-returns-then-n-at c =
-    let a = c.args in
-    let long = around_length a.s.now a.from a.n (omega arith) in
-    break_past (around a.s.now a.from a.n) a.at (omega arith)
-
-pub returns : goal.returns
-returns c = ap (λ (b : ℕ). eqb b Break) c.byte_at.ensures
+pub returns-else-at-v : goal.returns-else-at-v
+returns-else-at-v c =
+    let long = seen_length c.args.v in
+    le-ltb c.args.at c.args.v.len (omega arith) ∙ break_past (seen c.args.v) c.args.at (omega arith)

@@ -1,41 +1,37 @@
--- `elements::elements_at` meets its contract: items end where their array ends, and other elements are walked.
-use Prim.Native.Nat.{ℕ, ◌≤◌}
-use mathlib.Core.Path.{sym, ap, subst, ◌∙◌}
+-- `elements::elements_at` meets its contract: items end where their array ends, and other elements end in the view.
+use mathlib.Core.List.{List}
+use Prim.Native.Nat.{ℕ}
+use mathlib.Core.Path.{◌≡◌, sym, ◌∙◌}
 use native.Mathlib.Omega.{arith}
-use Rattle.ring.specs.Inside.{around}
-use Rattle.ring.proofs.Around.{around_length}
+use Rattle.std.specs.Prelude.{Some}
+use Rattle.ring.specs.View.{seen}
+use Rattle.ring.proofs.Views.{seen_length}
 use Rattle.elements.specs.declared.Element.{Element}
-use Rattle.elements.specs.Matching.{in_list, past, opener}
+use Rattle.elements.specs.declared.Element.TheVariants.{Item}
+use Rattle.elements.specs.declared.Extent.{Extent}
+use Rattle.elements.specs.Matching.{in_message, in_list, opener}
 use Rattle.elements.specs.Inside.{items_up_to}
-use Rattle.elements.specs.Reading.{opens_at, elements_of, listed}
+use Rattle.elements.specs.Reading.{opens_at, item_end, elements_of, listed}
 use Rattle.elements.proofs.ElementLaws.{items_end, list_end}
 use Rattle.elements.proofs.elements_at.Goals as goal
 
-pub list_of-requires : goal.list_of-requires
-list_of-requires c =
+-- items, where the elements are items
+items : (bs : List ℕ) (e : Element) (x : Extent) (p a : ℕ) → e ≡ Item → opens_at bs (opener e) p ≡ Some (x, a)
+    → listed x a (elements_of bs in_list e x a) ≡ items_up_to x a (item_end bs in_message p)
+items bs e x p a is found = rw is (sym (items_end bs x p (rw is at found)))
+
+pub returns-in_err-r-in-Item : goal.returns-in_err-r-in-Item
+returns-in_err-r-in-Item c =
     let a = c.args in
-    let long = around_length a.s.now a.from a.n (omega arith) in
-    λ k q e. subst (λ (n : ℕ). past a.x q ≤ n) long
-    (list_end (around a.s.now a.from a.n) a.e a.x a.at c.requires.3 (sym c.walk.ensures ∙ e))
+    rw (items (seen a.v) a.e a.x a.at a.first c.in-Item.is c.requires.1, sym c.element_end.ensures ∙ c.in_err-r-in-Item.was) c.from_residual.ensures
 
-pub list_of-requires-in-Version : goal.list_of-requires-in-Version
-list_of-requires-in-Version c =
+pub returns-in_ok-r-in-Item : goal.returns-in_ok-r-in-Item
+returns-in_ok-r-in-Item c =
     let a = c.args in
-    let long = around_length a.s.now a.from a.n (omega arith) in
-    λ k q e. subst (λ (n : ℕ). past a.x q ≤ n) long
-    (list_end (around a.s.now a.from a.n) a.e a.x a.at c.requires.3 (sym c.walk-in-Version.ensures ∙ e))
+    rw (items (seen a.v) a.e a.x a.at a.first c.in-Item.is c.requires.1, sym c.element_end.ensures ∙ c.in_ok-r-in-Item.was, c.saturating_sub.ensures, c.before-in-Item.ensures)
 
-pub returns-in-Item : goal.returns-in-Item
-returns-in-Item c =
+pub past-requires : goal.past-requires
+past-requires c =
     let a = c.args in
-    let bs = around a.s.now a.from a.n in
-    let is = c.in-Item.is in
-    c.items_of.ensures ∙ ap (items_up_to a.x a.first) c.element_end.ensures
-    ∙ items_end bs a.x a.at (ap (λ (e : Element). opens_at bs (opener e) a.at) (sym is) ∙ c.requires.3)
-    ∙ ap (λ (e : Element). listed a.x a.first (elements_of bs in_list e a.x a.first)) (sym is)
-
-pub returns-in-Pair : goal.returns-in-Pair
-returns-in-Pair c = let a = c.args in c.list_of.ensures ∙ ap (listed a.x a.first) c.walk.ensures
-
-pub returns-in-Version : goal.returns-in-Version
-returns-in-Version c = let a = c.args in c.list_of-in-Version.ensures ∙ ap (listed a.x a.first) c.walk-in-Version.ensures
+    let long = seen_length a.v in
+    omega (arith, list_end (seen a.v) a.e a.x a.at c.requires.1 (sym c.walk.ensures ∙ c.in_ok-q-in-Pair.was))

@@ -1,9 +1,17 @@
--- `elements::pair_end` meets its contract: an array, or none, as the definition goes by.
-use Rattle.elements.proofs.Steps.{pair_is, pair_not}
+-- `elements::pair_end` meets its contract: an array whose item and size are found, and then its end, as the definition goes by.
+use mathlib.Core.Path.{sym, ◌∙◌}
+use native.Mathlib.Omega.{arith}
+use Rattle.std.specs.Prelude.{◌-◌}
+use Rattle.ring.specs.View.{seen}
+use Rattle.ring.proofs.Views.{seen_length}
+use Rattle.elements.proofs.ElementLaws.{sized_end_lem, closed_true, past_inside}
 use Rattle.elements.proofs.pair_end.Goals as goal
 
-pub returns-in-At : goal.returns-in-At
-returns-in-At c = pair_is _ _ _ c.opens_at-pair.ensures c.in-At.is c.two_end.ensures
-
-pub returns-in-Not : goal.returns-in-Not
-returns-in-Not c = pair_not _ _ _ c.opens_at-pair.ensures c.in-Not.is
+pub past-requires : goal.past-requires
+past-requires c =
+    let bs = seen c.args.v in
+    let long = seen_length c.args.v in
+    let low = sized_end_lem bs (c.args.d - 1) c.in_ok-x.first (sym c.sized_end.ensures ∙ c.in_ok-q.was) in
+    let ends =
+    past_inside bs c.in_ok-x.x 2 low (closed_true bs c.in_ok-x.x 2 c.in_ok-q.q (sym c.is_closed.ensures ∙ c.if-is_closed.true)) in
+    omega (arith, ends.1)

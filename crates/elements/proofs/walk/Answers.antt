@@ -3,8 +3,8 @@ use mathlib.Core.Path.{◌≡◌, ap, ◌∙◌}
 use Prim.Native.Nat.{ℕ, ◌-◌}
 use native.Mathlib.Omega.{arith}
 use lib.ListN.{length}
-use Rattle.ring.specs.Inside.{around}
-use Rattle.ring.proofs.Around.{around_length}
+use Rattle.ring.specs.View.{seen}
+use Rattle.ring.proofs.Views.{seen_length}
 use Rattle.elements.specs.Reading.{walk}
 use Rattle.elements.proofs.Steps.{walk_end, walk_stop, walk_forward, walk_on}
 use Rattle.elements.proofs.walk.Goals as goal
@@ -12,51 +12,41 @@ use Rattle.elements.proofs.walk.Goals as goal
 pub loop-e-init : goal.loop-e-init
 loop-e-init c =
     let a = c.args in
-    let bs = around a.s.now a.from a.n in
+    let bs = seen a.v in
     let z : length bs - 0 ≡ length bs = omega arith in
     (omega arith, ap (λ (b : ℕ). walk bs a.d a.e a.x b 0 0 a.first) z)
 
-pub returns-in_default : goal.returns-in_default
-returns-in_default c =
+pub returns-in_err-next : goal.returns-in_err-next
+returns-in_err-next c =
     let a = c.args in
     let l = c.loop-e in
-    walk_stop (around a.s.now a.from a.n) a.d a.e a.x l.k l.low l.at
-    c.is_closed.ensures c.loop-e-test.true c.element_at-next.ensures
-    c.in_default.is
+    c.from_residual.ensures
+    ∙ walk_stop (seen a.v) a.d a.e a.x l.k l.low l.at c.is_closed.ensures c.loop-e-test.true c.element_at.ensures c.in_err-next.was
     ∙ l.invariant.1
 
 pub overflow_add-k : goal.overflow_add-k
 overflow_add-k c =
     let a = c.args in
     let l = c.loop-e in
-    let long = around_length a.s.now a.from a.n (omega arith) in
-    let on = walk_forward (around a.s.now a.from a.n) a.d a.e a.x l.k l.low l.at
-    c.is_closed.ensures c.loop-e-test.true
-    c.element_at-next.ensures c.in-Is.is in
+    let long = seen_length a.v in
+    let on = walk_forward (seen a.v) a.d a.e a.x l.k l.low l.at c.is_closed.ensures c.loop-e-test.true c.element_at.ensures c.in_ok-next.was in
     record { fits = omega (arith, on) }
 
 pub loop-e-smaller : goal.loop-e-smaller
 loop-e-smaller c =
     let a = c.args in
     let l = c.loop-e in
-    let long = around_length a.s.now a.from a.n (omega arith) in
-    let on = walk_forward (around a.s.now a.from a.n) a.d a.e a.x l.k l.low l.at
-    c.is_closed.ensures c.loop-e-test.true
-    c.element_at-next.ensures c.in-Is.is in
+    let long = seen_length a.v in
+    let on = walk_forward (seen a.v) a.d a.e a.x l.k l.low l.at c.is_closed.ensures c.loop-e-test.true c.element_at.ensures c.in_ok-next.was in
     omega (arith, on)
 
 pub loop-e-preserved : goal.loop-e-preserved
 loop-e-preserved c =
     let a = c.args in
     let l = c.loop-e in
-    let long = around_length a.s.now a.from a.n (omega arith) in
-    let on = walk_forward (around a.s.now a.from a.n) a.d a.e a.x l.k l.low l.at
-    c.is_closed.ensures c.loop-e-test.true
-    c.element_at-next.ensures c.in-Is.is in (
+    let on = walk_forward (seen a.v) a.d a.e a.x l.k l.low l.at c.is_closed.ensures c.loop-e-test.true c.element_at.ensures c.in_ok-next.was in (
       omega (arith, on, l.invariant.0),
-      walk_on (around a.s.now a.from a.n) a.d a.e a.x l.k l.low l.at
-          c.is_closed.ensures c.loop-e-test.true
-          c.element_at-next.ensures c.in-Is.is l.invariant.0
+      walk_on (seen a.v) a.d a.e a.x l.k l.low l.at c.is_closed.ensures c.loop-e-test.true c.element_at.ensures c.in_ok-next.was l.invariant.0
           ∙ l.invariant.1,
     )
 
@@ -64,5 +54,5 @@ pub returns : goal.returns
 returns c =
     let a = c.args in
     let l = c.loop-e in
-    walk_end (around a.s.now a.from a.n) a.d a.e a.x l.k l.low l.at c.is_closed.ensures c.loop-e-test.false
+    walk_end (seen a.v) a.d a.e a.x l.k l.low l.at c.is_closed.ensures c.loop-e-test.false
     ∙ l.invariant.1

@@ -1,8 +1,8 @@
 use mathlib.Core.Path.{◌≡◌}
-use Prim.Native.Nat.{ℕ, ◌+◌, ◌-◌, ◌≤◌}
+use Prim.Native.Nat.{ℕ, ◌+◌, ◌≤◌}
 use mathlib.Core.List.{List}
 use lib.ListN.{drop}
-use Rattle.ring.specs.Inside.{around}
+use Rattle.ring.specs.View.{seen}
 use Rattle.messages.specs.declared.Message.{Message}
 use Rattle.elements.specs.Besides.Matching.{ItemsAt}
 use Rattle.elements.specs.Matching.{in_message}
@@ -12,14 +12,11 @@ use Rattle.messages.specs.Inside.{form_at}
 use Rattle.messages.proofs.fields.Given as goal
 
 -- the fields from i on give what all of them give, with so much said so far, and those before are behind
-pub record Under (s : List ℕ) (from n row kind first : ℕ) (message : Message) (at i : ℕ) : Type 0 where
+pub record Under (bs : List ℕ) (row kind first : ℕ) (message : Message) (at i : ℕ) : Type 0 where
   pub numbers : message.count ≤ i
   pub places : message.parts ≤ i
-  pub passed : ItemsAt (around s from n) in_message i first at
-  pub gives : fields_of (around s from n) (drop i (form_at row).fields) (i + 1) at message ≡ fields_of (around s from n) (form_at row).fields 1 first (begun kind)
+  pub passed : ItemsAt bs in_message i first at
+  pub gives : fields_of bs (drop i (form_at row).fields) (i + 1) at message ≡ fields_of bs (form_at row).fields 1 first (begun kind)
 
 abbrev pub invariant-loop-i : goal.invariant-loop-i
-invariant-loop-i l = (l.i ≤ l.count) × Under l.s l.from l.n l.row l.kind l.first l.message l.at l.i
-
-abbrev pub decreases-loop-i : goal.decreases-loop-i
-decreases-loop-i l = l.count - l.i
+invariant-loop-i l = Under (seen l.v) l.row l.kind l.first l.message l.at l.i

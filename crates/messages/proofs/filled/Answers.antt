@@ -2,8 +2,8 @@
 use mathlib.Core.Path.{◌≡◌, ◌∙◌}
 use native.Mathlib.Omega.{arith}
 use lib.ListN.{length}
-use Rattle.ring.specs.Inside.{around}
-use Rattle.ring.proofs.Around.{around_length}
+use Rattle.ring.specs.View.{seen}
+use Rattle.ring.proofs.Views.{seen_length}
 use Rattle.messages.specs.Reading.{count_from}
 use Rattle.messages.specs.Inside.{form_at}
 use Rattle.messages.proofs.FieldLaws.{kind_item, last_known, count_told, count_right, count_wrong}
@@ -14,9 +14,9 @@ pub fields-stop-requires : goal.fields-stop-requires
 fields-stop-requires c =
     let s = c in
     let a = s.args in
-    let bs = around a.s.now a.from a.n in
-    let long : length bs ≡ a.n = around_length a.s.now a.from a.n (omega arith) in record {
-      from_in_bounds = (search rules, search rules, s.requires.from_in_bounds.2, omega (arith, long, (kind_item bs s.requires.begins).inside));
+    let bs = seen a.v in
+    let long : length bs ≡ a.v.len = seen_length a.v in record {
+      in_bounds = (s.requires.in_bounds, omega (arith, long, (kind_item bs s.requires.begins).inside));
       by_index = λ q e. last_known bs a.x c.fields.ensures.0 s.requires.begins long c.last_end.ensures e;
     }
 
@@ -24,7 +24,7 @@ pub returns-then-has_count : goal.returns-then-has_count
 returns-then-has_count c =
     let s = c in
     let a = s.args in
-    let bs = around a.s.now a.from a.n in
+    let bs = seen a.v in
     let stop = c.fields-stop in
     count_right bs (form_at a.row).fields (count_from bs a.x a.first) a.kind a.next
     (count_told bs a.x c.fields.ensures.0 s.requires.begins c.has_count.ensures stop.ensures.1)
@@ -34,7 +34,7 @@ pub returns : goal.returns
 returns c =
     let s = c in
     let a = s.args in
-    let bs = around a.s.now a.from a.n in
+    let bs = seen a.v in
     let stop = c.fields-stop in
     c.fail.ensures
     ∙ count_wrong bs (form_at a.row).fields (count_from bs a.x a.first) a.kind a.next

@@ -7,7 +7,7 @@ use Rattle.messages.proofs.formed.Goals as goal
 
 pub filled-requires : goal.filled-requires
 filled-requires c = let a = c.args in record {
-  from_in_bounds = (search rules, search rules, (subst (Finds a.p a.kind) c.in-Row.is c.find-form.ensures).0);
+  in_bounds = (subst (Finds a.p a.kind) c.in-Row.is c.find-form.ensures).0;
   begins = c.requires.begins;
 }
 

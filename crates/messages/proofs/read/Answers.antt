@@ -1,7 +1,7 @@
 -- `messages::read` meets its contract: an array, or none, as the definition goes by.
+use Rattle.std.specs.Prelude.{Ok}
 use mathlib.Core.Path.{sym, ap, ◌∙◌}
 use native.Mathlib.Omega.{arith}
-use Rattle.std.specs.Prelude.{Ok}
 use Rattle.ring.specs.Inside.{around}
 use Rattle.ring.proofs.Around.{around_length}
 use Rattle.messages.proofs.FieldLaws.{message_array, message_none}
@@ -9,24 +9,19 @@ use borrow.Author.Rules.{rules}
 use Rattle.messages.proofs.read.Goals as goal
 
 pub opened-requires : goal.opened-requires
-opened-requires c =
-    record {
-      from_in_bounds = (search rules, search rules, c.requires.2);
-      array_value = sym c.opens_at-array.ensures ∙ c.in-At.is;
-    }
+opened-requires c = record { whole = c.requires.2; array_value = sym c.opens_at.ensures ∙ c.in-Some.is }
 
-pub returns-in-At : goal.returns-in-At
-returns-in-At c =
+pub returns-in-Some : goal.returns-in-Some
+returns-in-Some c =
     let a = c.args in
     let bs = around a.s.now a.from a.n in
     let long = around_length a.s.now a.from a.n (omega arith) in
-    message_array bs a.p (c.requires.2 ∙ ap Ok (sym long)) c.opens_at-array.ensures
-    c.in-At.is c.opened.ensures
+    message_array bs a.p (c.requires.2 ∙ ap Ok (sym long)) c.opens_at.ensures c.in-Some.is c.opened.ensures
 
-pub returns-in-Not : goal.returns-in-Not
-returns-in-Not c =
+pub returns-in-None : goal.returns-in-None
+returns-in-None c =
     let a = c.args in
     let bs = around a.s.now a.from a.n in
     let long = around_length a.s.now a.from a.n (omega arith) in
     c.fail.ensures
-    ∙ message_none bs a.p (c.requires.2 ∙ ap Ok (sym long)) c.opens_at-array.ensures c.in-Not.is
+    ∙ message_none bs a.p (c.requires.2 ∙ ap Ok (sym long)) c.opens_at.ensures c.in-None.is

@@ -1,9 +1,9 @@
--- `parts::runs::count` meets its contract: the run is a ring that does not wrap.
-use Rattle.parts.proofs.RunLaws.{count_here}
+-- `parts::runs::count` meets its contract: what the view of the whole run shows is the run.
+use mathlib.Core.Path.{sym, ◌∙◌}
 use Rattle.parts.proofs.runs.count.Goals as goal
 
-pub returns-in-Is : goal.returns-in-Is
-returns-in-Is c = count_here _ _ c.walk-found.ensures c.in-Is.is
+pub returns-in-Some : goal.returns-in-Some
+returns-in-Some c = rw (sym (rw c.all.ensures at c.walk.ensures) ∙ c.in-Some.is)
 
-pub returns-in-Not : goal.returns-in-Not
-returns-in-Not c = count_here _ _ c.walk-found.ensures c.in-Not.is
+pub returns-in-None : goal.returns-in-None
+returns-in-None c = rw (sym (rw c.all.ensures at c.walk.ensures) ∙ c.in-None.is)

@@ -1,10 +1,9 @@
 -- `parts::runs::one_item` meets its contract: the item ends where the run ends, or not.
-use Rattle.elements.proofs.Steps.{end_then, end_not}
-use Rattle.parts.proofs.RunLaws.{item_here}
+use mathlib.Core.Path.{sym, ◌∙◌}
 use Rattle.parts.proofs.runs.one_item.Goals as goal
 
-pub returns-in-At : goal.returns-in-At
-returns-in-At c = end_then _ _ (item_here _ _ _ c.item_end-e.ensures) c.in-At.is c.argument_if.ensures
+pub returns-in-Some : goal.returns-in-Some
+returns-in-Some c = rw (sym (rw c.all.ensures at c.item_end.ensures) ∙ c.in-Some.is) c.argument_if.ensures
 
-pub returns-in-Nowhere : goal.returns-in-Nowhere
-returns-in-Nowhere c = end_not _ _ (item_here _ _ _ c.item_end-e.ensures) c.in-Nowhere.is
+pub returns-in-None : goal.returns-in-None
+returns-in-None c = rw (sym (rw c.all.ensures at c.item_end.ensures) ∙ c.in-None.is)

@@ -1,5 +1,0 @@
--- `elements::part_if` meets its contract: the test decides.
-use Rattle.elements.proofs.part_if.Goals as goal
-
-pub returns-then-test : goal.returns-then-test
-returns-then-test c = rw c.if-test.true
