@@ -1,27 +1,9 @@
 // A script's line as a call: which call of a table it is, and what its words say, as docs/REPLAY.md fixes it.
 //
-// A table is a text of words: the name of each call and behind it the kinds of the call's words, a letter for each, or `.`
-// where it has none. What the words say is put into a row of numbers, where each kind has so many places:
-//
-//   n  1  a number
-//   t  1  a time, below 2^32
-//   b  1  the length of a lent buffer
-//   k  1  how many bytes of a store are lent
-//   s  1  a side: 0 for `dialler`, 1 for `accepter`
-//   i  1  1 for `indefinite`, 0 where the line ends before it. Only as the last kind
-//   r  2  a run of bytes: where in the line its bytes are, and how many
-//   l  5  a list of at most four numbers: how many, and which
-//   p  7  a list of at most three runs: how many, and for each the same as of a run
-//   m     numbers up to the end of the line, each a word: how many, and which. Only as the last kind
-//
-// So a call is one entry of a table, and the places of its numbers follow from its kinds.
+// A table has a row for each call: its name, the kinds of its words, and what the caller knows it by. What the words say is
+// put into a row of numbers, where each kind has so many places. So the places of a call's numbers follow from its kinds.
 #![tactic(auto)]
 
-ghost use Rattle.std.specs.Prelude.{◌≤◌, length};
-
-use base::smaller;
-use script::numbers::Number;
-use script::runs::Run;
 use script::{Word, numbers, runs};
 
 // How many places there are for what the words of a line say.
@@ -32,171 +14,134 @@ pub const LENT: usize = 131080;
 
 pub const STORE: usize = 1179648;
 
-// A call of a table, by its place among the calls, and the kinds of its words.
+// What a word says.
+#[derive(Clone, Copy, PartialEq, Eq)]
+pub enum Kind {
+    // A number.
+    Number,
+    // A time, below 2^32.
+    Time,
+    // The length of a lent buffer.
+    Length,
+    // How many bytes of a store are lent.
+    Lent,
+    // A side: 0 for `dialler`, 1 for `accepter`.
+    Side,
+    // 1 for `indefinite`; 0 where the line ends before it. Only as the last kind.
+    Indefinite,
+    // A run of bytes: where in the line its bytes are, and how many.
+    Run,
+    // A list of at most four numbers: how many, and which.
+    Numbers,
+    // A list of at most three runs: how many, and for each the same as of a run.
+    Runs,
+    // Numbers up to the end of the line, each a word: how many, and which. Only as the last kind.
+    Rest,
+}
+
+impl Kind {
+    // How many places the kind has.
+    fn width(self) -> usize {
+        match self {
+            Kind::Run => 2,
+            Kind::Numbers => 5,
+            Kind::Runs => 7,
+            _ => 1,
+        }
+    }
+
+    // The largest number of the kind.
+    fn most(self) -> u64 {
+        match self {
+            Kind::Time => 4294967295,
+            Kind::Length => LENT as u64,
+            Kind::Lent => STORE as u64,
+            _ => u64::MAX,
+        }
+    }
+
+    // What the kind takes behind a word: the next one, or all that are left.
+    fn behind(self, line: &[u8], w: Word) -> Word {
+        let next = w.next(line);
+        match self {
+            Kind::Rest => Word {
+                from: next.from,
+                to: line.len(),
+            },
+            _ => next,
+        }
+    }
+
+    // Puts what a word says at the front of some places, if the word is of the kind.
+    fn put(self, line: &mut [u8], w: Word, places: &mut [u64]) -> Option<()> {
+        match self {
+            Kind::Numbers => list(line, w, b',', Kind::Number, 4, places),
+            Kind::Runs => list(line, w, b',', Kind::Run, 3, places),
+            Kind::Rest => list(line, w, b' ', Kind::Number, WORDS, places),
+            _ => self.piece(line, w, places),
+        }
+    }
+
+    // The same of a word that is no list.
+    fn piece(self, line: &mut [u8], w: Word, places: &mut [u64]) -> Option<()> {
+        match self {
+            Kind::Run => {
+                let n = runs::of(line, w)?;
+                set(places, 0, w.from as u64);
+                set(places, 1, n as u64);
+            }
+            _ => set(places, 0, self.value(line, w)?),
+        }
+        Some(())
+    }
+
+    // A number of the kind, or what is told by one.
+    fn value(self, line: &[u8], w: Word) -> Option<u64> {
+        match self {
+            Kind::Side => side(line, w),
+            Kind::Indefinite => w.is(line, b"indefinite").then_some(1),
+            _ => numbers::of(line, w).filter(|n| *n <= self.most()),
+        }
+    }
+}
+
+fn side(line: &[u8], w: Word) -> Option<u64> {
+    match w.text(line) {
+        b"dialler" => Some(0),
+        b"accepter" => Some(1),
+        _ => None,
+    }
+}
+
+// A call of a table.
 #[derive(Clone, Copy)]
-struct Row {
-    call: usize,
-    kinds: Word,
+pub struct Row<'a, C> {
+    pub name: &'a [u8],
+    pub kinds: &'a [Kind],
+    pub call: C,
 }
 
-// The call that a line begins with, of so many in the table; that number where it is none of them.
-fn found(table: &[u8], calls: usize, name: &[u8]) -> Row {
-    let mut word = script::first(table);
-    let mut call: usize = 0;
-    while call < calls {
-        let kinds = script::next(table, word);
-        if script::is(table, word, name) {
-            return Row { call, kinds };
-        }
-        word = script::next(table, kinds);
-        call += 1;
-    }
-    Row { call, kinds: word }
+// Which call of a table a line is, exactly, with what its words say.
+pub fn said<C: Copy>(table: &[Row<'_, C>], line: &mut [u8], words: &mut [u64; WORDS]) -> Option<C> {
+    let name = Word::first(line);
+    let row = table.iter().find(|row| row.name == name.text(line))?;
+    all(line, name, row.kinds, words)?;
+    Some(row.call)
 }
 
-// Which of so many calls of a table a line is, exactly, with what its words say; that number where it is none.
-pub fn said(table: &[u8], calls: usize, line: &mut [u8], words: &mut [u64; WORDS]) -> usize {
-    let name = script::first(line);
-    let r = found(table, calls, script::text(line, name));
-    let kinds = r.kinds;
-    if all(line, name, script::text(table, kinds), words) {
-        return r.call;
-    }
-    calls
-}
-
-// Whether the words behind one are of these kinds, and the line's last.
-fn all(line: &mut [u8], w: Word, kinds: &[u8], words: &mut [u64; WORDS]) -> bool {
-    let n = many(kinds);
-    let mut last = w;
+// Puts what the words behind one say at their places, if they are of these kinds, and the line's last.
+fn all(line: &mut [u8], name: Word, kinds: &[Kind], words: &mut [u64]) -> Option<()> {
+    let mut last = name;
     let mut at: usize = 0;
-    let mut i: usize = 0;
-    while i < n {
-        if base::and(kinds[i] == b'i', script::last(line, last)) {
-            return true;
+    for kind in kinds {
+        if *kind == Kind::Indefinite && last.last(line) {
+            break;
         }
-        last = behind(line, last, kinds[i]);
-        if !by_kind(line, last, kinds[i], words, at) {
-            return false;
-        }
-        at = std::num::wrapping_add_usize(at, width(kinds[i]));
-        i += 1;
+        last = kind.behind(line, last);
+        kind.put(line, last, behind(words, at))?;
+        at = at.saturating_add(kind.width());
     }
-    script::last(line, last)
-}
-
-// What a kind takes behind a word: the next one, or all that are left.
-fn behind(line: &[u8], w: Word, kind: u8) -> Word {
-    let next = script::next(line, w);
-    if kind != b'm' {
-        return next;
-    }
-    Word {
-        from: next.from,
-        to: line.len(),
-    }
-}
-
-// How many kinds there are: a point is none.
-fn many(kinds: &[u8]) -> usize
-    ensures { result ≤ length kinds.now }
-{
-    if kinds.len() == 0 {
-        return 0;
-    }
-    if kinds[0] == b'.' {
-        return 0;
-    }
-    kinds.len()
-}
-
-// How many places a kind has.
-fn width(kind: u8) -> usize {
-    match kind {
-        b'r' => 2,
-        b'l' => 5,
-        b'p' => 7,
-        _ => 1,
-    }
-}
-
-// Whether a word is of a kind; what it says is put at a place.
-fn by_kind(line: &mut [u8], w: Word, kind: u8, words: &mut [u64; WORDS], at: usize) -> bool {
-    match kind {
-        b'l' => list(line, w, b',', b'n', 4, words, at),
-        b'p' => list(line, w, b',', b'r', 3, words, at),
-        b'm' => list(line, w, b' ', b'n', WORDS, words, at),
-        _ => piece(line, w, kind, words, at),
-    }
-}
-
-// The same of a word that is no list.
-fn piece(line: &mut [u8], w: Word, kind: u8, words: &mut [u64; WORDS], at: usize) -> bool {
-    match kind {
-        b'r' => run(line, w, words, at),
-        _ => number(line, w, kind, words, at),
-    }
-}
-
-// Puts a number at a place, where there is one.
-fn set(words: &mut [u64; WORDS], at: usize, n: u64) {
-    if at < WORDS {
-        words[at] = n;
-    }
-}
-
-// A run, made bytes where it begins.
-fn run(line: &mut [u8], w: Word, words: &mut [u64; WORDS], at: usize) -> bool {
-    let Run::Is(n) = runs::of(line, w) else {
-        return false;
-    };
-    set(words, at, w.from as u64);
-    set(words, std::num::wrapping_add_usize(at, 1), n as u64);
-    true
-}
-
-// A number, or what is told by one.
-fn number(line: &[u8], w: Word, kind: u8, words: &mut [u64; WORDS], at: usize) -> bool {
-    let Number::Is(n) = value(line, w, kind) else {
-        return false;
-    };
-    set(words, at, n);
-    n <= most(kind)
-}
-
-// The largest number of a kind.
-fn most(kind: u8) -> u64 {
-    match kind {
-        b't' => 4294967295,
-        b'b' => LENT as u64,
-        b'k' => STORE as u64,
-        _ => u64::MAX,
-    }
-}
-
-fn value(line: &[u8], w: Word, kind: u8) -> Number {
-    match kind {
-        b's' => side(line, w),
-        b'i' => indefinite(line, w),
-        _ => numbers::of(line, w),
-    }
-}
-
-fn indefinite(line: &[u8], w: Word) -> Number {
-    if script::is(line, w, b"indefinite") {
-        return Number::Is(1);
-    }
-    Number::Not
-}
-
-fn side(line: &[u8], w: Word) -> Number {
-    if script::is(line, w, b"dialler") {
-        return Number::Is(0);
-    }
-    if script::is(line, w, b"accepter") {
-        return Number::Is(1);
-    }
-    Number::Not
+    last.last(line).then_some(())
 }
 
 // A list of at most so many of a kind, parted by a byte; the empty one is a stroke.
@@ -204,74 +149,65 @@ fn list(
     line: &mut [u8],
     w: Word,
     by: u8,
-    kind: u8,
+    kind: Kind,
     most: usize,
-    words: &mut [u64; WORDS],
-    at: usize,
-) -> bool {
-    if script::is(line, w, b"-") {
-        return true;
+    places: &mut [u64],
+) -> Option<()> {
+    if w.is(line, b"-") {
+        return Some(());
     }
-    let mut element = first(line, w, by);
-    let mut place = std::num::wrapping_add_usize(at, 1);
-    let mut i: usize = 0;
-    while i < most {
-        if !piece(line, element, kind, words, place) {
-            return false;
-        }
-        i += 1;
+    let mut element = part(line, w.from, w, by);
+    let mut at: usize = 1;
+    for count in 1..=most {
+        kind.piece(line, element, behind(places, at))?;
         if w.to <= element.to {
-            set(words, at, i as u64);
-            return true;
+            set(places, 0, count as u64);
+            return Some(());
         }
-        element = after(line, element, w, by);
-        place = std::num::wrapping_add_usize(place, width(kind));
+        element = part(line, element.to.saturating_add(1), w, by);
+        at = at.saturating_add(kind.width());
     }
-    false
+    None
 }
 
-// The first element of a list: up to what parts it, or the end of the list; and the one behind an element.
-fn first(line: &[u8], list: Word, by: u8) -> Word {
-    up_to(script::part(line, list.from, by), list)
-}
-
-fn after(line: &[u8], e: Word, list: Word, by: u8) -> Word {
-    let from = std::num::wrapping_add_usize(e.to, 1);
-    up_to(script::part(line, from, by), list)
-}
-
-fn up_to(e: Word, list: Word) -> Word {
+// The element of a list from a place on: up to what parts it from the next, or the end of the list.
+fn part(line: &[u8], from: usize, list: Word, by: u8) -> Word {
+    let element = Word::part(line, from, by);
     Word {
-        from: e.from,
-        to: smaller(e.to, list.to),
+        from: element.from,
+        to: element.to.min(list.to),
+    }
+}
+
+// The places from one on.
+fn behind(places: &mut [u64], at: usize) -> &mut [u64] {
+    let from = at.min(places.len());
+    &mut places[from..]
+}
+
+// Puts a number at a place, where there is one.
+fn set(places: &mut [u64], at: usize, n: u64) {
+    if let Some(place) = places.get_mut(at) {
+        *place = n;
     }
 }
 
 // The number at a place; 0 where there is none.
-pub fn at(words: [u64; WORDS], i: usize) -> u64 {
-    if i < WORDS {
-        return words[i];
-    }
-    0
+pub fn at(words: &[u64], i: usize) -> u64 {
+    words.get(i).copied().unwrap_or(0)
 }
 
 // The bytes of a run that a line says, by the place of its numbers.
-pub fn bytes<'a>(line: &'a [u8], words: [u64; WORDS], i: usize) -> &'a [u8] {
+pub fn bytes<'a>(line: &'a [u8], words: &[u64], i: usize) -> &'a [u8] {
     let from = at(words, i);
-    let n = at(words, std::num::wrapping_add_usize(i, 1));
-    script::text(line, script::within(line, from as usize, n as usize))
+    let n = at(words, i.saturating_add(1));
+    Word::within(line, from as usize, n as usize).text(line)
 }
 
 // The numbers of a list that a line says, likewise.
-pub fn listed<'a>(words: &'a [u64], i: usize) -> &'a [u64] {
-    if words.len() <= i {
-        return &words[0..0];
-    }
-    let n = words[i] as usize;
-    let from = i + 1;
-    if words.len() - from < n {
-        return &words[0..0];
-    }
-    let to = from + n;
-    &words[from..to]
+pub fn listed(words: &[u64], i: usize) -> &[u64] {
+    let Some((n, rest)) = words.get(i..).and_then(|list| list.split_first()) else {
+        return &[];
+    };
+    rest.get(..*n as usize).unwrap_or(&[])
 }

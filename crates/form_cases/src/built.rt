@@ -50,16 +50,15 @@ fn built(stdout: Stdout, line: &[u8], words: [u64; WORDS], buf: &mut [u8]) -> bo
 
 // Of numbers, and of runs that are bytes of the line.
 fn made(line: &[u8], words: [u64; WORDS], buf: &mut [u8]) -> Built {
-    let all = words;
     build::build(
         words[1],
         words[2],
         words[6],
         words[22] == 1,
-        calls::listed(&all, 10),
+        calls::listed(&words, 10),
         words[7],
-        calls::bytes(line, words, 16),
-        calls::bytes(line, words, 18),
+        calls::bytes(line, &words, 16),
+        calls::bytes(line, &words, 18),
         buf,
     )
 }

@@ -16,11 +16,12 @@ mod built;
 
 ghost use Rattle.std.specs.Prelude.{◌≤◌, length};
 
-use calls::WORDS;
+use calls::{Kind, Row, WORDS};
 use input::Lines;
 use messages::{MOST_PLACES, Message, Reading};
 use output::Pen;
 use rows::Protocol;
+use script::Word;
 use std::io::Stdout;
 
 // No line of the script is longer.
@@ -31,6 +32,32 @@ const SPACE: usize = 4096;
 
 // How much of an answer is written at once.
 const OUT: usize = 256;
+
+// What a line asks for.
+#[derive(Clone, Copy)]
+enum Case {
+    Read,
+    Build,
+}
+
+const CASES: [Row<'_, Case>; 2] = [
+    Row {
+        name: b"read",
+        kinds: &[Kind::Numbers, Kind::Run],
+        call: Case::Read,
+    },
+    Row {
+        name: b"build",
+        kinds: &[
+            Kind::Numbers,
+            Kind::Numbers,
+            Kind::Numbers,
+            Kind::Runs,
+            Kind::Indefinite,
+        ],
+        call: Case::Build,
+    },
+];
 
 fn main(rt: HostRuntime) {
     let mut space = [0; SPACE];
@@ -88,17 +115,16 @@ fn step(stdout: Stdout, space: &mut [u8], l: Lines) -> bool {
 
 fn line(stdout: Stdout, line: &mut [u8]) -> bool {
     let mut words = [0; WORDS];
-    let case = calls::said(b"read lr build lllpi", 2, line, &mut words);
-    match case {
-        0 => read(stdout, line, words),
-        1 => built::build(stdout, line, words),
-        _ => other(stdout, line),
+    match calls::said(&CASES, line, &mut words) {
+        Some(Case::Read) => read(stdout, line, words),
+        Some(Case::Build) => built::build(stdout, line, words),
+        None => other(stdout, line),
     }
 }
 
 // A remark, or no case.
 fn other(stdout: Stdout, line: &[u8]) -> bool {
-    if script::is(line, script::first(line), b"#") {
+    if Word::first(line).is(line, b"#") {
         return true;
     }
     bad(stdout)
@@ -116,7 +142,7 @@ fn read(stdout: Stdout, line: &[u8], words: [u64; WORDS]) -> bool {
     }
     let mut space = [0u8; OUT];
     let out: &mut [u8] = &mut space;
-    let bytes = calls::bytes(line, words, 5);
+    let bytes = calls::bytes(line, &words, 5);
     let p = spoken(
         out,
         output::begin(stdout),

@@ -1,6 +1,7 @@
 -- Laws of the lister. T17 is `lister`; that a step's contract leaves one answer is `once`.
 -- Assumes nothing.
 use Rattle.std.proofs.Common.{◌≡◌, ℕ, zero, suc, ◌+◌, ◌-◌, ◌%◌, ◌^◌, ◌<◌, ◌≤◌, min, Bool, true, false, cond, eqb, ltb, leb, List, [], ◌∷◌, ◌++◌, map, length, get_or, take, drop, sym, refl, ap, ◌∙◌, subst, append_assoc, append-nil, le_refl, add-zero, add_assoc, zero-add, arith, length-append, length-drop, take-append-drop, drop_of_length-le, length-take-le, take_all, drop-cons, take-suc, drop-drop, ltb-false, ltb-true, le-ltb, lt-ltb, ne_eqb}
+use Rattle.std.specs.Prelude.{Option, None, Some}
 use native.Mathlib.Nat.{sub-zero, mod-add-mod, min-zero}
 use borrow.Author.Tests.{lt-leb}
 use Rattle.base.proofs.Conds.{by_test, cond_cases}
@@ -9,8 +10,6 @@ use Rattle.wire.specs.declared.segment.Segment.{Segment}
 use Rattle.wire.specs.Segments.{header_length, added, decoded, Carried, Divided, in_header, in_payload, whole}
 use Rattle.wire.proofs.SegmentLaws.{part, add_part}
 use Rattle.lister_core.specs.declared.Listing.{Listing}
-use Rattle.lister_core.specs.declared.Line.{Line}
-use Rattle.lister_core.specs.declared.Line.TheVariants.{None, Whole}
 use Rattle.lister_core.specs.declared.Step.{Step}
 use Rattle.lister_core.specs.Lister.{Listed, plus, going, ending, after, head_byte, byte, then, fed, ended, lines_of, told, used_of, Stepped}
 use Rattle.lister_core.specs.Besides.Lister.{Lists, Lister, Once}
@@ -314,13 +313,13 @@ lister = record { divides = divides; lists = lists; cuts = cuts }
 
 -- ---- one answer
 
-same_lines : (l k : Line) → lines_of l ≡ lines_of k → l ≡ k
+same_lines : (l k : Option Segment) → lines_of l ≡ lines_of k → l ≡ k
 same_lines None None e = refl
-same_lines None (Whole s) e = absurd (let z : ◌≡◌ {A = ℕ} 0 1 = cc in omega arith)
-same_lines (Whole s) None e = absurd (let z : ◌≡◌ {A = ℕ} 0 1 = cc in omega arith)
-same_lines (Whole s) (Whole q) e = cc
+same_lines None (Some s) e = absurd (let z : ◌≡◌ {A = ℕ} 0 1 = cc in omega arith)
+same_lines (Some s) None e = absurd (let z : ◌≡◌ {A = ℕ} 0 1 = cc in omega arith)
+same_lines (Some s) (Some q) e = cc
 
-abbrev step_of : Listing → ℕ → Line → Step
+abbrev step_of : Listing → ℕ → Option Segment → Step
 step_of l n k = record { listing = l; used = n; line = k }
 
 pub once : Once

@@ -1,11 +1,9 @@
 -- The lister (document 01, "Checked examples"): it judges layout only, and has a line for each whole segment.
-use Rattle.std.specs.Prelude.{◌≡◌, ℕ, ◌+◌, ◌-◌, ◌%◌, ◌^◌, min, Bool, cond, List, [], ◌∷◌, ◌++◌, length, take, ◌==◌, nat_le, nat_lt}
+use Rattle.std.specs.Prelude.{◌≡◌, ℕ, ◌+◌, ◌-◌, ◌%◌, ◌^◌, min, Bool, cond, Option, None, Some, List, [], ◌∷◌, ◌++◌, length, take, ◌==◌, nat_le, nat_lt}
 use Rattle.wire.specs.declared.segment.Header.{Header}
 use Rattle.wire.specs.declared.segment.Segment.{Segment}
 use Rattle.wire.specs.Segments.{header_length, empty, added, decoded}
 use Rattle.lister_core.specs.declared.Listing.{Listing}
-use Rattle.lister_core.specs.declared.Line.{Line}
-use Rattle.lister_core.specs.declared.Line.TheVariants.{None, Whole}
 use Rattle.lister_core.specs.declared.Step.{Step}
 
 -- what bytes come to, and the segments that ended on the way
@@ -60,9 +58,9 @@ begun = record { header = empty; rest = 0; segments = 0; bytes = 0 }
 abbrev pub ended : Listing → Bool
 ended l = l.header.count == 0
 
-abbrev pub lines_of : Line → List Segment
+abbrev pub lines_of : Option Segment → List Segment
 lines_of None = []
-lines_of (Whole s) = s ∷ []
+lines_of (Some s) = s ∷ []
 
 abbrev pub told : Step → Listed
 told r = record { listing = r.listing; lines = lines_of r.line }

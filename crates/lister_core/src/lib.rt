@@ -20,19 +20,12 @@ pub struct Listing {
     pub bytes: u64,
 }
 
-// Whether a step ended a segment.
-#[derive(Clone, Copy)]
-pub enum Line {
-    None,
-    Whole(Segment),
-}
-
-// What a step came to, and how many bytes it used.
+// What a step came to, how many bytes it used, and the segment that it ended, if it ended one.
 #[derive(Clone, Copy)]
 pub struct Step {
     pub listing: Listing,
     pub used: usize,
-    pub line: Line,
+    pub line: Option<Segment>,
 }
 
 impl Listing {
@@ -52,8 +45,7 @@ impl Listing {
     pub fn at_end(self) -> bool
         ensures { result ≡ ended self }
     {
-        let h = self.header;
-        h.count == 0
+        self.header.count == 0
     }
 
     // The next bytes of a run, from a place on.
@@ -64,74 +56,66 @@ impl Listing {
             return Step {
                 listing: self,
                 used: 0,
-                line: Line::None,
+                line: None,
             };
         }
         if 0 < self.rest {
-            return payload(self, run.len() - from);
+            return self.payload(run.len() - from);
         }
-        header_byte(self, run[from])
+        self.header_byte(run[from])
     }
-}
 
-// The header is h and n payload bytes are to come, after k bytes more.
-fn under_way(l: Listing, h: Header, n: usize, k: usize) -> Step
-    ensures { (told result ≡ going l h n k) × (result.used ≡ k) }
-{
-    let listing = Listing {
-        header: h,
-        rest: n,
-        segments: l.segments,
-        bytes: std::num::wrapping_add_u64(l.bytes, k as u64),
-    };
-    Step {
-        listing,
-        used: k,
-        line: Line::None,
+    // The header is h and n payload bytes are to come, after k bytes more.
+    fn under_way(self, h: Header, n: usize, k: usize) -> Step
+        ensures { (told result ≡ going self h n k) × (result.used ≡ k) }
+    {
+        Step {
+            listing: Listing {
+                header: h,
+                rest: n,
+                segments: self.segments,
+                bytes: self.bytes.wrapping_add(k as u64),
+            },
+            used: k,
+            line: None,
+        }
     }
-}
 
-// The same, and where no payload bytes are to come, the segment has ended.
-fn then(l: Listing, h: Header, n: usize, k: usize) -> Step
-    ensures { (told result ≡ after l h n k) × (result.used ≡ k) }
-{
-    if 0 < n {
-        return under_way(l, h, n, k);
+    // The same, and where no payload bytes are to come, the segment has ended.
+    fn then(self, h: Header, n: usize, k: usize) -> Step
+        ensures { (told result ≡ after self h n k) × (result.used ≡ k) }
+    {
+        if 0 < n {
+            return self.under_way(h, n, k);
+        }
+        Step {
+            listing: Listing {
+                header: Header::empty(),
+                rest: 0,
+                segments: self.segments.wrapping_add(1),
+                bytes: self.bytes.wrapping_add(k as u64),
+            },
+            used: k,
+            line: Some(h.segment()),
+        }
     }
-    let listing = Listing {
-        header: Header::empty(),
-        rest: 0,
-        segments: std::num::wrapping_add_u64(l.segments, 1),
-        bytes: std::num::wrapping_add_u64(l.bytes, k as u64),
-    };
-    Step {
-        listing,
-        used: k,
-        line: Line::Whole(h.segment()),
-    }
-}
 
-// One byte more of a header.
-fn header_byte(l: Listing, b: u8) -> Step
-    ensures { (told result ≡ head_byte l b) × (result.used ≡ 1) }
-{
-    let old = l.header;
-    let h = old.add(b);
-    if h.whole() {
-        let s = h.segment();
-        return then(l, h, s.len as usize, 1);
+    // One byte more of a header.
+    fn header_byte(self, b: u8) -> Step
+        ensures { (told result ≡ head_byte self b) × (result.used ≡ 1) }
+    {
+        let h = self.header.add(b);
+        if h.whole() {
+            return self.then(h, usize::from(h.segment().len), 1);
+        }
+        self.under_way(h, 0, 1)
     }
-    under_way(l, h, 0, 1)
-}
 
-// As many of n bytes as the payload has still to come.
-fn payload(l: Listing, n: usize) -> Step
-    ensures { (told result ≡ after l l.header (l.rest - min l.rest n) (min l.rest n)) × (result.used ≡ min l.rest n) }
-{
-    let h = l.header;
-    let rest = l.rest;
-    if rest < n {
-        return then(l, h, 0, rest);
+    // As many of n bytes as the payload has still to come.
+    fn payload(self, n: usize) -> Step
+        ensures { (told result ≡ after self self.header (self.rest - min self.rest n) (min self.rest n)) × (result.used ≡ min self.rest n) }
+    {
+        let used = self.rest.min(n);
+        self.then(self.header, self.rest - used, used)
     }
-    then(l, h, rest - n, n)
 }

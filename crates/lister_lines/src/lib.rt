@@ -6,78 +6,49 @@
 ghost use Rattle.std.specs.Prelude.{◌≡◌};
 ghost use Rattle.lister_core.specs.Lister.{fed};
 
-use lister_core::{Line, Listing};
-use output::Pen;
+use lister_core::Listing;
+use output::{WriteFailed, Writer};
 use std::io::Stdout;
 use wire::segment::Segment;
 
 // No line is longer.
 const LINE: usize = 64;
 
-// What is known after some bytes, and whether the lines of all segments that ended in them were written.
-#[derive(Clone, Copy)]
-pub struct Printed {
-    pub listing: Listing,
-    pub written: bool,
-}
-
-// Lists a run of bytes. Once a line could not be written, no other is.
-pub fn print_run(stdout: Stdout, l: Listing, run: &[u8]) -> Printed
-    ensures { result.listing ≡ (fed l run.now).listing }
+// Lists a run of bytes, all of it even where a line could not be written. Once one could not, no other is.
+pub fn print_run(stdout: Stdout, l: &mut Listing, run: &[u8]) -> Result<(), WriteFailed>
+    ensures { l.new ≡ (fed l.old run.now).listing }
 {
-    let mut known = l;
-    let mut written = true;
+    let mut written = Ok(());
     let mut from = 0;
+    // Kept: no `for`, since a step uses as many bytes as it says.
     while from < run.len() {
-        let t = known.step(run, from);
-        let line = t.line;
-        written = print_line(stdout, line, written);
-        let next = t.listing;
-        known = next;
+        let t = l.step(run, from);
+        if let (Ok(()), Some(s)) = (written, t.line) {
+            written = print_segment(stdout, s);
+        }
+        *l = t.listing;
         from += t.used;
     }
-    Printed {
-        listing: known,
-        written,
-    }
-}
-
-// A line where a segment ended, after others that were written.
-fn print_line(stdout: Stdout, line: Line, written: bool) -> bool {
-    if !written {
-        return false;
-    }
-    match line {
-        Line::None => true,
-        Line::Whole(s) => print_segment(stdout, s),
-    }
+    written
 }
 
 // Time, protocol, mode, length.
-fn print_segment(stdout: Stdout, s: Segment) -> bool {
+fn print_segment(stdout: Stdout, s: Segment) -> Result<(), WriteFailed> {
     let mut space = [0u8; LINE];
-    let out: &mut [u8] = &mut space;
-    let mut p = output::decimal(out, output::begin(stdout), s.time as u64);
-    p = output::number(out, p, s.protocol as u64);
-    p = output::number(out, p, s.mode as u64);
-    p = output::number(out, p, s.len as u64);
-    output::end(out, p)
+    let mut line = Writer::new(stdout, &mut space);
+    line.decimal(u64::from(s.time))?;
+    line.number(u64::from(s.protocol))?;
+    line.number(u64::from(s.mode))?;
+    line.number(u64::from(s.len))?;
+    line.end()
 }
 
 // `end` or, where bytes break off inside a segment, `cut`; then whole segments, then bytes read.
-pub fn print_last(stdout: Stdout, l: Listing) -> bool {
+pub fn print_last(stdout: Stdout, l: Listing) -> Result<(), WriteFailed> {
     let mut space = [0u8; LINE];
-    let out: &mut [u8] = &mut space;
-    let mut p = ending(stdout, out, l.at_end());
-    p = output::number(out, p, l.segments);
-    p = output::number(out, p, l.bytes);
-    output::end(out, p)
-}
-
-// The last line's first word.
-fn ending(stdout: Stdout, out: &mut [u8], whole: bool) -> Pen {
-    if whole {
-        return output::words(out, output::begin(stdout), b"end");
-    }
-    output::words(out, output::begin(stdout), b"cut")
+    let mut line = Writer::new(stdout, &mut space);
+    line.words(if l.at_end() { b"end" } else { b"cut" })?;
+    line.number(l.segments)?;
+    line.number(l.bytes)?;
+    line.end()
 }

@@ -1,13 +1,14 @@
 // Lines on standard output, by way of a lent buffer, and the one line on standard error of a program that can't go on.
 //
-// A pen goes from function to function: each writes where it stands and hands it back behind what was written; where there
-// is no room, what stands before it is written out first. Once a write has failed nothing more is written, and the pen says
-// so up to the end of the line. What a number and a byte look like is proved in `text`; what is printed of them is run and
-// compared.
+// Each piece of a line is put behind the one before it; where there is no room, what stands in the buffer is written out
+// first. What a number and a byte look like is proved in `text`; what is printed of them is run and compared.
 #![tactic(auto)]
 
-ghost use Rattle.std.specs.Prelude.{◌+◌, ◌≤◌, length};
+mod pen;
 
+ghost use Rattle.std.specs.Prelude.{◌≡◌, ◌+◌, ◌≤◌, length, OnOk};
+
+pub use pen::{Pen, begin, byte, decimal, end, hex, line, list, number, numbers, run, words};
 use std::io::{Stderr, Stdout};
 use text::DIGITS;
 
@@ -17,181 +18,130 @@ const HEX: usize = 2;
 // How much of a line of words alone is written at once.
 const SPACE: usize = 64;
 
-// Standard output, the place of the next byte in the buffer, and whether all that was to be written out so far was.
-#[derive(Clone, Copy)]
-pub struct Pen {
-    pub stdout: Stdout,
-    pub at: usize,
-    pub written: bool,
+// Not all of a line was written: a write failed, or the buffer is too short for a piece.
+#[derive(Clone, Copy, Debug, PartialEq, Eq)]
+pub struct WriteFailed;
+
+// A line under way: standard output, the buffer, and the place of the next byte in it.
+// Kept: a buffer with the place beside, and no `String`, since nothing is allocated.
+#[derive(Drop)]
+pub struct Writer<'a> {
+    stdout: Stdout,
+    out: &'a mut [u8],
+    at: usize,
+    ghost within: { at ≤ length out.now },
 }
 
-// At the start of a line.
-pub fn begin(stdout: Stdout) -> Pen {
-    Pen {
-        stdout,
-        at: 0,
-        written: true,
+impl Writer<'_> {
+    // At the start of a line.
+    pub fn new(stdout: Stdout, out: &mut [u8]) -> Writer<'_> {
+        Writer { stdout, out, at: 0 }
     }
-}
 
-// In a buffer that is too short for a piece: it is lost, and the pen says so.
-fn lost(p: Pen) -> Pen {
-    Pen {
-        stdout: p.stdout,
-        at: p.at,
-        written: false,
+    // Writes out what stands in the buffer.
+    fn flush(&mut self) -> Result<(), WriteFailed>
+        ensures { (self.new.at ≡ 0) × (length self.new.out.now ≡ length self.old.out.now) }
+    {
+        let written = self.stdout.write_all(&self.out[..self.at]);
+        self.at = 0;
+        written.map_err(|_| WriteFailed)
     }
-}
 
-// Writes what stands before the pen out, unless a write has failed before, and answers whether all was written.
-fn flush(out: &[u8], p: Pen) -> bool {
-    let n = p.at;
-    if !p.written {
-        return false;
+    // Makes room for n bytes.
+    fn reserve(&mut self, n: usize) -> Result<(), WriteFailed>
+        ensures { OnOk result (self.new.at + n ≤ length self.new.out.now) }
+    {
+        if self.out.len() < n {
+            return Err(WriteFailed);
+        }
+        if self.out.len() - self.at < n {
+            self.flush()?;
+        }
+        Ok(())
     }
-    if out.len() < n {
-        return false;
-    }
-    p.stdout.write_all(&out[..n]).is_ok()
-}
 
-// Room for n bytes: the pen where it is, or at the front once the bytes before it are written out.
-fn room(out: &[u8], p: Pen, n: usize) -> Pen
-    requires { n ≤ length out.now }
-    ensures { result.at + n ≤ length out.now }
-{
-    if p.at <= out.len() - n {
-        return p;
+    // One byte.
+    pub fn byte(&mut self, b: u8) -> Result<(), WriteFailed> {
+        self.reserve(1)?;
+        self.at = text::byte(self.out, self.at, b);
+        Ok(())
     }
-    Pen {
-        stdout: p.stdout,
-        at: 0,
-        written: flush(out, p),
-    }
-}
 
-// One byte.
-pub fn byte(out: &mut [u8], p: Pen, b: u8) -> Pen {
-    if out.len() < 1 {
-        return lost(p);
+    // The first word of a line, or several.
+    pub fn words(&mut self, words: &[u8]) -> Result<(), WriteFailed> {
+        for b in words {
+            self.byte(*b)?;
+        }
+        Ok(())
     }
-    let q = room(out, p, 1);
-    Pen {
-        stdout: q.stdout,
-        at: text::byte(out, q.at, b),
-        written: q.written,
-    }
-}
 
-// The first word of a line, or several.
-pub fn words(out: &mut [u8], p: Pen, words: &[u8]) -> Pen {
-    let mut q = p;
-    let mut i: usize = 0;
-    while i < words.len() {
-        q = byte(out, q, words[i]);
-        i += 1;
+    // A number in decimal.
+    pub fn decimal(&mut self, n: u64) -> Result<(), WriteFailed> {
+        self.reserve(DIGITS)?;
+        self.at = text::decimal(self.out, self.at, n);
+        Ok(())
     }
-    q
-}
 
-// A number in decimal.
-pub fn decimal(out: &mut [u8], p: Pen, n: u64) -> Pen {
-    if out.len() < DIGITS {
-        return lost(p);
+    // A space and a number.
+    pub fn number(&mut self, n: u64) -> Result<(), WriteFailed> {
+        self.byte(b' ')?;
+        self.decimal(n)
     }
-    let q = room(out, p, DIGITS);
-    Pen {
-        stdout: q.stdout,
-        at: text::decimal(out, q.at, n),
-        written: q.written,
-    }
-}
 
-// A space and a number.
-pub fn number(out: &mut [u8], p: Pen, n: u64) -> Pen {
-    let q = byte(out, p, b' ');
-    decimal(out, q, n)
-}
+    // Numbers, each behind a space.
+    pub fn numbers(&mut self, numbers: &[u64]) -> Result<(), WriteFailed> {
+        for n in numbers {
+            self.number(*n)?;
+        }
+        Ok(())
+    }
 
-// Numbers, each behind a space.
-pub fn numbers(out: &mut [u8], p: Pen, numbers: &[u64]) -> Pen {
-    let mut q = p;
-    let mut i: usize = 0;
-    while i < numbers.len() {
-        q = number(out, q, numbers[i]);
-        i += 1;
+    // A space and a list of numbers.
+    pub fn list(&mut self, numbers: &[u64]) -> Result<(), WriteFailed> {
+        self.byte(b' ')?;
+        if numbers.is_empty() {
+            return self.byte(b'-');
+        }
+        for (i, n) in numbers.iter().enumerate() {
+            if 0 < i {
+                self.byte(b',')?;
+            }
+            self.decimal(*n)?;
+        }
+        Ok(())
     }
-    q
-}
 
-// A space and a list of numbers.
-pub fn list(out: &mut [u8], p: Pen, numbers: &[u64]) -> Pen {
-    let mut q = byte(out, p, b' ');
-    if numbers.len() == 0 {
-        return byte(out, q, b'-');
+    // Bytes in hex.
+    pub fn hex(&mut self, bytes: &[u8]) -> Result<(), WriteFailed> {
+        for b in bytes {
+            self.reserve(HEX)?;
+            self.at = text::hex(self.out, self.at, *b);
+        }
+        Ok(())
     }
-    let mut i: usize = 0;
-    while i < numbers.len() {
-        q = comma(out, q, i);
-        q = decimal(out, q, numbers[i]);
-        i += 1;
-    }
-    q
-}
 
-// What parts an element from the one before it.
-fn comma(out: &mut [u8], p: Pen, i: usize) -> Pen {
-    if i == 0 {
-        return p;
+    // A space and a run of bytes.
+    pub fn run(&mut self, bytes: &[u8]) -> Result<(), WriteFailed> {
+        self.byte(b' ')?;
+        if bytes.is_empty() {
+            return self.byte(b'.');
+        }
+        self.hex(bytes)
     }
-    byte(out, p, b',')
-}
 
-// A byte in hex.
-fn digits(out: &mut [u8], p: Pen, b: u8) -> Pen {
-    if out.len() < HEX {
-        return lost(p);
+    // Ends the line, and writes all out: the next one can begin.
+    pub fn end(&mut self) -> Result<(), WriteFailed> {
+        self.byte(b'\n')?;
+        self.flush()
     }
-    let q = room(out, p, HEX);
-    Pen {
-        stdout: q.stdout,
-        at: text::hex(out, q.at, b),
-        written: q.written,
-    }
-}
-
-// Bytes in hex.
-pub fn hex(out: &mut [u8], p: Pen, bytes: &[u8]) -> Pen {
-    let mut q = p;
-    let mut i: usize = 0;
-    while i < bytes.len() {
-        q = digits(out, q, bytes[i]);
-        i += 1;
-    }
-    q
-}
-
-// A space and a run of bytes.
-pub fn run(out: &mut [u8], p: Pen, bytes: &[u8]) -> Pen {
-    let q = byte(out, p, b' ');
-    if bytes.len() == 0 {
-        return byte(out, q, b'.');
-    }
-    hex(out, q, bytes)
-}
-
-// Ends a line, writes all out, and answers whether all of the line was written.
-pub fn end(out: &mut [u8], p: Pen) -> bool {
-    let q = byte(out, p, b'\n');
-    flush(out, q)
 }
 
 // A line of words alone.
-pub fn line(stdout: Stdout, said: &[u8]) -> bool {
+pub fn say(stdout: Stdout, words: &[u8]) -> Result<(), WriteFailed> {
     let mut space = [0u8; SPACE];
-    let out: &mut [u8] = &mut space;
-    let p = words(out, begin(stdout), said);
-    end(out, p)
+    let mut line = Writer::new(stdout, &mut space);
+    line.words(words)?;
+    line.end()
 }
 
 // Says on standard error, in a line of words, why the program ends before its work is done.

@@ -1,6 +1,6 @@
 // Each line of a script: its words are read, its call is made, and its answer is printed. A line that is no call changes nothing.
 //
-// A call is an entry of the table in `called`, which says the kinds of its words, and so the places of what they say; its
+// A call is an entry of the table `CALLS`, which says the kinds of its words, and so the places of what they say; its
 // name among the numbers below; and a clause of `made`, or of `chosen` where it says what later calls are given.
 ghost use Rattle.std.specs.Prelude.{◌≤◌};
 ghost use Rattle.wire.specs.Instances.{most};
@@ -8,7 +8,7 @@ ghost use Rattle.wire.specs.Instances.{most};
 use crate::{Desk, FILL, Given, Made, answering, lent};
 use base::smaller;
 use build::Built;
-use calls::{LENT, STORE, WORDS};
+use calls::{Kind, LENT, Row, STORE, WORDS};
 use connection::{Connection, Settings};
 use std::io::Stdout;
 use wire::instances::{INSTANCES, Party, Side, count, known};
@@ -40,6 +40,72 @@ const BAD: usize = 11;
 
 const NOTHING: usize = 12;
 
+// The calls, each with the kinds of its words.
+const CALLS: [Row<'_, usize>; 11] = [
+    Row {
+        name: b"bundle",
+        kinds: &[Kind::Number],
+        call: BUNDLE,
+    },
+    Row {
+        name: b"open",
+        kinds: &[Kind::Side, Kind::Number, Kind::Rest],
+        call: OPEN,
+    },
+    Row {
+        name: b"lend",
+        kinds: &[Kind::Lent, Kind::Lent],
+        call: LEND,
+    },
+    Row {
+        name: b"feed",
+        kinds: &[Kind::Run],
+        call: FEED,
+    },
+    Row {
+        name: b"look",
+        kinds: &[Kind::Number, Kind::Length],
+        call: LOOK,
+    },
+    Row {
+        name: b"drop",
+        kinds: &[Kind::Number],
+        call: DROP,
+    },
+    Row {
+        name: b"build",
+        kinds: &[
+            Kind::Number,
+            Kind::Number,
+            Kind::Numbers,
+            Kind::Runs,
+            Kind::Length,
+            Kind::Indefinite,
+        ],
+        call: BUILD,
+    },
+    Row {
+        name: b"put",
+        kinds: &[Kind::Number, Kind::Run],
+        call: PUT,
+    },
+    Row {
+        name: b"next",
+        kinds: &[Kind::Time, Kind::Length],
+        call: NEXT,
+    },
+    Row {
+        name: b"status",
+        kinds: &[],
+        call: STATUS,
+    },
+    Row {
+        name: b"stores",
+        kinds: &[],
+        call: SHOW,
+    },
+];
+
 // How many capacities of each kind an `open` line has for an unknown bundle, and how many counts a `status` line has of a
 // record out of range, whichever bundles there are.
 const NINE: usize = 9;
@@ -55,12 +121,7 @@ fn called(line: &mut [u8], long: bool, words: &mut [u64; WORDS]) -> usize {
     if line[0] == b'#' {
         return NOTHING;
     }
-    calls::said(
-        b"bundle n open snm lend kk feed r look nb drop n build nnlpbi put nr next tb status . stores .",
-        BAD,
-        line,
-        words,
-    )
+    calls::said(&CALLS, line, words).unwrap_or(BAD)
 }
 
 // An `open` line with another number of capacities than the bundle's is no call.
@@ -173,7 +234,7 @@ fn capacities(words: [u64; WORDS], from: usize, n: usize) -> [u64; INSTANCES]
     let mut caps = [0; INSTANCES];
     let mut i: usize = 0;
     while i < n {
-        caps[i] = calls::at(words, std::num::wrapping_add_usize(from, i));
+        caps[i] = calls::at(&words, std::num::wrapping_add_usize(from, i));
         i += 1;
     }
     caps
@@ -276,7 +337,7 @@ fn feed(
     words: [u64; WORDS],
 ) -> Made {
     let r = lent(g.receive, receive);
-    let f = feeding::feed(c, &mut receive[..r], calls::bytes(line, words, 0));
+    let f = feeding::feed(c, &mut receive[..r], calls::bytes(line, &words, 0));
     let connection = f.connection;
     Made {
         connection,
@@ -350,16 +411,15 @@ fn built(stdout: Stdout, bundle: u64, line: &[u8], words: [u64; WORDS], buf: &mu
 
 // Of three runs the last is counted, and not handed over.
 fn message(bundle: u64, line: &[u8], words: [u64; WORDS], buf: &mut [u8]) -> Built {
-    let all = words;
     build::build(
         bundle,
         words[0],
         words[1],
         words[15] == 1,
-        calls::listed(&all, 2),
+        calls::listed(&words, 2),
         words[7],
-        calls::bytes(line, words, 8),
-        calls::bytes(line, words, 10),
+        calls::bytes(line, &words, 8),
+        calls::bytes(line, &words, 10),
         buf,
     )
 }
@@ -374,7 +434,7 @@ fn put(
     words: [u64; WORDS],
 ) -> Made {
     let s = lent(g.send, send);
-    let q = putting::put(c, &mut send[..s], words[0], calls::bytes(line, words, 1));
+    let q = putting::put(c, &mut send[..s], words[0], calls::bytes(line, &words, 1));
     let connection = q.connection;
     Made {
         connection,

@@ -8,109 +8,74 @@
 pub mod numbers;
 pub mod runs;
 
-ghost use Rattle.std.specs.Prelude.{◌≤◌, length};
+ghost use Rattle.script.specs.Words.{LiesIn};
 
 // A part of a line: from a place on, up to another.
+// Kept: two places and no slice, since `runs` makes a word bytes in place, and so changes the line that slices would borrow.
 #[derive(Clone, Copy)]
 pub struct Word {
     pub from: usize,
     pub to: usize,
 }
 
-// Where the part from a place on ends: at the first such byte, or with the line.
-pub fn end(line: &[u8], from: usize, by: u8) -> usize
-    requires { from ≤ length line.now }
-    ensures { (from ≤ result) × (result ≤ length line.now) }
-{
-    let mut at = from;
-    while at < line.len() {
-        if line[at] == by {
-            return at;
+impl Word {
+    // The first word of a line.
+    pub fn first(line: &[u8]) -> Word
+        ensures { LiesIn line.now result }
+    {
+        Word::part(line, 0, b' ')
+    }
+
+    // The part from a place on, up to the first such byte. Behind the end it is empty.
+    pub fn part(line: &[u8], from: usize, by: u8) -> Word
+        ensures { LiesIn line.now result }
+    {
+        let n = line.len();
+        if n < from {
+            return Word { from: n, to: n };
         }
-        at += 1;
-    }
-    at
-}
-
-// The part from a place on. Behind the end it is empty.
-pub fn part(line: &[u8], from: usize, by: u8) -> Word
-    ensures { (result.from ≤ result.to) × (result.to ≤ length line.now) }
-{
-    let n = line.len();
-    if n < from {
-        return Word { from: n, to: n };
-    }
-    Word {
-        from,
-        to: end(line, from, by),
-    }
-}
-
-// The first word of a line, and the one after a word.
-pub fn first(line: &[u8]) -> Word
-    ensures { (result.from ≤ result.to) × (result.to ≤ length line.now) }
-{
-    part(line, 0, b' ')
-}
-
-pub fn next(line: &[u8], w: Word) -> Word
-    ensures { (result.from ≤ result.to) × (result.to ≤ length line.now) }
-{
-    let n = line.len();
-    if w.to < n {
-        return part(line, w.to + 1, b' ');
-    }
-    Word { from: n, to: n }
-}
-
-// The n bytes from a place on, as far as the line has them.
-pub fn within(line: &[u8], from: usize, n: usize) -> Word
-    ensures { (result.from ≤ result.to) × (result.to ≤ length line.now) }
-{
-    let all = line.len();
-    if all < from {
-        return Word { from: all, to: all };
-    }
-    if all - from < n {
-        return Word { from, to: all };
-    }
-    Word { from, to: from + n }
-}
-
-// Whether a word is the line's last.
-pub fn last(line: &[u8], w: Word) -> bool {
-    w.to == line.len()
-}
-
-// The bytes of a word; none of what is no part of the line.
-pub fn text<'a>(line: &'a [u8], w: Word) -> &'a [u8] {
-    let from = w.from;
-    let to = w.to;
-    if to < from {
-        return &line[0..0];
-    }
-    if line.len() < to {
-        return &line[0..0];
-    }
-    &line[from..to]
-}
-
-// Whether a word is a word that is known.
-pub fn is(line: &[u8], w: Word, name: &[u8]) -> bool {
-    same(text(line, w), name)
-}
-
-// Whether two runs of bytes are the same.
-fn same(a: &[u8], b: &[u8]) -> bool {
-    if a.len() != b.len() {
-        return false;
-    }
-    let mut i: usize = 0;
-    while i < a.len() {
-        if a[i] != b[i] {
-            return false;
+        let rest = &line[from..];
+        match rest.iter().position(|b| *b == by) {
+            Some(k) => Word { from, to: from + k },
+            None => Word { from, to: n },
         }
-        i += 1;
     }
-    true
+
+    // The n bytes from a place on, as far as the line has them.
+    pub fn within(line: &[u8], from: usize, n: usize) -> Word
+        ensures { LiesIn line.now result }
+    {
+        let all = line.len();
+        let from = from.min(all);
+        Word {
+            from,
+            to: from + n.min(all - from),
+        }
+    }
+
+    // The word after this one.
+    pub fn next(self, line: &[u8]) -> Word
+        ensures { LiesIn line.now result }
+    {
+        let n = line.len();
+        if self.to < n {
+            return Word::part(line, self.to + 1, b' ');
+        }
+        Word { from: n, to: n }
+    }
+
+    // Whether the word is the line's last.
+    pub fn last(self, line: &[u8]) -> bool {
+        self.to == line.len()
+    }
+
+    // The bytes of the word; none of what is no part of the line.
+    pub fn text<'a>(self, line: &'a [u8]) -> &'a [u8] {
+        line.get(self.from..self.to).unwrap_or(b"")
+    }
+
+    // Whether the word is one that is known.
+    pub fn is(self, line: &[u8], name: &[u8]) -> bool {
+        self.text(line) == name
+    }
 }

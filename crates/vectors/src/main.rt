@@ -17,7 +17,6 @@ ghost use Rattle.std.specs.Prelude.{◌<◌, ◌≤◌, length};
 use input::Lines;
 use item::{NotWhole, Verdict};
 use output::Pen;
-use script::runs::Run;
 use script::{Word, runs};
 use std::io::Stdout;
 
@@ -83,15 +82,15 @@ fn step(stdout: Stdout, space: &mut [u8], l: Lines) -> bool {
 
 // A title, a remark, or a vector.
 fn line(stdout: Stdout, line: &mut [u8]) -> bool {
-    let first = script::first(line);
-    if script::is(line, first, b":") {
+    let first = Word::first(line);
+    if first.is(line, b":") {
         let title = Word {
             from: 2,
             to: line.len(),
         };
-        return output::line(stdout, script::text(line, title));
+        return output::line(stdout, title.text(line));
     }
-    if script::is(line, first, b"#") {
+    if first.is(line, b"#") {
         return true;
     }
     vector(stdout, line)
@@ -99,10 +98,10 @@ fn line(stdout: Stdout, line: &mut [u8]) -> bool {
 
 // One vector, in hex, which is made bytes.
 fn vector(stdout: Stdout, word: &mut [u8]) -> bool {
-    let Run::Is(n) = runs::read(word) else {
+    let Some(n) = runs::read(word) else {
         return output::line(stdout, b"no vector");
     };
-    measure(stdout, script::text(word, script::within(word, 0, n)))
+    measure(stdout, Word::within(word, 0, n).text(word))
 }
 
 fn measure(stdout: Stdout, bytes: &[u8]) -> bool {

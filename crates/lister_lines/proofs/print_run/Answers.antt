@@ -13,30 +13,30 @@ loop-from-init c = (search rules, refl)
 pub overflow_add-from : goal.overflow_add-from
 overflow_add-from c =
     let run = c.args.run.now in
-    let l = c.loop-from in
+    let v = c.loop-from in
     let t = c.step-t in
-    let on = onward l.known run l.from t.result (search rules) t.ensures in
+    let on = onward v.l run v.from t.result (search rules) t.ensures in
     record { fits = omega arith }
 
 pub loop-from-smaller : goal.loop-from-smaller
 loop-from-smaller c =
     let run = c.args.run.now in
-    let l = c.loop-from in
+    let v = c.loop-from in
     let t = c.step-t in
-    let on = onward l.known run l.from t.result (search rules) t.ensures in
+    let on = onward v.l run v.from t.result (search rules) t.ensures in
     omega arith
 
 pub loop-from-preserved : goal.loop-from-preserved
 loop-from-preserved c =
     let run = c.args.run.now in
-    let l = c.loop-from in
+    let v = c.loop-from in
     let t = c.step-t in
-    let on = onward l.known run l.from t.result (search rules) t.ensures in
-    (on.few, on.same ∙ l.invariant.1)
+    let on = onward v.l run v.from t.result (search rules) t.ensures in
+    (on.few, on.same ∙ v.invariant.1)
 
 pub returns : goal.returns
 unfolding fed
 returns c =
     let run = c.args.run.now in
-    let l = c.loop-from in
-    rw (drop_of_length-le run {i = l.from} (search rules)) at l.invariant.1
+    let v = c.loop-from in
+    rw (drop_of_length-le run {i = v.from} (search rules)) at v.invariant.1
