@@ -6,10 +6,9 @@
 ghost use Rattle.std.specs.Prelude.{◌≡◌};
 ghost use Rattle.dropping.specs.Dropping.{drop_of};
 
+use connection::Connection;
 use connection::areas::leave;
-use connection::{Connection, Receiving, Talk};
 use hearing::{Shown, hear, show, shut};
-use range::Marks;
 
 // What is said of the message, and the record.
 #[derive(Clone, Copy)]
@@ -19,30 +18,11 @@ pub struct Dropped {
 }
 
 // Drops the first message held of an instance: 23, 10, what is heard up to 16, and else its bytes are freed and the state
-// moves. The record is taken apart once, and put together once.
-pub fn drop(c: Connection, store: &[u8], instance: u64) -> Dropped
+// moves.
+pub fn drop(mut c: Connection, store: &[u8], instance: u64) -> Dropped
     ensures { result ≡ drop_of c store.now instance }
 {
-    let s = c.settings;
-    let r = c.receiving;
-    let w = c.sending;
-    let t = c.talk;
-    let gate = c.gate;
-    let party = s.party;
-    let header = r.header;
-    let marks = Marks {
-        limit: s.limit,
-        turn: w.turn,
-        bytes: header.count,
-        instance: r.instance,
-        rest: r.rest,
-        accepted: t.accepted,
-        gate,
-    };
-    let j = hear(
-        party, &s.receive, &r.starts, &r.held, &s.send, &w.starts, &w.waiting, &t.states, marks,
-        store, instance,
-    );
+    let j = hear(&c, store, instance);
     let shown = show(j);
     if shown.number != 0 {
         return Dropped {
@@ -51,31 +31,14 @@ pub fn drop(c: Connection, store: &[u8], instance: u64) -> Dropped
         };
     }
     let i = instance as usize;
-    let mut starts = r.starts;
-    let mut held = r.held;
-    let mut states = t.states;
-    leave(&s.receive, &mut starts, &mut held, i, j.len as u64);
-    states[i] = j.next;
-    let message = j.message;
-    let receiving = Receiving {
-        starts,
-        held,
-        header,
-        instance: r.instance,
-        rest: r.rest,
-    };
-    let talk = Talk {
-        states,
-        accepted: judging::marks(t.accepted, i, message.kind),
-    };
+    let n = j.len as u64;
+    let k = &mut c;
+    let r = &mut k.receiving;
+    leave(&k.settings.receive, &mut r.starts, &mut r.held, i, n);
+    k.talk.states[i] = j.next;
+    k.talk.accepted = judging::marks(k.talk.accepted, i, j.message.kind);
     Dropped {
         shown,
-        connection: Connection {
-            settings: s,
-            receiving,
-            sending: w,
-            talk,
-            gate,
-        },
+        connection: c,
     }
 }

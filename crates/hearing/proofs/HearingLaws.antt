@@ -1,7 +1,7 @@
 -- Laws of hearing: the bytes held lie in the store, and each way out of the code is the definition.
 -- Assumes nothing.
-use mathlib.Core.Path.{◌≡◌, refl, sym, ap, ◌∙◌}
-use mathlib.Core.Bool.{Bool, true, false, not}
+use mathlib.Core.Path.{◌≡◌, sym, ap, ◌∙◌}
+use mathlib.Core.Bool.{true, false}
 use mathlib.Core.List.{List}
 use Prim.Native.Nat.{ℕ, ◌+◌, ◌-◌, ◌≤◌}
 use native.Mathlib.Omega.{arith}
@@ -19,18 +19,16 @@ use Rattle.wire.proofs.InstanceLaws.{at_most}
 use Rattle.item.specs.Verdict.{verdict}
 use Rattle.connection.specs.declared.Connection.{Connection}
 use Rattle.connection.specs.Areas.{bytes_of}
-use Rattle.connection.specs.Closings.{is_open}
 use Rattle.connection.specs.Parts.{first_held, held_of}
-use Rattle.range.specs.declared.Marks.{Marks}
-use Rattle.range.specs.Ranges.{in_range, receives}
+use Rattle.range.specs.Ranges.{receives}
 use Rattle.range.specs.Besides.Ranges.{InReceive}
 use Rattle.range.proofs.StoreLaws.{receive_area}
 use Rattle.range.proofs.RangeLaws.{ranged, receives_both}
 use Rattle.judging.specs.declared.Outcome.TheVariants.{OutOfRange, NoInstance}
 use Rattle.judging.specs.Judging.{unjudged, heard}
 use Rattle.judging.proofs.JudgingLaws.{whole_within}
-use Rattle.hearing.specs.Inside.{Held, of_parts}
-use Rattle.hearing.specs.Hearing.{hear_of}
+use Rattle.hearing.specs.Inside.{Held}
+use Rattle.hearing.specs.Hearing.{seen, hear_of}
 
 -- ---- the bytes held
 
@@ -103,40 +101,6 @@ module _ (c : Connection) (store : List ℕ) (i : ℕ) where
   unfolding hear_of
   hear_instance r h = rw (r, le-ltb i (instances c.settings.party.bundle) h)
 
-  pub hear_heard : InReceive c store i → (closed : Bool) → closed ≡ not (is_open c.gate)
-      → heard
-      (record {
-        party = c.settings.party;
-        instance = i;
-        state = get_or c.talk.states i 0;
-        accepted = c.talk.accepted;
-        closed = closed;
-        bytes = held_of c store i;
-      })
-      ≡ hear_of c store i
+  pub hear_heard : InReceive c store i → heard (seen c store i) ≡ hear_of c store i
   unfolding hear_of
-  hear_heard a closed o = rw (a.0, lt-ltb i (instances c.settings.party.bundle) a.1, o)
-
--- ---- a record that is taken apart
-
-abbrev pub marks_of : Connection → Marks
-marks_of c =
-    record {
-      limit = c.settings.limit;
-      turn = c.sending.turn;
-      bytes = c.receiving.header.count;
-      instance = c.receiving.instance;
-      rest = c.receiving.rest;
-      accepted = c.talk.accepted;
-      gate = c.gate;
-    }
-
--- what is heard of its parts is heard of it
-pub hear_is : (c : Connection) (store : List ℕ) (i : ℕ)
-    → hear_of
-    (of_parts c.settings.party c.settings.receive c.receiving.starts c.receiving.held c.settings.send c.sending.starts
-    c.sending.waiting c.talk.states (marks_of c))
-    store i
-    ≡ hear_of c store i
-unfolding hear_of in_range
-hear_is c store i = refl
+  hear_heard a = rw (a.0, lt-ltb i (instances c.settings.party.bundle) a.1)

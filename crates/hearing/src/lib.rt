@@ -6,20 +6,19 @@
 // buffer is asked for.
 #![tactic(auto)]
 
-ghost use Rattle.std.specs.Prelude.{◌≡◌, ◌<◌, length};
-ghost use Rattle.wire.specs.Instances.{instances};
-ghost use Rattle.connection.specs.Areas.{bytes_of};
+ghost use Rattle.std.specs.Prelude.{◌≡◌, length, get_or};
+ghost use Rattle.range.specs.Besides.Ranges.{InReceive};
 ghost use Rattle.judging.specs.Judging.{heard};
-ghost use Rattle.hearing.specs.Inside.{Held, of_parts};
-ghost use Rattle.hearing.specs.Hearing.{hear_of, shown_by, shut};
+ghost use Rattle.hearing.specs.Inside.{Held};
+ghost use Rattle.hearing.specs.Hearing.{seen, hear_of, shown_by, shut};
 
 use connection::closings::{close, heard_fault, is_open};
 use connection::parts::with_gate;
 use connection::{Closing, Connection};
 use judging::{Judged, Outcome, number_of, offset_of, unjudged};
 use messages::Message;
-use range::{Marks, in_range};
-use wire::instances::{INSTANCES, Party, count};
+use range::receives;
+use wire::instances::count;
 
 // The number; where it is 0, the message's length and what it says; where it is 14, the offset of the first byte after
 // which no item is possible, counted from the message's first byte.
@@ -35,13 +34,11 @@ pub struct Shown {
 pub fn show(j: Judged) -> Shown
     ensures { result ≡ shown_by j }
 {
-    let outcome = j.outcome;
-    let message = j.message;
     Shown {
-        number: number_of(outcome),
+        number: number_of(j.outcome),
         len: j.len,
-        offset: offset_of(outcome),
-        message,
+        offset: offset_of(j.outcome),
+        message: j.message,
     }
 }
 
@@ -50,86 +47,41 @@ pub fn shut(c: Connection, instance: u64, number: u64) -> Connection
     ensures { result ≡ shut c instance number }
 {
     if heard_fault(number) {
-        let gate = c.gate;
-        return with_gate(c, close(gate, Closing::Of(number, instance)));
+        return with_gate(c, close(c.gate, Closing::Of(number, instance)));
     }
     c
 }
 
-// What is heard of instance i, whose bytes held lie around its area, from the place `start` on.
-fn listen(
-    party: Party,
-    i: usize,
-    state: u64,
-    accepted: bool,
-    closed: bool,
-    store: &[u8],
-    caps: &[u64; INSTANCES],
-    start: u64,
-    held: u64,
-) -> Judged
-    requires { (i < instances party.bundle) × Held caps.now (length store.now) i start held }
-    ensures { result ≡ heard (record {
-      party = party;
-      instance = i;
-      state = state;
-      accepted = accepted;
-      closed = closed;
-      bytes = bytes_of caps.now store.now i start held;
-    }) }
+// What is heard of instance i, whose bytes held lie around its area.
+fn listen(c: &Connection, store: &[u8], i: usize) -> Judged
+    requires asked { InReceive c.now store.now i }
+    requires held { Held c.now.settings.receive (length store.now) i (get_or c.now.receiving.starts i 0) (get_or c.now.receiving.held i 0) }
+    ensures { result ≡ heard (seen c.now store.now i) }
 {
+    let caps = &c.settings.receive;
     let base = ring::base_of(caps, i);
     let end = base + caps[i] as usize;
     judging::heard(
-        party,
+        c.settings.party,
         i,
-        state,
-        accepted,
-        closed,
+        c.talk.states[i],
+        c.talk.accepted,
+        !is_open(c.gate),
         &store[base..end],
-        start as usize,
-        held as usize,
+        c.receiving.starts[i] as usize,
+        c.receiving.held[i] as usize,
     )
 }
 
-// What is heard of an instance of a record that is taken apart: 23, 10, and then what `judging::heard` has.
-pub fn hear<'a>(
-    party: Party,
-    receive: &'a [u64; INSTANCES],
-    starts: &'a [u64; INSTANCES],
-    held: &'a [u64; INSTANCES],
-    send: &'a [u64; INSTANCES],
-    firsts: &'a [u64; INSTANCES],
-    waiting: &'a [u64; INSTANCES],
-    states: &'a [u64; INSTANCES],
-    m: Marks,
-    store: &[u8],
-    instance: u64,
-) -> Judged
-    ensures { result ≡ hear_of (of_parts party receive.now starts.now held.now send.now firsts.now
-        waiting.now states.now m) store.now instance }
+// What is heard of an instance: 23, 10, and then what `judging::heard` has.
+pub fn hear(c: &Connection, store: &[u8], instance: u64) -> Judged
+    ensures { result ≡ hear_of c.now store.now instance }
 {
-    let range = in_range(
-        party.bundle,
-        receive,
-        starts,
-        held,
-        send,
-        firsts,
-        waiting,
-        states,
-        m,
-    );
-    if !base::and(range.ok, store.len() as u64 == range.receive) {
+    if !receives(c, store.len()) {
         return unjudged(Outcome::OutOfRange);
     }
-    if count(party.bundle) as u64 <= instance {
+    if count(c.settings.party.bundle) as u64 <= instance {
         return unjudged(Outcome::NoInstance);
     }
-    let i = instance as usize;
-    let gate = m.gate;
-    let closed = base::not(is_open(gate));
-    listen(
-        party, i, states[i], m.accepted, closed, store, receive, starts[i], held[i],
-    )
+    listen(c, store, instance as usize)
 }

@@ -16,7 +16,6 @@ ghost use Rattle.looking.specs.Looking.{told, place_of, joined, shown_at, look_o
 use connection::Connection;
 use hearing::{Shown, hear, show, shut};
 use judging::{Outcome, unjudged};
-use range::Marks;
 use wire::instances::INSTANCES;
 
 // Where a message is shown: in the store from a place on, at the front of scratch, or not at all.
@@ -67,37 +66,17 @@ fn shown_at(place: Place, shown: Shown) -> Shown
     ensures { result ≡ shown_at place shown }
 {
     match place {
-        Place::Store(_) => shown,
-        Place::Scratch => shown,
+        Place::Store(_) | Place::Scratch => shown,
         Place::Nowhere => show(unjudged(Outcome::NoRoom)),
     }
 }
 
 // Looks at the first message held of an instance: 23, 10, what is heard up to 16, 18 for one that goes around and is
-// longer than scratch, and else the message. The record is lent to the judgement in its parts.
+// longer than scratch, and else the message.
 pub fn look(c: Connection, store: &[u8], instance: u64, scratch: &mut [u8]) -> Looked
     ensures { told result scratch.new ≡ look_of c store.now instance scratch.old }
 {
-    let s = c.settings;
-    let r = c.receiving;
-    let w = c.sending;
-    let t = c.talk;
-    let gate = c.gate;
-    let party = s.party;
-    let header = r.header;
-    let marks = Marks {
-        limit: s.limit,
-        turn: w.turn,
-        bytes: header.count,
-        instance: r.instance,
-        rest: r.rest,
-        accepted: t.accepted,
-        gate,
-    };
-    let j = hear(
-        party, &s.receive, &r.starts, &r.held, &s.send, &w.starts, &w.waiting, &t.states, marks,
-        store, instance,
-    );
+    let j = hear(&c, store, instance);
     let shown = show(j);
     if shown.number != 0 {
         return Looked {
@@ -107,8 +86,8 @@ pub fn look(c: Connection, store: &[u8], instance: u64, scratch: &mut [u8]) -> L
         };
     }
     let i = instance as usize;
-    let starts = r.starts;
-    let place = join(scratch, store, &s.receive, i, starts[i], j.len);
+    let start = c.receiving.starts[i];
+    let place = join(scratch, store, &c.settings.receive, i, start, j.len);
     Looked {
         shown: shown_at(place, shown),
         place,

@@ -1,7 +1,7 @@
 -- Laws of put: the area of an instance lies in the store, and each way out of the code is the definition.
 -- Assumes nothing.
 use mathlib.Core.Path.{◌≡◌}
-use mathlib.Core.Bool.{Bool, true, false, not, ◌&&◌}
+use mathlib.Core.Bool.{Bool, true, false, ◌&&◌}
 use mathlib.Core.List.{List}
 use mathlib.Core.Logic.{◌≢◌}
 use Prim.Native.Nat.{ℕ, ◌+◌, ◌≤◌}
@@ -12,7 +12,6 @@ use borrow.Author.Tests.{eq-eqb, ne_eqb, lt-ltb, le-ltb}
 use Rattle.wire.specs.Instances.{instances, handshake}
 use Rattle.wire.proofs.InstanceLaws.{at_most}
 use Rattle.connection.specs.declared.Connection.{Connection}
-use Rattle.connection.specs.Closings.{is_open}
 use Rattle.range.specs.Ranges.{sends}
 use Rattle.range.specs.Besides.Ranges.{InSend}
 use Rattle.range.proofs.StoreLaws.{send_area}
@@ -38,20 +37,6 @@ asked c store i (ok, h) =
       start = q.0;
       waiting = q.1;
     }
-
--- what is said of numbers and bytes of the record is said of the view
-pub said_there : (c : Connection) (i : ℕ) (xs : List ℕ) (closed : Bool) → closed ≡ not (is_open c.gate)
-    → said
-    (record {
-      party = c.settings.party;
-      instance = i;
-      state = get_or c.talk.states i 0;
-      accepted = c.talk.accepted;
-      closed = closed;
-      bytes = xs;
-    })
-    ≡ said (view_of c i xs)
-said_there c i xs closed e = rw e
 
 -- ---- the ways out of put
 

@@ -4,13 +4,16 @@
 // comes the room. One equation says the answer, the whole next record and every byte of the send store, on every input.
 #![tactic(auto)]
 
-ghost use Rattle.std.specs.Prelude.{◌≡◌};
-ghost use Rattle.putting.specs.Putting.{told, refused, put_of};
+ghost use Rattle.std.specs.Prelude.{◌≡◌, ◌&&◌, eqb, ltb};
+ghost use Rattle.wire.specs.Instances.{handshake};
+ghost use Rattle.putting.specs.Inside.{Waits};
+ghost use Rattle.putting.specs.Putting.{told, refused, queue, put_of};
 
+use connection::Connection;
 use connection::areas::write;
 use connection::closings::is_open;
-use connection::{Connection, Sending, Talk};
-use range::{Marks, fits, in_range};
+use judging::Judged;
+use range::{fits, sends};
 use wire::instances::{HANDSHAKE, count};
 
 // The number, and the record.
@@ -30,92 +33,67 @@ fn refused(c: Connection, number: u64) -> Queued
     }
 }
 
-// Puts a message of an instance: 23, 10, what is said up to 16, 24, a Handshake message above S, 22, one that its area has no
-// room for behind what waits, and else it is queued. The record is taken apart once, and put together once.
-pub fn put(c: Connection, store: &mut [u8], instance: u64, message: &[u8]) -> Queued
-    ensures { told result store.new ≡ put_of c store.old instance message.now }
+// Whether n bytes are a Handshake message above S.
+fn too_long(c: &Connection, i: usize, n: u64) -> bool
+    ensures { result ≡ (eqb i handshake && ltb c.now.settings.limit n) }
 {
-    let s = c.settings;
-    let r = c.receiving;
-    let w = c.sending;
-    let t = c.talk;
-    let gate = c.gate;
-    let party = s.party;
-    let header = r.header;
-    let marks = Marks {
-        limit: s.limit,
-        turn: w.turn,
-        bytes: header.count,
-        instance: r.instance,
-        rest: r.rest,
-        accepted: t.accepted,
-        gate,
-    };
-    let range = in_range(
-        party.bundle,
-        &s.receive,
-        &r.starts,
-        &r.held,
-        &s.send,
-        &w.starts,
-        &w.waiting,
-        &t.states,
-        marks,
-    );
-    if !base::and(range.ok, store.len() as u64 == range.send) {
-        return refused(c, 23);
-    }
-    if count(party.bundle) as u64 <= instance {
-        return refused(c, 10);
-    }
-    let i = instance as usize;
-    let mut states = t.states;
-    let closed = base::not(is_open(gate));
-    let j = judging::said(party, i, states[i], t.accepted, closed, message);
-    let outcome = j.outcome;
-    let number = judging::number_of(outcome);
-    if number != 0 {
-        return refused(c, number);
-    }
+    i == HANDSHAKE && c.settings.limit < n
+}
+
+// Queues a message of instance i, of which this was judged: 24, a Handshake message above S, 22, one that its area has no
+// room for behind what waits, and else it is queued.
+fn queue(mut c: Connection, store: &mut [u8], i: usize, message: &[u8], j: Judged) -> Queued
+    requires { Waits c store.old i }
+    ensures { told result store.new ≡ queue c store.old i message.now j }
+{
     let n = message.len() as u64;
-    if base::and(i == HANDSHAKE, s.limit < n) {
+    if too_long(&c, i, n) {
         return refused(c, 24);
     }
-    let caps = s.send;
-    let starts = w.starts;
-    let mut waiting = w.waiting;
-    if !fits(waiting[i], n, caps[i]) {
+    let waiting = c.sending.waiting[i];
+    if !fits(waiting, n, c.settings.send[i]) {
         return refused(c, 22);
     }
     write(
         store,
-        &caps,
+        &c.settings.send,
         i,
-        starts[i] + waiting[i],
+        c.sending.starts[i] + waiting,
         message,
         0,
         message.len(),
     );
-    waiting[i] = waiting[i] + n;
-    states[i] = j.next;
-    let ours = j.message;
-    let sending = Sending {
-        starts,
-        waiting,
-        turn: w.turn,
-    };
-    let talk = Talk {
-        states,
-        accepted: judging::marks(t.accepted, i, ours.kind),
-    };
+    c.sending.waiting[i] = waiting + n;
+    c.talk.states[i] = j.next;
+    c.talk.accepted = judging::marks(c.talk.accepted, i, j.message.kind);
     Queued {
         number: 0,
-        connection: Connection {
-            settings: s,
-            receiving: r,
-            sending,
-            talk,
-            gate,
-        },
+        connection: c,
     }
+}
+
+// Puts a message of an instance: 23, 10, what is said up to 16, and else what `queue` has.
+pub fn put(c: Connection, store: &mut [u8], instance: u64, message: &[u8]) -> Queued
+    ensures { told result store.new ≡ put_of c store.old instance message.now }
+{
+    if !sends(&c, store.len()) {
+        return refused(c, 23);
+    }
+    if count(c.settings.party.bundle) as u64 <= instance {
+        return refused(c, 10);
+    }
+    let i = instance as usize;
+    let j = judging::said(
+        c.settings.party,
+        i,
+        c.talk.states[i],
+        c.talk.accepted,
+        !is_open(c.gate),
+        message,
+    );
+    let number = judging::number_of(j.outcome);
+    if number != 0 {
+        return refused(c, number);
+    }
+    queue(c, store, i, message, j)
 }
