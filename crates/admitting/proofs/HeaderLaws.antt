@@ -1,5 +1,6 @@
 -- Laws of headers: the record filled by bytes, and what a whole one leads to, as the code goes.
 -- Assumes nothing.
+use Rattle.std.specs.Prelude.{Ok, Err}
 use mathlib.Core.Path.{◌≡◌, refl, sym, ap, ◌∙◌}
 use mathlib.Core.Bool.{Bool, true, false}
 use mathlib.Core.List.{List, [], ◌∷◌, ◌++◌, append-nil}
@@ -15,17 +16,14 @@ use Rattle.ring.proofs.Runs.{run_more}
 use Rattle.wire.specs.declared.segment.Header.{Header}
 use Rattle.wire.specs.declared.segment.Segment.{Segment}
 use Rattle.wire.specs.declared.instances.Party.{Party}
-use Rattle.wire.specs.declared.instances.Route.{Route}
-use Rattle.wire.specs.declared.instances.Route.TheVariants.{To}
+use Rattle.wire.specs.Instances.{Route}
 use Rattle.wire.specs.Segments.{header_length, added, decoded, empty}
 use Rattle.wire.specs.Instances.{route_of}
 use Rattle.connection.specs.declared.Closing.TheVariants.{Of}
 use Rattle.connection.specs.declared.Gate.TheVariants.{Open}
-use Rattle.admitting.specs.declared.Admission.{Admission}
-use Rattle.admitting.specs.declared.Admission.TheVariants.{Fault, Payload}
 use Rattle.admitting.specs.declared.Way.{Way}
 use Rattle.admitting.specs.declared.Step.{Step}
-use Rattle.admitting.specs.Admitting.{Reception, admitted, admission, settled, headed, with_header}
+use Rattle.admitting.specs.Admitting.{Reception, Admission, payload, admitted, admission, settled, headed, with_header}
 use Rattle.admitting.specs.Inside.{Settles, Heads, filled}
 
 -- ---- the record
@@ -67,8 +65,8 @@ filled_whole h xs none wide long = alone h none wide ∙ sym (alone empty refl r
 -- a whole header leads on whatever was in the record before
 pub settled_anew : (s : Reception) (h : Header) (a : Admission)
     → settled (record { receiving = with_header s.receiving h; gate = s.gate; store = s.store }) a ≡ settled s a
-settled_anew s h (Fault x) = refl
-settled_anew s h (Payload i n) = refl
+settled_anew s h (Err x) = refl
+settled_anew s h (Ok p) = refl
 
 pub added_count : (h : Header) (b : ℕ) → h.count < header_length → (added h b).count ≡ suc h.count
 unfolding added
@@ -78,11 +76,11 @@ added_count h b l = rw (lt-ltb h.count header_length l) (omega arith)
 
 -- by the test of the room
 pub room_enough : (caps held : List ℕ) (n i : ℕ) (t : Bool) → t ≡ leb (get_or held i 0 + n) (get_or caps i 0) → t ≡ true
-    → Payload i n ≡ admitted caps held n (To i)
+    → Ok (payload i n) ≡ admitted caps held n (Ok i)
 room_enough caps held n i t e y = let q : leb (get_or held i 0 + n) (get_or caps i 0) ≡ true = sym e ∙ y in rw q
 
 pub room_short : (caps held : List ℕ) (n i : ℕ) (t : Bool) → t ≡ leb (get_or held i 0 + n) (get_or caps i 0) → t ≡ false
-    → Fault (Of 13 i) ≡ admitted caps held n (To i)
+    → Err (Of 13 i) ≡ admitted caps held n (Ok i)
 room_short caps held n i t e y = let q : leb (get_or held i 0 + n) (get_or caps i 0) ≡ false = sym e ∙ y in rw q
 
 -- by what the header says

@@ -6,10 +6,9 @@ use Rattle.wire.specs.declared.instances.Party.{Party}
 use Rattle.wire.specs.Segments.{header_length, empty, added}
 use Rattle.connection.specs.declared.Gate.{Gate}
 use Rattle.connection.specs.declared.Gate.TheVariants.{Open}
-use Rattle.admitting.specs.declared.Admission.{Admission}
 use Rattle.admitting.specs.declared.Way.{Way}
 use Rattle.admitting.specs.declared.Step.{Step}
-use Rattle.admitting.specs.Admitting.{Reception, settled, headed}
+use Rattle.admitting.specs.Admitting.{Reception, Admission, settled, headed}
 
 -- a reception by its parts
 abbrev pub reception : List ℕ → List ℕ → Way → Gate → List ℕ → Reception

@@ -7,22 +7,20 @@
 ghost use Rattle.std.specs.Prelude.{◌≡◌, ◌+◌, ◌≤◌, ◌<◌, length};
 ghost use Rattle.wire.specs.Instances.{most};
 ghost use Rattle.wire.specs.Segments.{header_length};
-ghost use Rattle.wire.specs.declared.instances.Route.TheVariants.{To};
-ghost use Rattle.connection.specs.Closings.{wrong_mode};
-ghost use Rattle.admitting.specs.Admitting.{admitted, admission, instance_for};
+ghost use Rattle.admitting.specs.Admitting.{astray, admitted, admission, instance_for};
 ghost use Rattle.admitting.specs.Inside.{header_at, Settles, Heads};
 
 use connection::closings::{OVERFLOW, UNKNOWN_PROTOCOL, WRONG_MODE};
 use connection::{Closing, Gate};
 use range::fits;
-use wire::instances::{INSTANCES, Party, Route};
+use wire::instances::{INSTANCES, Party, RouteError};
 use wire::segment::{HEADER, Header};
 
-// What a whole header leads to: a fault, or a payload for an instance and how many bytes it has.
+// What a whole header leads to, if not to a fault: a payload, its instance and how many bytes it has.
 #[derive(Clone, Copy)]
-pub enum Admission {
-    Fault(Closing),
-    Payload(u64, u64),
+pub struct Payload {
+    pub instance: u64,
+    pub len: u64,
 }
 
 // What changes from step to step: the header record; and of a payload under way, its instance and the bytes to come.
@@ -41,35 +39,46 @@ pub struct Step {
     pub used: usize,
 }
 
-// The fault of a segment with the mode of our own side, which names its instance.
-fn wrong(i: usize) -> Admission
-    ensures { result ≡ Admission.Fault (Closing.Of wrong_mode i) }
+// The fault of a segment that goes to no instance. One with the mode of our own side names its instance.
+fn astray(e: RouteError) -> Closing
+    ensures { result ≡ astray e }
 {
-    Admission::Fault(Closing::Of(WRONG_MODE, i as u64))
+    match e {
+        RouteError::Unknown => Closing::Bare(UNKNOWN_PROTOCOL),
+        RouteError::Wrong(i) => Closing::Of(WRONG_MODE, i as u64),
+    }
 }
 
 // A payload of n bytes for instance i, if there is room for all of it; asked once for a segment.
-fn room(caps: &[u64; INSTANCES], held: &[u64; INSTANCES], n: u64, i: usize) -> Admission
+fn room(
+    caps: &[u64; INSTANCES],
+    held: &[u64; INSTANCES],
+    n: u64,
+    i: usize,
+) -> Result<Payload, Closing>
     requires { i < most }
-    ensures { result ≡ admitted caps.now held.now n (To i) }
+    ensures { result ≡ admitted caps.now held.now n (Ok i) }
 {
-    if fits(held[i], n, caps[i]) {
-        return Admission::Payload(i as u64, n);
+    let instance = i as u64;
+    if !fits(held[i], n, caps[i]) {
+        return Err(Closing::Of(OVERFLOW, instance));
     }
-    Admission::Fault(Closing::Of(OVERFLOW, i as u64))
+    Ok(Payload { instance, len: n })
 }
 
 // What a whole header leads to: its route and its length decide.
-fn admit(party: Party, caps: &[u64; INSTANCES], held: &[u64; INSTANCES], h: Header) -> Admission
+fn admit(
+    party: Party,
+    caps: &[u64; INSTANCES],
+    held: &[u64; INSTANCES],
+    h: Header,
+) -> Result<Payload, Closing>
     ensures { result ≡ admission party caps.now held.now h }
 {
     let d = h.segment();
-    let route = wire::instances::find(party, d.protocol, d.mode);
-    let n = d.len as u64;
-    match route {
-        Route::Unknown => Admission::Fault(Closing::Bare(UNKNOWN_PROTOCOL)),
-        Route::Wrong(i) => wrong(i),
-        Route::To(i) => room(caps, held, n, i),
+    match wire::instances::find(party, d.protocol, d.mode) {
+        Ok(i) => room(caps, held, u64::from(d.len), i),
+        Err(e) => Err(astray(e)),
     }
 }
 
@@ -80,45 +89,26 @@ pub fn instance_for(rest: u64, i: u64) -> u64
     if rest == 0 { 0 } else { i }
 }
 
-// The connection is closed, and the header record emptied.
-fn shut(w: Way, x: Closing, used: usize) -> Step
-    ensures { Settles w (Admission.Fault x) used result }
-{
-    let way = Way {
-        header: Header::empty(),
-        instance: w.instance,
-        rest: w.rest,
-    };
-    Step {
-        way,
-        gate: Gate::Closed(x),
-        used,
-    }
-}
-
-// A payload of n bytes begins.
-fn begin(w: Way, i: u64, n: u64, used: usize) -> Step
-    ensures { Settles w (Admission.Payload i n) used result }
-{
-    let way = Way {
-        header: Header::empty(),
-        instance: instance_for(n, i),
-        rest: n,
-    };
-    Step {
-        way,
-        gate: Gate::Open,
-        used,
-    }
-}
-
-// A whole header closes or begins a payload; used counts the bytes of this step.
-fn settled(w: Way, a: Admission, used: usize) -> Step
+// A whole header closes or begins a payload, and the header record is emptied; used counts the bytes of this step.
+fn settled(w: Way, a: Result<Payload, Closing>, used: usize) -> Step
     ensures { Settles w a used result }
 {
+    let header = Header::empty();
     match a {
-        Admission::Fault(x) => shut(w, x, used),
-        Admission::Payload(i, n) => begin(w, i, n, used),
+        Err(x) => Step {
+            way: Way { header, ..w },
+            gate: Gate::Closed(x),
+            used,
+        },
+        Ok(p) => Step {
+            way: Way {
+                header,
+                instance: instance_for(p.len, p.instance),
+                rest: p.len,
+            },
+            gate: Gate::Open,
+            used,
+        },
     }
 }
 
@@ -126,18 +116,12 @@ fn settled(w: Way, a: Admission, used: usize) -> Step
 pub fn headed(party: Party, caps: &[u64; INSTANCES], held: &[u64; INSTANCES], w: Way, b: u8) -> Step
     ensures { Heads party caps.now held.now w b result }
 {
-    let old = w.header;
-    let header = old.add(b);
+    let header = w.header.add(b);
     if header.whole() {
         return settled(w, admit(party, caps, held, header), 1);
     }
-    let way = Way {
-        header,
-        instance: w.instance,
-        rest: w.rest,
-    };
     Step {
-        way,
+        way: Way { header, ..w },
         gate: Gate::Open,
         used: 1,
     }
@@ -150,10 +134,8 @@ fn header_at(input: &[u8], at: usize) -> Header
     ensures { result ≡ header_at input.now at }
 {
     let mut header = Header::empty();
-    let mut j: usize = 0;
-    while j < HEADER {
+    for j in 0..HEADER {
         header = header.add(input[at + j]);
-        j += 1;
     }
     header
 }

@@ -1,6 +1,7 @@
 -- Laws of feeding bytes: a run is fed whole or cut; payload bytes one after the other are kept as a run; the steps of
 -- feed's loop.
 -- Assumes nothing.
+use Rattle.std.specs.Prelude.{Ok, Err}
 use mathlib.Core.Path.{◌≡◌, refl, sym, ap, ◌∙◌, subst}
 use mathlib.Core.Bool.{true, false}
 use mathlib.Core.List.{List, [], ◌∷◌, ◌++◌}
@@ -18,8 +19,7 @@ use Rattle.ring.proofs.Stores.{laid_length}
 use Rattle.ring.proofs.Areas.{area_in_store}
 use Rattle.wire.specs.declared.segment.Header.{Header}
 use Rattle.wire.specs.declared.instances.Party.{Party}
-use Rattle.wire.specs.declared.instances.Route.{Route}
-use Rattle.wire.specs.declared.instances.Route.TheVariants.{Unknown, Wrong, To}
+use Rattle.wire.specs.Instances.{Route}
 use Rattle.wire.specs.Segments.{header_length, added, decoded}
 use Rattle.wire.specs.Instances.{instances, most, route_of}
 use Rattle.wire.specs.Inside.{Within}
@@ -32,7 +32,7 @@ use Rattle.connection.specs.Closings.{is_open}
 use Rattle.range.specs.Ranges.{in_range, receives}
 use Rattle.range.proofs.RangeLaws.{Ranged, ranged}
 use Rattle.range.proofs.StoreLaws.{area_of}
-use Rattle.admitting.specs.declared.Admission.{Admission}
+use Rattle.admitting.specs.Admitting.{Admission}
 use Rattle.admitting.specs.declared.Way.{Way}
 use Rattle.admitting.specs.declared.Step.{Step}
 use Rattle.feeding.specs.Feeding.{Reception, admitted, admission, instance_for, settled, headed, kept, step, fed, used}
@@ -158,11 +158,9 @@ lays caps starts held w store store' xs at n i more ends within e f =
 
 sound_settled : (b : ℕ) (caps : List ℕ) (s : Reception) (n : ℕ) (r : Route) → Within b r → Sound b caps s
     → Sound b caps (settled s (admitted caps s.receiving.held n r))
-sound_settled b caps s n Unknown w r =
+sound_settled b caps s n (Err e) w r =
     record { areas = r.areas; many = r.many; each = r.each; under = r.under }
-sound_settled b caps s n (Wrong i) w r =
-    record { areas = r.areas; many = r.many; each = r.each; under = r.under }
-sound_settled b caps s n (To i) w r =
+sound_settled b caps s n (Ok i) w r =
     cond_cases (λ (a : Admission). Sound b caps (settled s a)) (leb (get_or s.receiving.held i 0 + n) (get_or caps i 0))
     (λ e.
     record {

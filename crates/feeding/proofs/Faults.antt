@@ -1,5 +1,6 @@
 -- Faults: which byte closes a connection, and why.
 -- Assumes nothing.
+use Rattle.std.specs.Prelude.{Ok, Err}
 use mathlib.Core.Path.{◌≡◌, refl, sym, ap, ◌∙◌, subst}
 use mathlib.Core.Bool.{true, true≢false}
 use mathlib.Core.List.{List, [], ◌∷◌}
@@ -11,8 +12,8 @@ use lib.ListN.{length, get_or}
 use Rattle.base.proofs.Conds.{by_test}
 use Rattle.wire.specs.declared.segment.Header.{Header}
 use Rattle.wire.specs.declared.instances.Party.{Party}
-use Rattle.wire.specs.declared.instances.Route.{Route}
-use Rattle.wire.specs.declared.instances.Route.TheVariants.{Unknown, Wrong, To}
+use Rattle.wire.specs.Instances.{Route}
+use Rattle.wire.specs.declared.instances.RouteError.TheVariants.{Unknown, Wrong}
 use Rattle.wire.specs.Segments.{header_length, added, decoded}
 use Rattle.wire.specs.Instances.{route_of}
 use Rattle.connection.specs.declared.Closing.{Closing}
@@ -20,8 +21,7 @@ use Rattle.connection.specs.declared.Closing.TheVariants.{Bare, Of}
 use Rattle.connection.specs.declared.Gate.{Gate}
 use Rattle.connection.specs.declared.Gate.TheVariants.{Closed}
 use Rattle.connection.specs.Closings.{closing_number, is_open}
-use Rattle.admitting.specs.declared.Admission.{Admission}
-use Rattle.admitting.specs.declared.Admission.TheVariants.{Fault, Payload}
+use Rattle.admitting.specs.Admitting.{Admission, payload}
 use Rattle.feeding.specs.Feeding.{Reception, admitted, admission, settled, headed, kept, step, fed, used}
 use Rattle.feeding.specs.Besides.Numbers.{Eighth}
 use Rattle.feeding.proofs.Bytes.{step_headed, fed_closed, used_closed, fed_append, used_append}
@@ -34,24 +34,24 @@ never g x o e = absurd (true≢false (sym o ∙ ap is_open e))
 
 -- why a header is a fault
 pub data Cause (caps held : List ℕ) (n : ℕ) : Route → Closing → Type 0 where
-  unknown : Cause caps held n Unknown (Bare 11)
-  wrong : (i : ℕ) → Cause caps held n (Wrong i) (Of 12 i)
-  overflow : (i : ℕ) → get_or caps i 0 < get_or held i 0 + n → Cause caps held n (To i) (Of 13 i)
+  unknown : Cause caps held n (Err Unknown) (Bare 11)
+  wrong : (i : ℕ) → Cause caps held n (Err (Wrong i)) (Of 12 i)
+  overflow : (i : ℕ) → get_or caps i 0 < get_or held i 0 + n → Cause caps held n (Ok i) (Of 13 i)
 
-fault_is : (x y : Closing) → Fault x ≡ Fault y → x ≡ y
+fault_is : (x y : Closing) → ◌≡◌ {A = Admission} (Err x) (Err y) → x ≡ y
 fault_is x y e = cc
 
-payload_not : {P : Type 0} (i n : ℕ) (x : Closing) → Payload i n ≡ Fault x → P
+payload_not : {P : Type 0} (i n : ℕ) (x : Closing) → ◌≡◌ {A = Admission} (Ok (payload i n)) (Err x) → P
 payload_not i n x e = absurd (let z : ◌≡◌ {A = ℕ} 0 1 = cc in omega arith)
 
-pub cause : (caps held : List ℕ) (n : ℕ) (r : Route) (x : Closing) → admitted caps held n r ≡ Fault x → Cause caps held n r x
-cause caps held n Unknown x e = subst (Cause caps held n Unknown) (fault_is (Bare 11) x e) unknown
-cause caps held n (Wrong i) x e = subst (Cause caps held n (Wrong i)) (fault_is (Of 12 i) x e) (wrong i)
-cause caps held n (To i) x e =
+pub cause : (caps held : List ℕ) (n : ℕ) (r : Route) (x : Closing) → admitted caps held n r ≡ Err x → Cause caps held n r x
+cause caps held n (Err Unknown) x e = subst (Cause caps held n (Err Unknown)) (fault_is (Bare 11) x e) unknown
+cause caps held n (Err (Wrong i)) x e = subst (Cause caps held n (Err (Wrong i))) (fault_is (Of 12 i) x e) (wrong i)
+cause caps held n (Ok i) x e =
     by_test (leb (get_or held i 0 + n) (get_or caps i 0))
     (λ t. payload_not i n x (rw t at e))
     (λ t.
-    subst (Cause caps held n (To i)) (fault_is (Of 13 i) x (rw t at e))
+    subst (Cause caps held n (Ok i)) (fault_is (Of 13 i) x (rw t at e))
     (overflow i (leb-false (get_or held i 0 + n) (get_or caps i 0) t)))
 
 -- its number
@@ -91,17 +91,17 @@ module _ {us : Party} {caps : List ℕ} {s : Reception} {xs : List ℕ} {P : Lis
 
 -- what an eighth byte says
 abbrev pub Refuses : List ℕ → Closing → List ℕ → ℕ → Route → Type 0
-Refuses caps x held n to = admitted caps held n to ≡ Fault x
+Refuses caps x held n to = admitted caps held n to ≡ Err x
 
 module _ (us : Party) (caps : List ℕ) where
-  settled_closes : (s : Reception) (a : Admission) (x : Closing) → is_open s.gate ≡ true → (settled s a).gate ≡ Closed x → a ≡ Fault x
-  settled_closes s (Fault y) x o e = let q : y ≡ x = cc in ap Fault q
-  settled_closes s (Payload i n) x o e = never s.gate x o e
+  settled_closes : (s : Reception) (a : Admission) (x : Closing) → is_open s.gate ≡ true → (settled s a).gate ≡ Closed x → a ≡ Err x
+  settled_closes s (Err y) x o e = let q : y ≡ x = cc in ap Err q
+  settled_closes s (Ok p) x o e = never s.gate x o e
 
   -- a byte that closes is the eighth of a header that is a fault
   step_closes : (s : Reception) (y : ℕ) (x : Closing) → is_open s.gate ≡ true → (step us caps s y).gate ≡ Closed x
       → (s.receiving.rest ≡ 0) × (header_length ≤ (added s.receiving.header y).count)
-      × (admission us caps s.receiving.held (added s.receiving.header y) ≡ Fault x)
+      × (admission us caps s.receiving.held (added s.receiving.header y) ≡ Err x)
   unfolding step headed kept
   step_closes s y x o e =
       let h : Header = added s.receiving.header y in
@@ -151,11 +151,11 @@ module _ (us : Party) (caps : List ℕ) where
       absurd (true≢false (sym o ∙ ap (λ (q : Reception). is_open q.gate) stays ∙ t)))
 
   pub fault_leaves : (s : Reception) (xs : List ℕ) (x : Closing) (e : Eighth us caps s xs (Refuses caps x))
-      → (fed us caps s xs ≡ settled (fed us caps s e.front) (Fault x)) × (used us caps s xs ≡ suc (length e.front))
+      → (fed us caps s xs ≡ settled (fed us caps s e.front) (Err x)) × (used us caps s xs ≡ suc (length e.front))
   unfolding fed used headed admission
   fault_leaves s xs x e =
       let m : Reception = fed us caps s e.front in
-      let n : Reception = settled m (Fault x) in
+      let n : Reception = settled m (Err x) in
       let h : Header = added m.receiving.header e.byte in
       let leads : step us caps m e.byte ≡ n =
       step_headed us caps m e.byte e.reached e.idle

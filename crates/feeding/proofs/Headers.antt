@@ -15,7 +15,7 @@ use Rattle.wire.specs.declared.instances.Party.{Party}
 use Rattle.wire.specs.Segments.{header_length, empty, added}
 use Rattle.connection.specs.declared.Gate.TheVariants.{Open}
 use Rattle.connection.specs.Closings.{is_open}
-use Rattle.admitting.specs.declared.Admission.{Admission}
+use Rattle.admitting.specs.Admitting.{Admission}
 use Rattle.admitting.specs.declared.Way.{Way}
 use Rattle.admitting.specs.declared.Step.{Step}
 use Rattle.feeding.specs.Feeding.{Reception, admission, with_header, settled, headed, step, fed, used}

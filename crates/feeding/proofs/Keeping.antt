@@ -1,5 +1,6 @@
 -- Feeding keeps the range, byte by byte.
 -- Assumes nothing.
+use Rattle.std.specs.Prelude.{Ok, Err}
 use mathlib.Core.Path.{◌≡◌, refl, sym, ◌∙◌, subst}
 use mathlib.Core.Bool.{true}
 use mathlib.Core.List.{List, [], ◌∷◌}
@@ -16,8 +17,8 @@ use Rattle.ring.specs.Ring.{base_of}
 use Rattle.ring.proofs.Stores.{laid_length}
 use Rattle.wire.specs.declared.segment.Header.{Header}
 use Rattle.wire.specs.declared.instances.Party.{Party}
-use Rattle.wire.specs.declared.instances.Route.{Route}
-use Rattle.wire.specs.declared.instances.Route.TheVariants.{Unknown, Wrong, To}
+use Rattle.wire.specs.Instances.{Route}
+use Rattle.wire.specs.declared.instances.RouteError.TheVariants.{Unknown, Wrong}
 use Rattle.wire.specs.Segments.{header_length, empty, added, decoded}
 use Rattle.wire.specs.Instances.{instances, route_of}
 use Rattle.wire.specs.Inside.{Within}
@@ -28,7 +29,7 @@ use Rattle.connection.specs.Closings.{is_open, gate_ok}
 use Rattle.connection.specs.Parts.{with_receiving}
 use Rattle.range.specs.Ranges.{in_range}
 use Rattle.range.proofs.RangeLaws.{Ranged, ranged, is_in_range}
-use Rattle.admitting.specs.declared.Admission.{Admission}
+use Rattle.admitting.specs.Admitting.{Admission}
 use Rattle.feeding.specs.Feeding.{Reception, admitted, admission, settled, headed, kept, step, fed, given}
 use Rattle.feeding.specs.Feeding.{Spelt}
 
@@ -50,11 +51,9 @@ set_most (x ∷ l) (suc i) a = set_most l i a
 module _ (us : Party) (caps starts : List ℕ) (n : ℕ) where
   kept_settled : (s : Reception) (m : ℕ) (r : Route) → Within us.bundle r → Kept us.bundle caps starts n s → s.receiving.rest ≡ 0
       → Kept us.bundle caps starts n (settled s (admitted caps s.receiving.held m r))
-  kept_settled s m Unknown w k z =
+  kept_settled s m (Err e) w k z =
       record { places = k.places; held = k.held; header = omega arith; under_way = λ more. absurd (omega arith); long = k.long }
-  kept_settled s m (Wrong i) w k z =
-      record { places = k.places; held = k.held; header = omega arith; under_way = λ more. absurd (omega arith); long = k.long }
-  kept_settled s m (To i) w k z =
+  kept_settled s m (Ok i) w k z =
       cond_cases (λ (a : Admission). Kept us.bundle caps starts n (settled s a)) (leb (get_or s.receiving.held i 0 + m) (get_or caps i 0))
       (λ t.
       record {
@@ -169,9 +168,9 @@ module _ (us : Party) (caps : List ℕ) where
   proper_settled s p m n two k = go (route_of us p m) refl
     where
       go : (r : Route) → route_of us p m ≡ r → Proper (settled s (admitted caps s.receiving.held n r))
-      go Unknown e = (spelt_empty, refl)
-      go (Wrong i) e = let q = ((one_way us).wrong p m i two).0 e in (spelt_empty, rw (lt-ltb i (instances us.bundle) q.0, q.1))
-      go (To i) e =
+      go (Err Unknown) e = (spelt_empty, refl)
+      go (Err (Wrong i)) e = let q = ((one_way us).wrong p m i two).0 e in (spelt_empty, rw (lt-ltb i (instances us.bundle) q.0, q.1))
+      go (Ok i) e =
           cond_cases (λ (a : Admission). Proper (settled s a)) (leb (get_or s.receiving.held i 0 + n) (get_or caps i 0)) (λ t. (spelt_empty, k.1))
           (λ t. (spelt_empty, rw (lt-ltb i (instances us.bundle) (subst (Within us.bundle) e (route_within us p m)))))
 

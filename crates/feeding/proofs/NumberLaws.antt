@@ -1,6 +1,7 @@
 -- The theorems of feed: T2 `exactly`, T3 `leaves`, T4' `whole_or_cut`, and that the range is kept, `keeps`. Where the "when" of a number holds, it
 -- is answered; one walk through the tests finds a "when" that holds.
 -- Assumes nothing.
+use Rattle.std.specs.Prelude.{Ok, Err}
 use mathlib.Core.Path.{◌≡◌, refl, sym, ap, ◌∙◌, subst}
 use mathlib.Core.Bool.{true, false, true≢false, cond}
 use mathlib.Core.List.{List, ◌++◌}
@@ -12,8 +13,8 @@ use lib.Dec.{eqb}
 use lib.ListN.{length, get_or}
 use Rattle.base.proofs.Conds.{by_test, both_true, exactly_when}
 use Rattle.wire.specs.declared.instances.Party.{Party}
-use Rattle.wire.specs.declared.instances.Route.{Route}
-use Rattle.wire.specs.declared.instances.Route.TheVariants.{Unknown, Wrong, To}
+use Rattle.wire.specs.Instances.{Route}
+use Rattle.wire.specs.declared.instances.RouteError.TheVariants.{Unknown, Wrong}
 use Rattle.connection.specs.declared.Connection.{Connection}
 use Rattle.connection.specs.declared.Closing.{Closing}
 use Rattle.connection.specs.declared.Closing.TheVariants.{Bare, Of}
@@ -73,8 +74,8 @@ module _ (c : Connection) (st xs : List ℕ) {P : Type 0} where
 
 -- ---- T2
 
-by_cause : {P : Type 0} {caps held : List ℕ} {n : ℕ} {to : Route} {x : Closing} → Cause caps held n to x → (to ≡ Unknown → P)
-    → ((i : ℕ) × (to ≡ Wrong i) → P) → ((i : ℕ) × (to ≡ To i) × (get_or caps i 0 < get_or held i 0 + n) → P) → P
+by_cause : {P : Type 0} {caps held : List ℕ} {n : ℕ} {to : Route} {x : Closing} → Cause caps held n to x → (to ≡ Err Unknown → P)
+    → ((i : ℕ) × (to ≡ Err (Wrong i)) → P) → ((i : ℕ) × (to ≡ Ok i) × (get_or caps i 0 < get_or held i 0 + n) → P) → P
 by_cause unknown f g h = f refl
 by_cause (wrong i) f g h = g (i, refl)
 by_cause (overflow i l) f g h = h (i, refl, l)

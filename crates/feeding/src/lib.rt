@@ -16,7 +16,7 @@ use admitting::{Step, Way, headed, header_whole, instance_for};
 use connection::areas::write;
 use connection::closings::{is_open, number_of};
 use connection::{Connection, Gate, Receiving};
-use range::{Marks, in_range};
+use range::receives;
 use wire::instances::{INSTANCES, Party};
 use wire::segment::HEADER;
 
@@ -43,18 +43,16 @@ fn kept(
         store.new input.now at result }
 {
     let i = w.instance as usize;
-    let n = base::smaller(w.rest as usize, input.len() - at);
+    let n = (w.rest as usize).min(input.len() - at);
     write(store, caps, i, starts[i] + held[i], input, at, n);
-    held[i] = held[i] + n as u64;
+    held[i] += n as u64;
     let rest = w.rest - n as u64;
-    let header = w.header;
-    let way = Way {
-        header,
-        instance: instance_for(rest, w.instance),
-        rest,
-    };
     Step {
-        way,
+        way: Way {
+            instance: instance_for(rest, w.instance),
+            rest,
+            ..w
+        },
         gate: Gate::Open,
         used: n,
     }
@@ -80,8 +78,7 @@ fn part(
     if 0 < w.rest {
         return kept(caps, starts, held, w, store, input, at);
     }
-    let header = w.header;
-    if base::and(header.count == 0, HEADER <= input.len() - at) {
+    if w.header.count == 0 && HEADER <= input.len() - at {
         return header_whole(party, caps, held, w, input, at);
     }
     headed(party, caps, held, w, input[at])
@@ -111,13 +108,8 @@ fn steps(
         let t = part(party, caps, starts, held, way, store, input, at);
         way = t.way;
         at += t.used;
-        let gate = t.gate;
-        if !is_open(gate) {
-            return Step {
-                way,
-                gate,
-                used: at,
-            };
+        if !is_open(t.gate) {
+            return Step { used: at, ..t };
         }
     }
     Step {
@@ -148,71 +140,46 @@ fn refused(c: Connection, number: u64) -> Fed
     }
 }
 
-// Feeds a run of bytes: 23, 20, and else the bytes up to the one that closes. The record is taken apart once, and put
-// together once, at the end.
+// Feeds a run of bytes: 23, 20, and else the bytes up to the one that closes. The record is put together once, at the end.
 pub fn feed(c: Connection, store: &mut [u8], input: &[u8]) -> Fed
     ensures { told result store.new ≡ feed_of c store.old input.now }
 {
-    let s = c.settings;
-    let r = c.receiving;
-    let w = c.sending;
-    let t = c.talk;
-    let gate = c.gate;
-    let party = s.party;
-    let header = r.header;
-    let marks = Marks {
-        limit: s.limit,
-        turn: w.turn,
-        bytes: header.count,
-        instance: r.instance,
-        rest: r.rest,
-        accepted: t.accepted,
-        gate,
-    };
-    let range = in_range(
-        party.bundle,
-        &s.receive,
-        &r.starts,
-        &r.held,
-        &s.send,
-        &w.starts,
-        &w.waiting,
-        &t.states,
-        marks,
-    );
-    if !base::and(range.ok, store.len() as u64 == range.receive) {
+    if !receives(&c, store.len()) {
         return refused(c, 23);
     }
-    if !is_open(gate) {
+    if !is_open(c.gate) {
         return refused(c, 20);
     }
+    let r = c.receiving;
+    let mut held = r.held;
     let way = Way {
-        header,
+        header: r.header,
         instance: r.instance,
         rest: r.rest,
     };
-    let starts = r.starts;
-    let mut held = r.held;
-    let x = steps(party, &s.receive, &starts, &mut held, way, store, input);
-    let closed = x.gate;
+    let x = steps(
+        c.settings.party,
+        &c.settings.receive,
+        &r.starts,
+        &mut held,
+        way,
+        store,
+        input,
+    );
     let y = x.way;
-    let header = y.header;
-    let receiving = Receiving {
-        starts,
-        held,
-        header,
-        instance: y.instance,
-        rest: y.rest,
-    };
     Fed {
-        number: left(closed),
+        number: left(x.gate),
         used: x.used,
         connection: Connection {
-            settings: s,
-            receiving,
-            sending: w,
-            talk: t,
-            gate: closed,
+            receiving: Receiving {
+                held,
+                header: y.header,
+                instance: y.instance,
+                rest: y.rest,
+                ..r
+            },
+            gate: x.gate,
+            ..c
         },
     }
 }

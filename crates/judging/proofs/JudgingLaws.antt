@@ -17,8 +17,7 @@ use Rattle.item.specs.Grammar.{nesting}
 use Rattle.item.specs.Verdict.{verdict}
 use Rattle.item.proofs.Theorem.{exactly}
 use Rattle.rows.specs.declared.Protocol.{Protocol}
-use Rattle.rows.specs.declared.Next.{Next}
-use Rattle.rows.specs.declared.Next.TheVariants.{To, None}
+use Rattle.std.specs.Prelude.{Option, Some, None}
 use Rattle.rows.specs.Rows.{next_of, agency_of}
 use Rattle.rows.specs.Spoken.{speaks}
 use Rattle.messages.specs.declared.Message.{Message}
@@ -70,7 +69,7 @@ module _ (p : Protocol) (state : ℕ) (bs : List ℕ) where
   judged_wrong a e h = rw (← e, h)
 
   -- a message, with its row or without
-  pub judged_read : (a : Answer) (n f : ℕ) (next : Next) → a ≡ message_of p bs → is_read a.reading ≡ true → n ≡ length bs → f ≡ flag_of p a.message
+  pub judged_read : (a : Answer) (n f : ℕ) (next : Option ℕ) → a ≡ message_of p bs → is_read a.reading ≡ true → n ≡ length bs → f ≡ flag_of p a.message
       → next ≡ next_of p state a.message.kind f → by_row n a.message next ≡ judged_of p state bs
   unfolding judged_of
   judged_read a n f next e h l g q = rw (← e, h, ← g, ← q, ← l)
@@ -86,7 +85,7 @@ module _ (p : Protocol) (state : ℕ) (bs : List ℕ) where
   pub data Judges : Judged → Type 0 where
     not_read : (r : Reading) → (message_of p bs).reading ≡ r → ((m : Message) → Says p bs m → ⊥) → Judges (unjudged (NoMessage r))
     not_led : (m : Message) → Says p bs m → next_of p state m.kind (flag_of p m) ≡ None → Judges (unjudged NoRow)
-    message : (m : Message) (to : ℕ) → Says p bs m → next_of p state m.kind (flag_of p m) ≡ To to → Judges (led (length bs) m to)
+    message : (m : Message) (to : ℕ) → Says p bs m → next_of p state m.kind (flag_of p m) ≡ Some to → Judges (led (length bs) m to)
 
   -- bytes that were not read say nothing
   unread : {r : Reading} → (message_of p bs).reading ≡ r → is_read r ≡ false → (m : Message) → Says p bs m → ⊥
@@ -96,8 +95,8 @@ module _ (p : Protocol) (state : ℕ) (bs : List ℕ) where
   unfolding judged_of
   judges = of (message_of p bs).reading (message_of p bs).message refl
     where
-      row : (m : Message) (x : Next) → Says p bs m → next_of p state m.kind (flag_of p m) ≡ x → Judges (by_row (length bs) m x)
-      row m (To to) s q = message m to s q
+      row : (m : Message) (x : Option ℕ) → Says p bs m → next_of p state m.kind (flag_of p m) ≡ x → Judges (by_row (length bs) m x)
+      row m (Some to) s q = message m to s q
       row m None s q = not_led m s q
 
       none : (r : Reading) (m : Message) → message_of p bs ≡ record { reading = r; message = m } → is_read r ≡ false → Judges (unjudged (NoMessage r))
@@ -112,13 +111,13 @@ module _ (p : Protocol) (state : ℕ) (bs : List ℕ) where
       of (WrongField i) m e = none (WrongField i) m e refl
 
   -- and each of them exactly then
-  by_row_lem : (m : Message) (x : Next) → Says p bs m → next_of p state m.kind (flag_of p m) ≡ x → judged_of p state bs ≡ by_row (length bs) m x
+  by_row_lem : (m : Message) (x : Option ℕ) → Says p bs m → next_of p state m.kind (flag_of p m) ≡ x → judged_of p state bs ≡ by_row (length bs) m x
   by_row_lem m x s q =
       sym (judged_read (read m) (length bs) (flag_of p m) x (sym ((reads_forms p bs m).1 s)) refl refl refl (sym q))
 
   pub judged_so : {j : Judged} → Judges j → judged_of p state bs ≡ j
   judged_so (not_led m s q) = by_row_lem m None s q
-  judged_so (message m to s q) = by_row_lem m (To to) s q
+  judged_so (message m to s q) = by_row_lem m (Some to) s q
   judged_so (not_read r e none) = of judges
     where
       of : {j : Judged} → Judges j → j ≡ unjudged (NoMessage r)

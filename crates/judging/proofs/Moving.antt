@@ -12,13 +12,15 @@ use lib.Seq.{get_or-set_same, get_or-set_other}
 use borrow.Author.Tests.{eqb-true, eqb-false, ltb-true, ltb-false}
 use Rattle.base.proofs.Conds.{by_test, so, is, and_left, and_right}
 use Rattle.base.proofs.Table.{every, at}
-use Rattle.wire.specs.Instances.{Instance, initiator, bundles, known, bundle_of, instances, most}
+use Rattle.wire.specs.declared.instances.Role.TheVariants as role
+use Rattle.wire.specs.Instances.{Instance, bundles, known, bundle_of, instances, most}
 use Rattle.wire.proofs.InstanceLaws.{unknown_none, of_bundles, at_most}
 use Rattle.rows.specs.declared.Protocol.{Protocol}
 use Rattle.rows.specs.declared.Protocol.TheVariants.{Handshake}
 use Rattle.rows.specs.declared.Agency.TheVariants.{Nobody}
-use Rattle.rows.specs.declared.Next.TheVariants.{To}
-use Rattle.rows.specs.Rows.{Row, fits, rows_of, next_of, done_of, place_in}
+use Rattle.std.specs.Prelude.{Some}
+use Rattle.rows.specs.declared.Row.{Row}
+use Rattle.rows.specs.Rows.{fits, rows_of, next_of, done_of, place_in}
 use Rattle.rows.specs.Besides.Rows.{row_in}
 use Rattle.rows.specs.Spoken.{spoken, speaks}
 use Rattle.rows.proofs.RowLaws.{rows_say}
@@ -32,7 +34,7 @@ use Rattle.judging.specs.Judging.{moved_by}
 -- ---- where a row leads
 
 -- a row leaves a state before Done, for one not behind it
-pub leads_low : (p : Protocol) (s k f n : ℕ) → next_of p s k f ≡ To n → (s < done_of p) × (n ≤ done_of p)
+pub leads_low : (p : Protocol) (s k f n : ℕ) → next_of p s k f ≡ Some n → (s < done_of p) × (n ≤ done_of p)
 leads_low p s k f n e =
     let (j, h, t, q) = rows_say.only p s k f n e in
     let r = row_in p j in
@@ -52,7 +54,7 @@ all_accept : T (every nothing accepts 0 (rows_of Handshake))
 unfolding place_in
 all_accept = tt
 
-accept_ends : (s f n : ℕ) → next_of Handshake s 1 f ≡ To n → n ≡ done_of Handshake
+accept_ends : (s f n : ℕ) → next_of Handshake s 1 f ≡ Some n → n ≡ done_of Handshake
 accept_ends s f n e =
     let (j, h, t, q) = rows_say.only Handshake s 1 f n e in
     let r = row_in Handshake j in
@@ -63,7 +65,7 @@ accept_ends s f n e =
 
 -- instance 0 speaks Handshake, in any bundle
 abbrev protocol_first : List Instance → ℕ
-protocol_first xs = (get_or xs 0 (record { protocol = 0; role = initiator })).protocol
+protocol_first xs = (get_or xs 0 (record { protocol = 0; role = role.Initiator })).protocol
 
 pub first_speaks : (b : ℕ) → speaks b 0 ≡ Handshake
 unfolding speaks
@@ -74,12 +76,12 @@ first_speaks b =
     ap spoken (eqb→eq (protocol_first (bundle_of b)) 0 first))
     (λ t. ap (λ (xs : List Instance). spoken (protocol_first xs)) (unknown_none b (ltb-false b (length bundles) t)))
 
-pub accept_done : (b s f n : ℕ) → next_of (speaks b 0) s 1 f ≡ To n → n ≡ done_of (speaks b 0)
+pub accept_done : (b s f n : ℕ) → next_of (speaks b 0) s 1 f ≡ Some n → n ≡ done_of (speaks b 0)
 accept_done b s f n e = rw (first_speaks b) (accept_ends s f n (rw (first_speaks b) at e))
 
 -- a mark that is there bars Handshake from moving, and one that is made now is made by message 1
 marked : (b : ℕ) (t : Talk) (k f n : ℕ) → (t.accepted ≡ true → get_or t.states 0 0 ≡ done_of (speaks b 0))
-    → next_of (speaks b 0) (get_or t.states 0 0) k f ≡ To n → (t.accepted || eqb k 1) ≡ true → n ≡ done_of (speaks b 0)
+    → next_of (speaks b 0) (get_or t.states 0 0) k f ≡ Some n → (t.accepted || eqb k 1) ≡ true → n ≡ done_of (speaks b 0)
 marked b t k f n d e m =
     by_test t.accepted
     (λ a. let l = (leads_low (speaks b 0) (get_or t.states 0 0) k f n e).0 in let q = d a in absurd (omega arith))
@@ -105,7 +107,7 @@ moved_shaped c i kind next s =
     }
 
 module _ (c : Connection) (i kind flag next : ℕ) (inside : i < instances c.settings.party.bundle) (long : length c.talk.states ≡ most)
-    (r : Ranged c) (e : next_of (speaks c.settings.party.bundle i) (get_or c.talk.states i 0) kind flag ≡ To next) where
+    (r : Ranged c) (e : next_of (speaks c.settings.party.bundle i) (get_or c.talk.states i 0) kind flag ≡ Some next) where
   abbrev b : ℕ
   b = c.settings.party.bundle
 

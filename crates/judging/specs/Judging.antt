@@ -8,8 +8,7 @@ use Rattle.item.specs.Verdict.{verdict, Verdict}
 use Rattle.rows.specs.declared.Protocol.{Protocol}
 use Rattle.rows.specs.declared.Agency.{Agency}
 use Rattle.rows.specs.declared.Agency.TheVariants.{Initiator, Responder, Nobody}
-use Rattle.rows.specs.declared.Next.{Next}
-use Rattle.rows.specs.declared.Next.TheVariants.{To, None}
+use Rattle.std.specs.Prelude.{Option, Some, None}
 use Rattle.rows.specs.Rows.{next_of, agency_of, done_of}
 use Rattle.rows.specs.Spoken.{speaks}
 use Rattle.messages.specs.declared.Message.{Message}
@@ -120,8 +119,8 @@ abbrev pub led : ℕ → Message → ℕ → Judged
 led n m to = record { outcome = Done; len = n; message = m; next = to }
 
 -- a message of n bytes, by its row in the present state
-abbrev pub by_row : ℕ → Message → Next → Judged
-by_row n m (To next) = led n m next
+abbrev pub by_row : ℕ → Message → Option ℕ → Judged
+by_row n m (Some next) = led n m next
 by_row n m None = unjudged NoRow
 
 -- what was read, by its reading

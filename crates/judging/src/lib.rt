@@ -16,7 +16,7 @@ ghost use Rattle.judging.specs.Judging.{outcome_number, outcome_offset, holds, u
 use connection::closings::{AFTER_DONE, BYTES_BAD, NO_MESSAGE, NO_ROW};
 use item::NotWhole;
 use messages::{Message, Reading};
-use rows::{Agency, Next, Protocol};
+use rows::{Agency, Protocol};
 use wire::instances::{HANDSHAKE, Party};
 
 // What comes of judging: done, a notice or a refusal.
@@ -156,7 +156,7 @@ pub fn unjudged(outcome: Outcome) -> Judged
 
 // A message of n bytes that leads to a state.
 fn led(n: usize, message: Message, next: u64) -> Judged
-    ensures { result ≡ by_row n message (Next.To next) }
+    ensures { result ≡ by_row n message (Some next) }
 {
     Judged {
         outcome: Outcome::Done,
@@ -167,12 +167,12 @@ fn led(n: usize, message: Message, next: u64) -> Judged
 }
 
 // Where a message of n bytes leads, if it has a row.
-fn by_row(n: usize, message: Message, next: Next) -> Judged
+fn by_row(n: usize, message: Message, next: Option<u64>) -> Judged
     ensures { result ≡ by_row n message next }
 {
     match next {
-        Next::To(state) => led(n, message, state),
-        Next::None => unjudged(Outcome::NoRow),
+        Some(state) => led(n, message, state),
+        None => unjudged(Outcome::NoRow),
     }
 }
 

@@ -1,5 +1,7 @@
 -- What the promises suppose is met: one run, the same in each bundle but for a protocol number, and it computes.
 -- Assumes nothing.
+use Rattle.std.specs.Prelude as prelude
+use Rattle.std.specs.Prelude.{Some}
 use Prim.Native.Nat.{ℕ, zero, suc, ◌*◌, ◌<◌}
 use mathlib.Core.Path.{◌≡◌, refl, sym, ap, ◌∙◌}
 use mathlib.Core.Bool.{Bool, true, false}
@@ -25,8 +27,6 @@ use Rattle.wire.specs.Besides.Instances.{pair_of}
 use Rattle.wire.proofs.InstanceLaws.{at_most}
 use Rattle.wire.specs.declared.instances.Side.{Side}
 use Rattle.wire.specs.declared.instances.Side.TheVariants.{Dialler, Accepter}
-use Rattle.rows.specs.declared.Next.{Next}
-use Rattle.rows.specs.declared.Next.TheVariants.{To}
 use Rattle.rows.specs.Rows.{place_in, next_in, agency_in}
 use Rattle.rows.specs.Spoken.{speaks}
 use Rattle.messages.specs.Forms.{form_in}
@@ -162,7 +162,7 @@ record Facts : Type 0 where
   barred : Bool
   done : Bool
   ours : Bool
-  row : Next
+  row : prelude.Option ℕ
   built : ℕ
   front : List ℕ
   waits : ℕ
@@ -221,7 +221,7 @@ expected b =
       barred = false;
       done = false;
       ours = false;
-      row = To 3;
+      row = Some 3;
       built = 0;
       front = message;
       waits = 33;

@@ -22,7 +22,7 @@ use Rattle.wire.proofs.SegmentLaws.{divided_once}
 use Rattle.item.specs.declared.NotWhole.TheVariants.{Bad, Incomplete}
 use Rattle.item.specs.Verdict.{verdict, Verdict}
 use Rattle.rows.specs.declared.Protocol.{Protocol}
-use Rattle.rows.specs.declared.Next.{Next}
+use Rattle.std.specs.Prelude.{Option}
 use Rattle.rows.specs.Spoken.{speaks}
 use Rattle.messages.specs.declared.Answer as messages
 use Rattle.connection.specs.declared.Settings.{Settings}
@@ -205,7 +205,7 @@ module _ (w : World) (i : ℕ) where
 
 led_is : {us : Party} {i state to : ℕ} {a : Act} → Moves us i state a to → (by_reading (speaks us.bundle i) state 0 (read_in (speaks us.bundle i) a)).next ≡ to
 led_is {us} {i} {state} k =
-    ap (λ (x : messages.Answer). (by_reading (speaks us.bundle i) state 0 x).next) k.reads ∙ ap (λ (x : Next). (by_row 0 k.message x).next) k.row
+    ap (λ (x : messages.Answer). (by_reading (speaks us.bundle i) state 0 x).next) k.reads ∙ ap (λ (x : Option ℕ). (by_row 0 k.message x).next) k.row
 
 state_is : {us : Party} {i from to : ℕ} {done : List Act} → Walks us i from done to → to ≡ state_after us i from done
 unfolding state_after

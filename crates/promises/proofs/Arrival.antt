@@ -12,7 +12,8 @@ use lib.Seq.{take_at, drop_at, take-append-le}
 use Rattle.base.proofs.Table.{every}
 use Rattle.wire.specs.declared.instances.Party.{Party}
 use Rattle.wire.specs.declared.instances.Side.TheVariants.{Dialler}
-use Rattle.wire.specs.Instances.{initiator, Instance, bundles, bundle_of, instances, protocol_of, mode_of, find}
+use Rattle.wire.specs.declared.instances.Role.TheVariants.{Initiator}
+use Rattle.wire.specs.Instances.{Instance, bundles, bundle_of, instances, protocol_of, mode_of, find}
 use Rattle.wire.specs.Besides.Instances.{other_of, pair_of}
 use Rattle.wire.proofs.InstanceLaws.{of_instances, one_way}
 use Rattle.rows.specs.declared.Protocol.{Protocol}
@@ -37,7 +38,7 @@ use Rattle.promises.proofs.ArrivalBuilt.{built_arrives}
 within : ℕ → ℕ → Instance → Bool
 within bundle i x = ltb (pair_of bundle i) (instances bundle)
 
-all_within : T (every [] (λ b xs. every (record { protocol = 0; role = initiator }) (within b) 0 xs) 0 bundles)
+all_within : T (every [] (λ b xs. every (record { protocol = 0; role = Initiator }) (within b) 0 xs) 0 bundles)
 unfolding within find pair_of bundle_of instances
 all_within = tt
 

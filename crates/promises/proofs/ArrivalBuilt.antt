@@ -14,7 +14,7 @@ use Rattle.ring.specs.Ring as ring
 use Rattle.item.specs.Grammar.{Item, nesting}
 use Rattle.item.proofs.Theorem.{exactly}
 use Rattle.rows.specs.declared.Protocol.{Protocol}
-use Rattle.rows.specs.declared.Next.TheVariants.{To}
+use Rattle.std.specs.Prelude.{Some}
 use Rattle.rows.specs.Spoken.{speaks}
 use Rattle.messages.specs.declared.Message.{Message}
 use Rattle.messages.specs.declared.Answer.{Answer}
@@ -122,7 +122,7 @@ numbers_few (place a l ∷ xs) = omega (arith, numbers_few xs)
 -- bytes that are a message, first among those held, with the row: what a look or drop that is awaited answers
 module _ (w : World) (i : ℕ) (bs : List ℕ) (m : Message) (next : ℕ) (asked : InReceive w.connection w.receive i)
     (awaited : Awaited (seen w.connection w.receive i)) (held : take (length bs) (holding w i) ≡ bs) (it : Item nesting bs)
-    (says : Says (speaks w.connection.settings.party.bundle i) bs m) (row : leads_to (seen w.connection w.receive i) m ≡ To next) where
+    (says : Says (speaks w.connection.settings.party.bundle i) bs m) (row : leads_to (seen w.connection w.receive i) m ≡ Some next) where
   abbrev c : Connection
   c = w.connection
 

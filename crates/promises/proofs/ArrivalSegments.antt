@@ -1,6 +1,7 @@
 -- What comes of the segments that one end made is, at the other end, what was sent: each reads back whole, and its mode and protocol number lead to
 -- the instance that its own talks with. So the one division of the bytes that came finds them one after the other, and the rest is on the way.
 -- Assumes nothing.
+use Rattle.std.specs.Prelude.{Ok}
 use mathlib.Core.Path.{◌≡◌, refl, sym, ap, ◌∙◌}
 use mathlib.Core.Bool.{Bool, true, false, cond}
 use mathlib.Core.List.{List, [], ◌∷◌, ◌++◌, append_assoc, flat_map, flatten}
@@ -14,8 +15,7 @@ use Rattle.base.proofs.Conds.{by_test}
 use Rattle.ring.proofs.Stores.{stream_length}
 use Rattle.wire.specs.declared.segment.Segment.{Segment}
 use Rattle.wire.specs.declared.instances.Party.{Party}
-use Rattle.wire.specs.declared.instances.Route.{Route}
-use Rattle.wire.specs.declared.instances.Route.TheVariants.{To}
+use Rattle.wire.specs.Instances.{Route}
 use Rattle.wire.specs.Segments.{header_length, decoded, Carried, Divided, in_header, in_payload, whole}
 use Rattle.wire.specs.Instances.{instances, protocol_of, mode_of, route_of}
 use Rattle.wire.specs.Besides.Instances.{other_of, pair_of}
@@ -83,7 +83,7 @@ for_pair : (us : Party) (i : ℕ) (bs xs : List ℕ) → i < instances us.bundle
     → payload_for (other_of us) (pair_of us.bundle i) (header bs) xs ≡ cond (is_of us i bs) xs []
 for_pair us i bs xs l m =
     let j : ℕ = m.instance in
-    let route : route_of (other_of us) (header bs).protocol (header bs).mode ≡ To (pair_of us.bundle j) =
+    let route : route_of (other_of us) (header bs).protocol (header bs).mode ≡ Ok (pair_of us.bundle j) =
     ap (λ (p : ℕ). route_of (other_of us) p (header bs).mode) m.protocol
     ∙ ap (route_of (other_of us) (protocol_of us.bundle j)) m.mode ∙ (one_way us).arrives j m.within in
     ap (λ (r : Route). cond (is_for (pair_of us.bundle i) r) xs []) route

@@ -17,14 +17,13 @@ use Rattle.wire.specs.Instances.{instances, role_of, initiates}
 use Rattle.rows.specs.declared.Agency.{Agency}
 use Rattle.rows.specs.declared.Agency.TheVariants.{Initiator, Responder, Nobody}
 use Rattle.rows.specs.declared.Protocol.{Protocol}
-use Rattle.rows.specs.declared.Next.TheVariants.{To}
+use Rattle.std.specs.Prelude.{Some}
 use Rattle.rows.specs.Rows.{next_of, agency_of}
 use Rattle.rows.specs.Spoken.{speaks}
 use Rattle.rows.proofs.RowLaws.{rows_say}
 use Rattle.messages.specs.declared.Message.{Message}
 use Rattle.messages.specs.Reading.{message_of, read, flag_of}
 use Rattle.messages.proofs.Theorem.{reads_forms}
-use Rattle.ready.specs.declared.Choice.TheVariants.{Instance}
 use Rattle.connection.specs.declared.Settings.{Settings}
 use Rattle.connection.specs.declared.Connection.{Connection}
 use Rattle.connection.specs.declared.Closing.TheVariants.{Of}
@@ -99,7 +98,7 @@ pub record Steps (w : World) (i : ℕ) (a : Act) (m : Message) (to : ℕ) : Type
   pub reads : read_in (speaks w.connection.settings.party.bundle i) a ≡ read m
   pub agency : allowed w.connection.settings.party i (get_or w.connection.talk.states i 0) a ≡ true
   pub row : next_of (speaks w.connection.settings.party.bundle i) (get_or w.connection.talk.states i 0) m.kind
-      (flag_of (speaks w.connection.settings.party.bundle i) m) ≡ To to
+      (flag_of (speaks w.connection.settings.party.bundle i) m) ≡ Some to
 
 pub row_of : {w : World} {i to : ℕ} {a : Act} {m : Message} → Steps w i a m to
     → Row (speaks w.connection.settings.party.bundle i) (get_or w.connection.talk.states i 0) to
@@ -132,7 +131,7 @@ module _ (w : World) where
         → (i ≡ 0 → length xs ≤ c.settings.limit) → get_or c.sending.waiting i 0 + length xs ≤ get_or c.settings.send i 0
         → Leaves real (acted i (gave xs)) (world (putting.queued c i (length xs) (led (length xs) m to)) w.receive (putting.stored c w.send i xs))
     -- a segment was made of whoever was chosen
-    serves : (i time : ℕ) (bs : List ℕ) → is_open c.gate ≡ true → sending.chosen_of c ≡ Instance i → (real → Made w time i bs)
+    serves : (i time : ℕ) (bs : List ℕ) → is_open c.gate ≡ true → sending.chosen_of c ≡ Some i → (real → Made w time i bs)
         → Leaves real (sent time bs)
         (world (with_sending c (sending.sent_of c.settings.party.bundle c.sending c.settings.send i (sending.much c i))) w.receive w.send)
 
@@ -159,7 +158,7 @@ other_holds true Responder e n = refl
 other_holds false Responder e n = absurd (true≢false e)
 other_holds b Nobody e n = absurd (n refl)
 
-their_turn : (us : Party) (i s k f n : ℕ) → ours us i s ≡ false → next_of (speaks us.bundle i) s k f ≡ To n → theirs us i s ≡ true
+their_turn : (us : Party) (i s k f n : ℕ) → ours us i s ≡ false → next_of (speaks us.bundle i) s k f ≡ Some n → theirs us i s ≡ true
 unfolding ours
 their_turn us i s k f n e q =
     other_holds (initiates us.side (role_of us.bundle i)) (agency_of (speaks us.bundle i) s) e

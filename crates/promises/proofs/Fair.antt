@@ -18,8 +18,7 @@ use Rattle.ring.proofs.Stores.{stream_length}
 use Rattle.wire.specs.Instances.{instances}
 use Rattle.wire.proofs.InstanceLaws.{at_least}
 use Rattle.ready.specs.Ready.{turn_after}
-use Rattle.ready.specs.declared.Choice.{Choice}
-use Rattle.ready.specs.declared.Choice.TheVariants.{Instance, Nobody}
+use Rattle.std.specs.Prelude.{Option, Some, None}
 use Rattle.ready.proofs.ReadyLaws.{nobody_waits}
 use Rattle.connection.specs.declared.Settings.{Settings}
 use Rattle.connection.specs.declared.Talk.{Talk}
@@ -284,10 +283,10 @@ serves_always s w r =
     empty : {buf : List ℕ} → When w.connection w.send buf 4 → (is_open w.connection.gate ≡ true) × ((i : ℕ) → i < instances s.party.bundle → waits w i ≡ 0)
     empty (all_empty (fit, o) none) = (o, λ i l. none i (rw r.settings l))
 
-    somebody : (i : ℕ) → i < instances w.connection.settings.party.bundle → 0 < waits w i → (x : Choice) → chosen_of w.connection ≡ x
-        → (j : ℕ) × (chosen_of w.connection ≡ Instance j)
-    somebody i l has (Instance j) e = (j, e)
-    somebody i l has Nobody e =
+    somebody : (i : ℕ) → i < instances w.connection.settings.party.bundle → 0 < waits w i → (x : Option ℕ) → chosen_of w.connection ≡ x
+        → (j : ℕ) × (chosen_of w.connection ≡ Some j)
+    somebody i l has (Some j) e = (j, e)
+    somebody i l has None e =
         let ws = sending.counts w.connection in
         let t = (ranged w.connection r.ranged).turn in
         let n = sending.counts_long w.connection r.shaped in

@@ -17,7 +17,7 @@ use Rattle.wire.specs.declared.segment.Segment.{Segment}
 use Rattle.wire.specs.Instances.{instances, protocol_of, mode_of}
 use Rattle.wire.proofs.InstanceLaws.{at_most}
 use Rattle.ready.specs.Ready.{turn_after}
-use Rattle.ready.specs.declared.Choice.TheVariants.{Instance}
+use Rattle.std.specs.Prelude.{Some}
 use Rattle.connection.specs.declared.Settings.{Settings}
 use Rattle.connection.specs.declared.Connection.{Connection}
 use Rattle.connection.specs.Parts.{with_sending}
@@ -43,7 +43,7 @@ share s w j = min s.limit (waits w j)
 
 -- a segment: of whoever is chosen, with the front of its queue
 pub record Served (s : Settings) (w w' : World) (j : ℕ) (bs : List ℕ) : Type 0 where
-  pub who : sending.chosen_of w.connection ≡ Instance j
+  pub who : sending.chosen_of w.connection ≡ Some j
   pub mode : (header bs).mode ≡ mode_of s.party j
   pub protocol : (header bs).protocol ≡ protocol_of s.party.bundle j
   pub whole : (header bs).len ≡ length (payload bs)
@@ -76,7 +76,7 @@ module _ (s : Settings) (w : World) (k : Sound s w) where
 
   -- ---- next segment
 
-  module _ (time j : ℕ) (bs : List ℕ) (who : sending.chosen_of c ≡ Instance j) (one : Made w time j bs) where
+  module _ (time j : ℕ) (bs : List ℕ) (who : sending.chosen_of c ≡ Some j) (one : Made w time j bs) where
     abbrev n : ℕ
     n = sending.much c j
 

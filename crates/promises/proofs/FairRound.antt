@@ -13,7 +13,7 @@ use lib.ListN.{length, get_or}
 use borrow.Author.Tests.{eq-eqb, ne_eqb, lt-ltb, le-ltb}
 use Rattle.base.proofs.Conds.{by_test, cond_cases}
 use Rattle.ready.specs.Ready.{after_of, seek, chosen}
-use Rattle.ready.specs.declared.Choice.TheVariants.{Instance}
+use Rattle.std.specs.Prelude.{Some}
 
 -- the instance d steps after t, of n
 unfoldable pub rounds : ℕ → ℕ → ℕ → ℕ
@@ -62,7 +62,7 @@ found_later (nearer j e some lt r) = nearer j e some (omega arith) r
 
 -- a search that would come to i after d steps finds somebody, who is i or before it
 sought : (ws : List ℕ) (d k t i : ℕ) → 1 ≤ t → rounds (length ws) d t ≡ i → d < k → 0 < get_or ws i 0
-    → (j : ℕ) × (seek ws t k ≡ Instance j) × Found (length ws) i d j
+    → (j : ℕ) × (seek ws t k ≡ Some j) × Found (length ws) i d j
 unfolding rounds seek
 sought ws d zero t i some r h has = absurd (omega arith)
 sought ws zero (suc k) t i some r h has =
@@ -76,14 +76,14 @@ sought ws (suc d) (suc k) t i some r h has =
 
 -- whoever is chosen, where instance 0 has nothing waiting
 pub chosen_found : (ws : List ℕ) (n turn i d j : ℕ) → length ws ≡ n → get_or ws 0 0 ≡ 0 → 1 ≤ turn → rounds n d turn ≡ i → d + 2 ≤ n → 0 < get_or ws i 0
-    → chosen ws turn ≡ Instance j → Found n i d j
+    → chosen ws turn ≡ Some j → Found n i d j
 chosen_found ws n turn i d j e none some r h has who =
     let (j', q, f) = sought ws d (length ws - 1) turn i some (rw e r) (omega arith) has in
-    let who' : seek ws turn (length ws - 1) ≡ Instance j = rw (le-ltb 0 (get_or ws 0 0) (omega arith)) at who in
-    let one : Instance j' ≡ Instance j = sym q ∙ who' in
+    let who' : seek ws turn (length ws - 1) ≡ Some j = rw (le-ltb 0 (get_or ws 0 0) (omega arith)) at who in
+    let one : Some j' ≡ Some j = sym q ∙ who' in
     let same : j' ≡ j = cc in
     subst (λ (m : ℕ). Found m i d j) e (subst (λ (m : ℕ). Found (length ws) i d m) same f)
 
 -- and where it has
-pub chosen_zero : (ws : List ℕ) (turn j : ℕ) → 0 < get_or ws 0 0 → chosen ws turn ≡ Instance j → j ≡ 0
-chosen_zero ws turn j h who = let one : Instance 0 ≡ Instance j = rw (lt-ltb 0 (get_or ws 0 0) h) at who in cc
+pub chosen_zero : (ws : List ℕ) (turn j : ℕ) → 0 < get_or ws 0 0 → chosen ws turn ≡ Some j → j ≡ 0
+chosen_zero ws turn j h who = let one : Some 0 ≡ Some j = rw (lt-ltb 0 (get_or ws 0 0) h) at who in cc

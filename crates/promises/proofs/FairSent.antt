@@ -1,5 +1,6 @@
 -- Which of the segments carries a byte: one of another instance does not count, one of its own has it or brings it nearer to the front.
 -- Assumes nothing.
+use Rattle.std.specs.Prelude.{Ok}
 use mathlib.Core.Path.{◌≡◌, refl, sym, ap, ◌∙◌}
 use mathlib.Core.Bool.{true, false, cond}
 use mathlib.Core.List.{List, [], ◌∷◌, flat_map}
@@ -11,7 +12,6 @@ use lib.ListN.{length, get_or, length-append}
 use borrow.Author.Tests.{eq-eqb, eqb-true}
 use Rattle.base.proofs.Conds.{by_test, both_true}
 use Rattle.wire.specs.declared.instances.Party.{Party}
-use Rattle.wire.specs.declared.instances.Route.TheVariants.{To}
 use Rattle.wire.specs.Instances.{instances, route_of, protocol_of, mode_of}
 use Rattle.wire.proofs.InstanceLaws.{one_way}
 use Rattle.promises.specs.Fairness.{header, payload, is_of, sent_by, Sent}
@@ -22,7 +22,7 @@ of_same us i bs m p = rw (eq-eqb (header bs).mode (mode_of us i) m, eq-eqb (head
 
 alone : (us : Party) (i j : ℕ) → i < instances us.bundle → j < instances us.bundle → mode_of us i ≡ mode_of us j → protocol_of us.bundle i ≡ protocol_of us.bundle j → i ≡ j
 alone us i j h l m p =
-    let e : To i ≡ To j =
+    let e : Ok i ≡ Ok j =
     sym ((one_way us).reached i h) ∙ ap (λ (n : ℕ). route_of us n (1 - mode_of us i)) p ∙ ap (λ (n : ℕ). route_of us (protocol_of us.bundle j) (1 - n)) m
     ∙ (one_way us).reached j l in
     cc

@@ -1,6 +1,7 @@
 -- What was received (T11 a), byte by byte: the division of the bytes so far stands as the record does, and what it has for an instance is what
 -- was dropped and what is held.
 -- Assumes nothing.
+use Rattle.std.specs.Prelude.{Ok, Err}
 use mathlib.Core.Path.{◌≡◌, refl, sym, ap, ◌∙◌}
 use mathlib.Core.Bool.{true, false, true≢false, cond}
 use mathlib.Core.List.{List, [], ◌∷◌, ◌++◌, append-nil, append_assoc}
@@ -14,15 +15,15 @@ use Rattle.ring.specs.Ring.{base_of, stream}
 use Rattle.ring.proofs.Streams.{queue_laid}
 use Rattle.wire.specs.declared.segment.Header.{Header}
 use Rattle.wire.specs.declared.instances.Party.{Party}
-use Rattle.wire.specs.declared.instances.Route.{Route}
-use Rattle.wire.specs.declared.instances.Route.TheVariants.{Unknown, Wrong, To}
+use Rattle.wire.specs.Instances.{Route}
+use Rattle.wire.specs.declared.instances.RouteError.TheVariants.{Unknown, Wrong}
 use Rattle.wire.specs.Segments.{header_length, empty, added, decoded, Carried, Divided, in_header, in_payload}
 use Rattle.wire.specs.Instances.{instances, most, route_of}
 use Rattle.wire.proofs.InstanceLaws.{at_most}
 use Rattle.wire.proofs.SegmentLaws.{part, add_part, part_whole, divided_on, divided_whole}
 use Rattle.connection.specs.declared.Receiving.{Receiving}
 use Rattle.connection.specs.Closings.{is_open}
-use Rattle.admitting.specs.declared.Admission.{Admission}
+use Rattle.admitting.specs.Admitting.{Admission}
 use Rattle.feeding.specs.Feeding.{Reception, admitted, admission, settled, headed, kept, step, fed, used}
 use Rattle.feeding.proofs.Bytes.{step_headed, step_kept, fed_closed}
 use Rattle.feeding.proofs.Keeping.{Kept, kept_fed}
@@ -38,7 +39,7 @@ held_in caps s i =
 pub data Reading (us : Party) (r : Receiving) (left : List ℕ) : Type 0 where
   in_head : r.rest ≡ 0 → length left < header_length → r.header ≡ part left → Reading us r left
   in_pay : (h p : List ℕ) → left ≡ h ++ p → length h ≡ header_length → 0 < r.rest → length p + r.rest ≡ (decoded h).len → r.header ≡ empty
-      → route_of us (decoded h).protocol (decoded h).mode ≡ To r.instance → Reading us r left
+      → route_of us (decoded h).protocol (decoded h).mode ≡ Ok r.instance → Reading us r left
 
 pub record Tied (us : Party) (caps : List ℕ) (dropped : ℕ → List ℕ) (bs : List ℕ) (s : Reception) : Type 0 where
   pub carried : List Carried
@@ -147,9 +148,9 @@ module _ (us : Party) (caps : List ℕ) (dropped : ℕ → List ℕ) (some : (i 
 
     tied_settled : is_open s.gate ≡ true → (r : Route) → route_of us (decoded new).protocol (decoded new).mode ≡ r
         → Tied us caps dropped (bs ++ (b ∷ [])) (settled s (admitted caps s.receiving.held (decoded new).len r))
-    tied_settled o Unknown e = tied_with _ refl refl refl (λ z q. never q) (λ z q. never q)
-    tied_settled o (Wrong i) e = tied_with _ refl refl refl (λ z q. never q) (λ z q. never q)
-    tied_settled o (To i) e =
+    tied_settled o (Err Unknown) e = tied_with _ refl refl refl (λ z q. never q) (λ z q. never q)
+    tied_settled o (Err (Wrong i)) e = tied_with _ refl refl refl (λ z q. never q) (λ z q. never q)
+    tied_settled o (Ok i) e =
         let n = (decoded new).len in
         cond_cases (λ (a : Admission). Tied us caps dropped (bs ++ (b ∷ [])) (settled s a)) (leb (get_or s.receiving.held i 0 + n) (get_or caps i 0))
         (λ q.
@@ -196,7 +197,7 @@ module _ (us : Party) (caps : List ℕ) (dropped : ℕ → List ℕ) (some : (i 
       (room : get_or s.receiving.held s.receiving.instance 0 < get_or caps s.receiving.instance 0)
       (h p : List ℕ) (e : t.left ≡ h ++ p) (eight : length h ≡ header_length) (more : 0 < s.receiving.rest)
       (n : length p + s.receiving.rest ≡ (decoded h).len) (z : s.receiving.header ≡ empty)
-      (to : route_of us (decoded h).protocol (decoded h).mode ≡ To s.receiving.instance) where
+      (to : route_of us (decoded h).protocol (decoded h).mode ≡ Ok s.receiving.instance) where
     abbrev after : Reception
     after = kept caps s (b ∷ [])
 

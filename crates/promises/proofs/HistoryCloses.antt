@@ -13,7 +13,7 @@ use lib.Seq.{take-append-add, take-length, drop_at}
 use Rattle.ring.specs.Ring.{base_of}
 use Rattle.wire.specs.declared.segment.Header.{Header}
 use Rattle.wire.specs.declared.instances.Party.{Party}
-use Rattle.wire.specs.declared.instances.Route.{Route}
+use Rattle.wire.specs.Instances.{Route}
 use Rattle.wire.specs.Segments.{header_length, added, decoded}
 use Rattle.wire.specs.Instances.{instances, route_of}
 use Rattle.wire.proofs.SegmentLaws.{part, add_part, part_whole, divided_ends}

@@ -17,8 +17,8 @@ use Rattle.wire.specs.Segments.{header_length, empty, added}
 use Rattle.wire.specs.Instances.{most}
 use Rattle.connection.specs.declared.Connection.{Connection}
 use Rattle.connection.specs.Closings.{is_open}
-use Rattle.admitting.specs.declared.Admission.{Admission}
-use Rattle.admitting.specs.declared.Admission.TheVariants.{Fault, Payload}
+use Rattle.admitting.specs.Admitting.{Admission}
+use Rattle.std.specs.Prelude.{Ok, Err}
 use Rattle.feeding.specs.Feeding.{Reception, admission, settled, headed, kept, step, fed, used, given}
 
 abbrev pub Blank : Header → Type 0
@@ -46,8 +46,8 @@ idle_for n i z = rw (eq-eqb n 0 z)
 
 module _ (us : Party) (caps starts : List ℕ) where
   tidy_settled : (s : Reception) (a : Admission) → Tidy starts s → Tidy starts (settled s a)
-  tidy_settled s (Fault x) t = record { places = t.places; many = t.many; blank = blank_empty; idle = t.idle }
-  tidy_settled s (Payload i n) t = record { places = t.places; many = t.many; blank = blank_empty; idle = idle_for n i }
+  tidy_settled s (Err x) t = record { places = t.places; many = t.many; blank = blank_empty; idle = t.idle }
+  tidy_settled s (Ok p) t = record { places = t.places; many = t.many; blank = blank_empty; idle = idle_for p.len p.instance }
 
   tidy_step : (s : Reception) (b : ℕ) → Tidy starts s → Tidy starts (step us caps s b)
   unfolding step headed kept

@@ -14,8 +14,10 @@ use Rattle.wire.specs.declared.instances.Party.{Party}
 use Rattle.wire.specs.declared.instances.Side.TheVariants.{Dialler, Accepter}
 use Rattle.rows.specs.declared.Protocol.{Protocol}
 use Rattle.rows.specs.declared.Protocol.TheVariants.{Handshake}
-use Rattle.rows.specs.declared.Next.TheVariants.{To}
-use Rattle.wire.specs.Instances.{Role, initiator, responder, of_side, sided, Instance, bundles, known, role_of, initiates}
+use Rattle.std.specs.Prelude.{Some}
+use Rattle.wire.specs.declared.instances.Role.{Role}
+use Rattle.wire.specs.declared.instances.Role.TheVariants.{Initiator, Responder, OfSide}
+use Rattle.wire.specs.Instances.{sided, Instance, bundles, known, role_of, initiates}
 use Rattle.wire.proofs.InstanceLaws.{of_instances, at_least}
 use Rattle.rows.specs.Rows.{next_of, place_in, agency_in, agency_of, fits, rows_of}
 use Rattle.rows.specs.Besides.Rows.{row_in}
@@ -25,7 +27,7 @@ use Rattle.judging.proofs.Moving.{first_speaks}
 
 -- a message leads from a state of a protocol to another
 abbrev pub Row : Protocol → ℕ → ℕ → Type 0
-Row p state to = (k : ℕ) × (f : ℕ) × (next_of p state k f ≡ To to)
+Row p state to = (k : ℕ) × (f : ℕ) × (next_of p state k f ≡ Some to)
 
 -- a message of Handshake leads from Propose to Confirm, and from there to Done
 pub data Shakes : ℕ → ℕ → Type 0 where
@@ -57,21 +59,21 @@ spare Accepter (suc (suc state)) limit = 0
 firstly : ℕ → ℕ → Instance → Bool
 firstly bundle i x = not (eqb i 0) || sided x.role
 
-all_firstly : T (every [] (λ b xs. every (record { protocol = 0; role = initiator }) (firstly b) 0 xs) 0 bundles)
+all_firstly : T (every [] (λ b xs. every (record { protocol = 0; role = Initiator }) (firstly b) 0 xs) 0 bundles)
 unfolding firstly
 all_firstly = tt
 
-side_role : (r : Role) → T (sided r) → r ≡ of_side
-side_role initiator t = absurd t
-side_role responder t = absurd t
-side_role of_side t = refl
+side_role : (r : Role) → T (sided r) → r ≡ OfSide
+side_role Initiator t = absurd t
+side_role Responder t = absurd t
+side_role OfSide t = refl
 
-first_role : (bundle : ℕ) → known bundle ≡ true → role_of bundle 0 ≡ of_side
+first_role : (bundle : ℕ) → known bundle ≡ true → role_of bundle 0 ≡ OfSide
 unfolding firstly
 first_role bundle k = side_role (role_of bundle 0) (of_instances firstly all_firstly bundle 0 (omega (arith, at_least bundle k)))
 
 -- our agency in Handshake, whose role is our side's in every bundle
-by_side : (side : Side) (limit : ℕ) {state next : ℕ} → Shakes state next → holds (initiates side of_side) (agency_of Handshake state) ≡ true
+by_side : (side : Side) (limit : ℕ) {state next : ℕ} → Shakes state next → holds (initiates side OfSide) (agency_of Handshake state) ≡ true
     → (spare side state limit ≡ limit) × (spare side next limit ≡ 0)
 unfolding spare place_in agency_in
 by_side Dialler limit proposes o = (refl, refl)

@@ -12,7 +12,7 @@ use Rattle.wire.specs.declared.segment.Segment.{Segment}
 use Rattle.wire.specs.Segments.{header_length, decoded, encoded}
 use Rattle.wire.specs.Instances.{instances}
 use Rattle.wire.proofs.SegmentLaws.{round_trip}
-use Rattle.ready.specs.declared.Choice.TheVariants.{Instance}
+use Rattle.std.specs.Prelude.{Some}
 use Rattle.connection.specs.declared.Settings.{Settings}
 use Rattle.connection.specs.declared.Connection.{Connection}
 use Rattle.range.proofs.RangeLaws.{ranged}
@@ -34,7 +34,7 @@ pub record Made (w : World) (time j : ℕ) (bs : List ℕ) : Type 0 where
 
 -- what the lent buffer has in front
 pub made_of : {s : Settings} {w : World} → Reached s w → (time : ℕ) (buf : List ℕ) (j : ℕ) → time < 2 ^ 32
-    → chosen_of w.connection ≡ Instance j → header_length + much w.connection j ≤ length buf
+    → chosen_of w.connection ≡ Some j → header_length + much w.connection j ≤ length buf
     → let n = much w.connection j in
     let bs = encoded (headed w.connection.settings.party time j n) ++ payload_of w.connection w.send j in
     Made w time j (take (header_length + n) (sets buf 0 bs))

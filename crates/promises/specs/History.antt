@@ -1,5 +1,5 @@
 -- What a history says, and that record and stores say the same (document 01, "What the front holds" and "Segments"): after any calls from open on.
-use Rattle.std.specs.Prelude.{ℕ, ◌+◌, ◌-◌, ◌/◌, ◌%◌, ◌^◌, ◌≤◌, ◌<◌, min, ◌≡◌, Bool, true, false, cond, not, ◌&&◌, eqb, leb, ltb, length, get_or, take, drop}
+use Rattle.std.specs.Prelude.{ℕ, ◌+◌, ◌-◌, ◌/◌, ◌%◌, ◌^◌, ◌≤◌, ◌<◌, min, ◌≡◌, Bool, true, false, cond, not, ◌&&◌, eqb, leb, ltb, length, get_or, take, drop, Ok, Err, Some}
 use mathlib.Core.List.{List, [], ◌∷◌, ◌++◌, flat_map, flatten}
 use Rattle.std.proofs.Math.Option.{Option, none, some, or_else}
 use Rattle.std.specs.Int.Count.{ones}
@@ -7,14 +7,13 @@ use Rattle.ring.specs.Ring as ring
 use Rattle.ring.specs.Ring.{base_of, place}
 use Rattle.wire.specs.declared.segment.Segment.{Segment}
 use Rattle.wire.specs.declared.instances.Party.{Party}
-use Rattle.wire.specs.declared.instances.Route.{Route}
-use Rattle.wire.specs.declared.instances.Route.TheVariants as route
+use Rattle.wire.specs.Instances.{Route}
+use Rattle.wire.specs.declared.instances.RouteError.TheVariants.{Unknown, Wrong}
 use Rattle.wire.specs.Segments.{header_length, decoded, Carried, Divided}
 use Rattle.wire.specs.Instances.{instances, most, role_of, initiates, protocol_of, mode_of, route_of}
 use Rattle.item.specs.Grammar.{Item, nesting}
 use Rattle.rows.specs.declared.Protocol.{Protocol}
 use Rattle.rows.specs.declared.Protocol.TheVariants.{Handshake}
-use Rattle.rows.specs.declared.Next.TheVariants.{To}
 use Rattle.rows.specs.Rows.{next_of, agency_of}
 use Rattle.rows.specs.Spoken.{speaks}
 use Rattle.messages.specs.declared.Message.{Message}
@@ -56,9 +55,9 @@ dropped_for i past = dropped (acts i past)
 -- ---- T11 (a) and (d): what was received
 
 abbrev pub is_for : ℕ → Route → Bool
-is_for i route.Unknown = false
-is_for i (route.Wrong j) = false
-is_for i (route.To j) = eqb j i
+is_for i (Err Unknown) = false
+is_for i (Err (Wrong j)) = false
+is_for i (Ok j) = eqb j i
 
 -- what of a payload is for instance i: protocol number and mode together choose the instance
 abbrev pub payload_for : Party → ℕ → Segment → List ℕ → List ℕ
@@ -147,7 +146,7 @@ pub record Moves (us : Party) (i state : ℕ) (a : Act) (to : ℕ) : Type 0 wher
   pub message : Message
   pub reads : read_in (speaks us.bundle i) a ≡ read message
   pub agency : allowed us i state a ≡ true
-  pub row : next_of (speaks us.bundle i) state message.kind (flag_of (speaks us.bundle i) message) ≡ To to
+  pub row : next_of (speaks us.bundle i) state message.kind (flag_of (speaks us.bundle i) message) ≡ Some to
 
 -- acts one after the other lead from a state to a state
 pub data Walks (us : Party) (i : ℕ) : ℕ → List Act → ℕ → Type 0 where
@@ -175,9 +174,9 @@ last_route us bs =
 
 -- the instance that a route names, where there is one
 abbrev pub routed : Route → Option ℕ
-routed route.Unknown = none
-routed (route.Wrong j) = some j
-routed (route.To j) = some j
+routed (Err Unknown) = none
+routed (Err (Wrong j)) = some j
+routed (Ok j) = some j
 
 -- The closing of a fault that a call answered, if it answered one, where bs are the bytes so far: of 11 to 13 from feed, whose last used bytes are
 -- the refused header, with the instance that it names; and of 14 to 17 from look and drop.

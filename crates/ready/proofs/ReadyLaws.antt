@@ -1,5 +1,6 @@
 -- Laws of the ready word: its bits, its ones, its lowest, and that the choice by bits is the choice by counts.
 -- Assumes nothing.
+use Rattle.std.specs.Prelude.{Option, Some, None}
 use mathlib.Core.Path.{◌≡◌, refl, subst, ◌∙◌}
 use mathlib.Core.Bool.{Bool, true, false, cond}
 use mathlib.Core.List.{List, [], ◌∷◌}
@@ -16,8 +17,6 @@ use Rattle.base.proofs.Conds.{by_test, cond_cases}
 use Rattle.ready.specs.Ready.{bit_of, word_of, count_of, lowest_from, after_of, seek, chosen}
 use Rattle.ready.specs.Besides.Ready.{BitByBit, NoMore, NobodyWaits, ChosenWaits}
 use Rattle.ready.specs.Inside.{bit_set, seek_in, chosen_in}
-use Rattle.ready.specs.declared.Choice.{Choice}
-use Rattle.ready.specs.declared.Choice.TheVariants.{Instance, Nobody}
 
 pub bit_le : (n : ℕ) → bit_of n ≤ 1
 bit_le n = of (eqb n 0)
@@ -128,9 +127,9 @@ pub chosen_word : (ws : List ℕ) (turn : ℕ) → 1 < length ws → turn < leng
 chosen_word ws turn two h = rw (set_waits ws 0 (omega arith), seek_word ws turn (length ws - 1) two h)
 
 -- whoever is chosen is an instance
-abbrev pub Low : ℕ → Choice → Type 0
-Low n Nobody = Unit {0}
-Low n (Instance i) = i < n
+abbrev pub Low : ℕ → Option ℕ → Type 0
+Low n None = Unit {0}
+Low n (Some i) = i < n
 
 seek_low : (n word i k : ℕ) → 1 < n → i < n → Low n (seek_in n word i k)
 unfolding seek_in
@@ -143,7 +142,7 @@ chosen_low n word turn two h = cond_cases (Low n) (bit_set word 0) (λ t. omega 
 
 -- ---- a search along the bits
 
-pub seek_hit : (n word i k : ℕ) → 0 < k → bit_set word i ≡ true → seek_in n word i k ≡ Instance i
+pub seek_hit : (n word i k : ℕ) → 0 < k → bit_set word i ≡ true → seek_in n word i k ≡ Some i
 unfolding seek_in
 seek_hit n word i zero h t = absurd (omega arith)
 seek_hit n word i (suc k) h t = rw t
@@ -156,10 +155,10 @@ seek_on n word i (suc k) h t = rw (t, sub-one)
 -- ---- who waits
 
 -- a search that finds nobody: the first had nothing, and the rest of the search finds nobody
-seek_first : (ws : List ℕ) (i k : ℕ) → seek ws i (suc k) ≡ Nobody → (get_or ws i 0 ≡ 0) × (seek ws (after_of (length ws) i) k ≡ Nobody)
+seek_first : (ws : List ℕ) (i k : ℕ) → seek ws i (suc k) ≡ None → (get_or ws i 0 ≡ 0) × (seek ws (after_of (length ws) i) k ≡ None)
 unfolding seek
 seek_first ws i k e =
-    by_test (ltb 0 (get_or ws i 0)) (λ t. absurd (let q : Instance i ≡ Nobody = rw t at e in let z : ◌≡◌ {A = ℕ} 0 1 = cc in omega arith))
+    by_test (ltb 0 (get_or ws i 0)) (λ t. absurd (let q : Some i ≡ None = rw t at e in let z : ◌≡◌ {A = ℕ} 0 1 = cc in omega arith))
     (λ t. (omega (arith, ltb-false 0 (get_or ws i 0) t), rw t at e))
 
 after_next : (n i : ℕ) → suc i < n → after_of n i ≡ suc i
@@ -169,7 +168,7 @@ after_last : (n i : ℕ) → suc i ≡ n → after_of n i ≡ 1
 after_last n i h = rw (eq-eqb (i + 1) n (omega arith))
 
 -- from i up to the end
-seek_up : (ws : List ℕ) (k i : ℕ) → seek ws i k ≡ Nobody → (j : ℕ) → i ≤ j → j < length ws → j < i + k → get_or ws j 0 ≡ 0
+seek_up : (ws : List ℕ) (k i : ℕ) → seek ws i k ≡ None → (j : ℕ) → i ≤ j → j < length ws → j < i + k → get_or ws j 0 ≡ 0
 seek_up ws zero i e j l h f = absurd (omega arith)
 seek_up ws (suc k) i e j l h f =
     let p = seek_first ws i k e in
@@ -180,16 +179,16 @@ seek_up ws (suc k) i e j l h f =
     seek_up ws k (suc i) (rw a at p.1) j (omega arith) h (omega arith))
 
 -- and on from 1
-seek_round : (ws : List ℕ) (m i k : ℕ) → suc i + m ≡ length ws → seek ws i (suc m + k) ≡ Nobody → seek ws 1 k ≡ Nobody
+seek_round : (ws : List ℕ) (m i k : ℕ) → suc i + m ≡ length ws → seek ws i (suc m + k) ≡ None → seek ws 1 k ≡ None
 seek_round ws zero i k n e =
-    let e' : seek ws i (suc k) ≡ Nobody = rw (one-add k) at e in
+    let e' : seek ws i (suc k) ≡ None = rw (one-add k) at e in
     rw (after_last (length ws) i (omega arith)) at (seek_first ws i k e').1
 seek_round ws (suc m) i k n e =
-    let e' : seek ws i (suc (suc m + k)) ≡ Nobody = rw (suc-add (suc m) k) at e in
+    let e' : seek ws i (suc (suc m + k)) ≡ None = rw (suc-add (suc m) k) at e in
     seek_round ws m (suc i) k (omega arith) (rw (after_next (length ws) i (omega arith)) at (seek_first ws i (suc m + k) e').1)
 
 -- where nobody waits, a search finds nobody
-seek_none : (ws : List ℕ) → ((i : ℕ) → i < length ws → get_or ws i 0 ≡ 0) → 1 < length ws → (k i : ℕ) → i < length ws → seek ws i k ≡ Nobody
+seek_none : (ws : List ℕ) → ((i : ℕ) → i < length ws → get_or ws i 0 ≡ 0) → 1 < length ws → (k i : ℕ) → i < length ws → seek ws i k ≡ None
 unfolding seek
 seek_none ws none two zero i h = refl
 seek_none ws none two (suc k) i h =
@@ -198,26 +197,26 @@ seek_none ws none two (suc k) i h =
 pub nobody_waits : NobodyWaits
 nobody_waits ws turn low high = (to, from)
   where
-    to : chosen ws turn ≡ Nobody → (i : ℕ) → i < length ws → get_or ws i 0 ≡ 0
+    to : chosen ws turn ≡ None → (i : ℕ) → i < length ws → get_or ws i 0 ≡ 0
     to e i h =
-        by_test (ltb 0 (get_or ws 0 0)) (λ t. absurd (let q : Instance 0 ≡ Nobody = rw t at e in let z : ◌≡◌ {A = ℕ} 0 1 = cc in omega arith))
+        by_test (ltb 0 (get_or ws 0 0)) (λ t. absurd (let q : Some 0 ≡ None = rw t at e in let z : ◌≡◌ {A = ℕ} 0 1 = cc in omega arith))
         (λ t.
-        let s : seek ws turn (length ws - 1) ≡ Nobody = rw t at e in
+        let s : seek ws turn (length ws - 1) ≡ None = rw t at e in
         let m = length ws - 1 - turn in
         let all : length ws - 1 ≡ suc m + (turn - 1) = omega arith in
-        let again : seek ws 1 (turn - 1) ≡ Nobody = seek_round ws m turn (turn - 1) (omega arith) (rw all at s) in
+        let again : seek ws 1 (turn - 1) ≡ None = seek_round ws m turn (turn - 1) (omega arith) (rw all at s) in
         by_test (eqb i 0) (λ z. rw (eqb-true i 0 z) (omega (arith, ltb-false 0 (get_or ws 0 0) t)))
         (λ z. by_test (ltb i turn) (λ l. seek_up ws (turn - 1) 1 again i (omega (arith, eqb-false i 0 z)) h (omega (arith, ltb-true i turn l)))
         (λ l. seek_up ws (length ws - 1) turn s i (ltb-false i turn l) h (omega arith))))
 
-    from : ((i : ℕ) → i < length ws → get_or ws i 0 ≡ 0) → chosen ws turn ≡ Nobody
+    from : ((i : ℕ) → i < length ws → get_or ws i 0 ≡ 0) → chosen ws turn ≡ None
     from none = rw (le-ltb 0 (get_or ws 0 0) (omega (arith, none 0 (omega arith)))) (seek_none ws none (omega arith) (length ws - 1) turn high)
 
-pub same_instance : (i j : ℕ) → Instance i ≡ Instance j → i ≡ j
+pub same_instance : (i j : ℕ) → Some i ≡ Some j → i ≡ j
 same_instance i j e = cc
 
 -- whoever a search finds has bytes waiting
-seek_some : (ws : List ℕ) (k i j : ℕ) → seek ws i k ≡ Instance j → 0 < get_or ws j 0
+seek_some : (ws : List ℕ) (k i j : ℕ) → seek ws i k ≡ Some j → 0 < get_or ws j 0
 unfolding seek
 seek_some ws zero i j e = absurd (let z : ◌≡◌ {A = ℕ} 0 1 = cc in omega arith)
 seek_some ws (suc k) i j e =

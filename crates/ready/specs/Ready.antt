@@ -1,8 +1,6 @@
 -- Who has bytes to send (document 01, "Segments": status, and next segment's choice), over the waiting counts by instance.
-use Rattle.std.specs.Prelude.{ℕ, zero, suc, ◌+◌, ◌-◌, ◌*◌, cond, List, [], ◌∷◌, eqb, ltb, length, get_or}
+use Rattle.std.specs.Prelude.{ℕ, zero, suc, ◌+◌, ◌-◌, ◌*◌, cond, List, [], ◌∷◌, eqb, ltb, length, get_or, Option, Some, None}
 use Rattle.ready.specs.declared.Ready.{Ready}
-use Rattle.ready.specs.declared.Choice.{Choice}
-use Rattle.ready.specs.declared.Choice.TheVariants.{Instance, Nobody}
 
 -- whether a count is not 0, as a bit
 abbrev pub bit_of : ℕ → ℕ
@@ -31,13 +29,13 @@ abbrev pub after_of : ℕ → ℕ → ℕ
 after_of n i = cond (eqb (i + 1) n) 1 (i + 1)
 
 -- the first of k instances with bytes waiting, beginning at i and going round
-unfoldable pub seek : List ℕ → ℕ → ℕ → Choice
-seek ws i zero = Nobody
-seek ws i (suc k) = cond (ltb 0 (get_or ws i 0)) (Instance i) (seek ws (after_of (length ws) i) k)
+unfoldable pub seek : List ℕ → ℕ → ℕ → Option ℕ
+seek ws i zero = None
+seek ws i (suc k) = cond (ltb 0 (get_or ws i 0)) (Some i) (seek ws (after_of (length ws) i) k)
 
 -- If instance 0 has bytes waiting, it is chosen. Otherwise the first of the others with bytes waiting, beginning at the turn and going round.
-abbrev pub chosen : List ℕ → ℕ → Choice
-chosen ws turn = cond (ltb 0 (get_or ws 0 0)) (Instance 0) (seek ws turn (length ws - 1))
+abbrev pub chosen : List ℕ → ℕ → Option ℕ
+chosen ws turn = cond (ltb 0 (get_or ws 0 0)) (Some 0) (seek ws turn (length ws - 1))
 
 -- The turn after serving i is the one after i; serving 0 doesn't move it.
 abbrev pub turn_after : ℕ → ℕ → ℕ → ℕ

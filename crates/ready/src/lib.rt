@@ -19,18 +19,11 @@ pub struct Ready {
     pub lowest: u64,
 }
 
-// Who is served next.
-#[derive(Clone, Copy)]
-pub enum Choice {
-    Instance(usize),
-    Nobody,
-}
-
 // Whether a count is not 0, as a bit.
 fn bit(n: u64) -> u64
     ensures { (result ≡ bit_of n) × (result ≤ 1) }
 {
-    if n == 0 { 0 } else { 1 }
+    u64::from(n != 0)
 }
 
 // The ready word of the first n waiting counts: those of a bundle of n instances.
@@ -38,10 +31,8 @@ pub fn word(waiting: [u64; INSTANCES], n: usize) -> u64
     requires { n ≤ most }
     ensures { (result ≡ word_of (take n waiting)) × (result < 2 ^ most) × (length (take n waiting) ≡ n) }
 {
-    let mut word: u64 = 0;
-    let mut i = n;
-    while 0 < i {
-        i -= 1;
+    let mut word = 0;
+    for i in (0..n).rev() {
         word = word * 2 + bit(waiting[i]);
     }
     word
@@ -53,18 +44,14 @@ pub fn ready_of(waiting: [u64; INSTANCES], n: usize) -> Ready
     ensures { result ≡ ready_of (take n waiting) }
 {
     let word = word(waiting, n);
-    let count = u64::count_ones(word) as u64;
-    if word == 0 {
-        return Ready {
-            word,
-            count,
-            lowest: 255,
-        };
-    }
     Ready {
         word,
-        count,
-        lowest: u64::trailing_zeros(word) as u64,
+        count: u64::from(word.count_ones()),
+        lowest: if word == 0 {
+            255
+        } else {
+            u64::from(word.trailing_zeros())
+        },
     }
 }
 
@@ -85,23 +72,21 @@ pub fn after(n: usize, i: usize) -> usize
 }
 
 // Whom the word and the turn choose, of n instances: instance 0 first, else the bits one by one from the turn on.
-pub fn choose(n: usize, word: u64, turn: usize) -> Choice
+pub fn choose(n: usize, word: u64, turn: usize) -> Option<usize>
     requires { (2 ≤ n) × (n ≤ most) × (turn < n) }
     ensures { result ≡ chosen_in n word turn }
 {
     if is_set(word, 0) {
-        return Choice::Instance(0);
+        return Some(0);
     }
     let mut i = turn;
-    let mut left = n - 1;
-    while 0 < left {
+    for _ in 1..n {
         if is_set(word, i) {
-            return Choice::Instance(i);
+            return Some(i);
         }
         i = after(n, i);
-        left -= 1;
     }
-    Choice::Nobody
+    None
 }
 
 // The turn after serving i, of n, which serving instance 0 does not move.

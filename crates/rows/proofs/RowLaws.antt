@@ -1,8 +1,8 @@
 -- Laws of the rows: what a row's columns say, the searches along them, and T8.
 -- Assumes nothing.
 use mathlib.Core.Path.{◌≡◌, refl, ap, subst}
-use mathlib.Core.Bool.{Bool, true, cond, not, ◌&&◌, ◌||◌}
-use mathlib.Core.List.{List, [], ◌∷◌, map}
+use mathlib.Core.Bool.{Bool, true, not, ◌&&◌, ◌||◌}
+use mathlib.Core.List.{List, [], ◌∷◌}
 use Prim.Native.Nat.{ℕ, suc, ◌+◌, ◌<◌, ◌≤◌}
 use native.Mathlib.Omega.{arith}
 use lib.Dec.{T, eqb, leb, ltb, eqb→eq, leb→le, ltb→lt, eqb-suc-suc, eqb-zero-suc}
@@ -13,35 +13,35 @@ use Rattle.base.proofs.Table.{every, at}
 use Rattle.rows.specs.declared.Protocol.{Protocol}
 use Rattle.rows.specs.declared.Agency.{Agency}
 use Rattle.rows.specs.declared.Agency.TheVariants.{Initiator, Responder, Nobody}
-use Rattle.rows.specs.declared.Next.{Next}
-use Rattle.rows.specs.declared.Next.TheVariants.{To, None}
-use Rattle.rows.specs.Rows.{State, Done, Row, states, done_of, rows_of, fits, next_in, next_of, agency_in, agency_of, place_in}
+use Rattle.std.specs.Prelude.{Option, Some, None}
+use Rattle.rows.specs.declared.Row.{Row}
+use Rattle.rows.specs.Rows.{State, Done, states, done_of, rows_of, fits, next_in, next_of, agency_in, agency_of, place_in}
 use Rattle.rows.specs.Besides.Rows.{row_in, RowsSay, talk, dialogues}
-use Rattle.rows.proofs.ByProtocol.{each_protocol, Search, entry, column}
-use Rattle.rows.specs.Inside.{entries, all_rows, row_count, row_at, mark, in_one, state_in, agent_in, kind_in, flag_in, leads_in, suits}
+use Rattle.rows.proofs.ByProtocol.{each_protocol}
+use Rattle.std.specs.List as list
+use Rattle.std.specs.Option.{option_map, unwrap_or}
 
 -- what stands past the table's end
 abbrev nothing : Row
 nothing = record { state = 0; agency = Nobody; kind = 0; flag = 0; next = 0 }
 
--- the two searches along the rows: for where a message leads, and for who may send
-module _ (s k f : ℕ) where
-  pub each_next : (r : Row) (rs : List Row) → next_in s k f (r ∷ rs) ≡ cond (fits s k f r) (To r.next) (next_in s k f rs)
-  unfolding next_in
-  each_next r rs = refl
+-- the two searches along the rows, as searches for the first that passes a test: for where a message leads, and for who may send
+pub first_next : (s k f : ℕ) (rs : List Row) → option_map (λ r. r.next) (list.find (fits s k f) rs) ≡ next_in s k f rs
+unfolding next_in
+first_next s k f [] = refl
+first_next s k f (r ∷ rs) = by_test (fits s k f r) (λ t. rw t) (λ t. rw t (first_next s k f rs))
 
-  abbrev pub leading : Search Row Next
-  leading = record { past = nothing; test = fits s k f; said = λ r. To r.next; along = next_in s k f; each = each_next }
+pub first_agent : (s : ℕ) (rs : List Row) → unwrap_or (option_map (λ r. r.agency) (list.find (λ r. eqb r.state s) rs)) Nobody ≡ agency_in s rs
+unfolding agency_in
+first_agent s [] = refl
+first_agent s (r ∷ rs) = by_test (eqb r.state s) (λ t. rw t) (λ t. rw t (first_agent s rs))
 
-module _ (s : ℕ) where
-  pub each_agent : (r : Row) (rs : List Row) → agency_in s (r ∷ rs) ≡ cond (eqb r.state s) r.agency (agency_in s rs)
-  unfolding agency_in
-  each_agent r rs = refl
+-- agencies, told apart by numbers
+abbrev mark : Agency → ℕ
+mark Initiator = 0
+mark Responder = 8
+mark Nobody = 16
 
-  abbrev pub holding : Search Row Agency
-  holding = record { past = nothing; test = λ r. eqb r.state s; said = λ r. r.agency; along = agency_in s; each = each_agent }
-
--- agencies, told apart by their numbers
 same_agency : Agency → Agency → Bool
 same_agency a b = eqb (mark a) (mark b)
 
@@ -57,45 +57,16 @@ same_agency_lem Nobody Initiator t = absurd t
 same_agency_lem Nobody Responder t = absurd t
 same_agency_lem Nobody Nobody t = refl
 
--- ---- the table's rows are those of document 01, column by column, by tests that antt computes over all rows
-
-abbrev in_table : ℕ → ℕ
-in_table i = get_or (map in_one all_rows) i 0
-
-module _ (i : ℕ) (h : i < row_count) where
-  pub state_at : state_in (in_table i) ≡ (row_at i).state
-  unfolding entries place_in
-  state_at = column all_rows nothing in_one state_in (λ r. r.state) tt i h
-
-  pub agent_at : agent_in (in_table i) ≡ (row_at i).agency
-  unfolding entries place_in same_agency
-  agent_at = same_agency_lem (agent_in (in_table i)) (row_at i).agency (entry all_rows nothing in_one (λ n r. same_agency (agent_in n) r.agency) tt i h)
-
-  kind_at : kind_in (in_table i) ≡ (row_at i).kind
-  unfolding entries place_in
-  kind_at = column all_rows nothing in_one kind_in (λ r. r.kind) tt i h
-
-  flag_at : flag_in (in_table i) ≡ (row_at i).flag
-  unfolding entries place_in
-  flag_at = column all_rows nothing in_one flag_in (λ r. r.flag) tt i h
-
-  pub next_at : leads_in (in_table i) ≡ (row_at i).next
-  unfolding entries place_in
-  next_at = column all_rows nothing in_one leads_in (λ r. r.next) tt i h
-
-  pub suits_at : (s k f : ℕ) → suits s k f (in_table i) ≡ fits s k f (row_at i)
-  suits_at s k f = cc (state_at, kind_at, flag_at)
-
 -- ---- T8, by tests that antt computes over each protocol's rows
 
 -- where a message leads, as a number: one more than the state, or 0
-reached : Next → ℕ
-reached (To n) = suc n
+reached : Option ℕ → ℕ
+reached (Some n) = suc n
 reached None = 0
 
-same_next : (r : Next) (n : ℕ) → T (eqb (reached r) (suc n)) → r ≡ To n
+same_next : (r : Option ℕ) (n : ℕ) → T (eqb (reached r) (suc n)) → r ≡ Some n
 unfolding reached
-same_next (To m) n t = ap To (eqb→eq m n (subst T (eqb-suc-suc m n) t))
+same_next (Some m) n t = ap Some (eqb→eq m n (subst T (eqb-suc-suc m n) t))
 same_next None n t = absurd (subst T (eqb-zero-suc n) t)
 
 module _ (p : Protocol) where
@@ -149,7 +120,7 @@ module _ (p : Protocol) (i : ℕ) (h : i < length (rows_of p)) where
   rest : T (said && low)
   rest = and_right (same_agency (agency_of p r.state) r.agency) (said && low) is_sound
 
-  leads_there : next_of p r.state r.kind r.flag ≡ To r.next
+  leads_there : next_of p r.state r.kind r.flag ≡ Some r.next
   leads_there = same_next (next_of p r.state r.kind r.flag) r.next (and_left said low rest)
 
   last : (r.state < done_of p) × (r.next ≤ done_of p)
@@ -172,11 +143,11 @@ Leads rs s k f n = (i : ℕ) × (i < length rs) × (fits s k f (get_or rs i noth
 later : (r : Row) (rs : List Row) (s k f n : ℕ) → Leads rs s k f n → Leads (r ∷ rs) s k f n
 later r rs s k f n (i, l, t, e) = (suc i, omega arith, t, e)
 
-only : (rs : List Row) (s k f n : ℕ) → next_in s k f rs ≡ To n → Leads rs s k f n
+only : (rs : List Row) (s k f n : ℕ) → next_in s k f rs ≡ Some n → Leads rs s k f n
 unfolding next_in
 only [] s k f n e = absurd (let z : ◌≡◌ {A = ℕ} 0 1 = cc in omega arith)
 only (r ∷ rs) s k f n e =
-    by_test (fits s k f r) (λ t. let q : To r.next ≡ To n = rw t at e in (0, omega arith, t, cc))
+    by_test (fits s k f r) (λ t. let q : Some r.next ≡ Some n = rw t at e in (0, omega arith, t, cc))
     (λ t. later r rs s k f n (only rs s k f n (rw t at e)))
 
 ended : (p : Protocol) → agency_of p (done_of p) ≡ Nobody
@@ -191,7 +162,7 @@ all_talked : (p : Protocol) → T (every [] (λ i d. eqb (reached (talk p 0 d)) 
 unfolding place_in next_in reached talk
 all_talked = each_protocol (λ p. every [] (λ i d. eqb (reached (talk p 0 d)) (suc (done_of p))) 0 (dialogues p)) tt
 
-talked : (p : Protocol) (i : ℕ) → i < length (dialogues p) → talk p 0 (get_or (dialogues p) i []) ≡ To (done_of p)
+talked : (p : Protocol) (i : ℕ) → i < length (dialogues p) → talk p 0 (get_or (dialogues p) i []) ≡ Some (done_of p)
 talked p i h =
     same_next (talk p 0 (get_or (dialogues p) i [])) (done_of p)
     (at [] (λ i d. eqb (reached (talk p 0 d)) (suc (done_of p))) (dialogues p) (all_talked p) i h)

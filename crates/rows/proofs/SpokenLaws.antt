@@ -8,7 +8,8 @@ use lib.Dec.{T, eqb, eqb→eq}
 use lib.ListN.{get_or, take, replicate}
 use Rattle.base.proofs.ListLaws.{get_or-map}
 use Rattle.base.proofs.Table.{every, at}
-use Rattle.wire.specs.Instances.{Instance, initiator, bundles, instances, most}
+use Rattle.wire.specs.declared.instances.Role.TheVariants.{Initiator}
+use Rattle.wire.specs.Instances.{Instance, bundles, instances, most}
 use Rattle.wire.specs.Inside.{numbers}
 use Rattle.wire.proofs.InstanceLaws.{of_instances}
 use Rattle.rows.specs.declared.Protocol.{Protocol}
@@ -36,7 +37,7 @@ lasts = map (λ xs. take most (map last_of xs ++ replicate most 0)) bundles
 lasting : ℕ → ℕ → Instance → Bool
 lasting b i x = eqb (get_or (get_or lasts b []) i 0) (last_of x)
 
-all_lasting : T (every [] (λ b xs. every (record { protocol = 0; role = initiator }) (lasting b) 0 xs) 0 bundles)
+all_lasting : T (every [] (λ b xs. every (record { protocol = 0; role = Initiator }) (lasting b) 0 xs) 0 bundles)
 unfolding lasting lasts place_in
 all_lasting = tt
 

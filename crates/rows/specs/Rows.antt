@@ -1,12 +1,11 @@
 -- Transitions (document 01, "Messages and transitions"; for K1's protocols document 000, 3.11 and 3.12, as docs/DECISIONS.md reads them): the
 -- rows, by the names of their states, and what they say by number.
-use Rattle.std.specs.Prelude.{ℕ, suc, Bool, cond, ◌&&◌, List, [], ◌∷◌, map, eqb}
+use Rattle.std.specs.Prelude.{ℕ, suc, Bool, cond, ◌&&◌, List, [], ◌∷◌, map, eqb, Option, Some, None}
 use Rattle.rows.specs.declared.Protocol.{Protocol}
 use Rattle.rows.specs.declared.Protocol.TheVariants.{Handshake, ChainSync, BlockFetch, TxSubmission, KeepAlive, LocalTxSubmission, LocalStateQuery}
 use Rattle.rows.specs.declared.Agency.{Agency}
 use Rattle.rows.specs.declared.Agency.TheVariants.{Initiator, Responder, Nobody}
-use Rattle.rows.specs.declared.Next.{Next}
-use Rattle.rows.specs.declared.Next.TheVariants.{To, None}
+use Rattle.rows.specs.declared.Row.{Row}
 
 pub data State : Type 0 where
   Propose Confirm Idle CanAwait MustReply Intersect Busy Streaming Init Blocking NonBlocking Txs Client Server Acquiring Acquired Querying Done : State
@@ -110,13 +109,6 @@ abbrev pub done_of : Protocol → ℕ
 done_of p = state_number p Done
 
 -- a row by number
-pub record Row : Type 0 where
-  pub state : ℕ
-  pub agency : Agency
-  pub kind : ℕ
-  pub flag : ℕ
-  pub next : ℕ
-
 abbrev pub row_of : Protocol → Move → Row
 row_of p m = record { state = state_number p m.state; agency = m.agency; kind = m.kind; flag = m.flag; next = state_number p m.next }
 
@@ -128,12 +120,12 @@ rows_of p = map (row_of p) (moves p)
 abbrev pub fits : ℕ → ℕ → ℕ → Row → Bool
 fits s k f r = eqb r.state s && (eqb r.kind k && eqb r.flag f)
 
-unfoldable pub next_in : ℕ → ℕ → ℕ → List Row → Next
+unfoldable pub next_in : ℕ → ℕ → ℕ → List Row → Option ℕ
 next_in s k f [] = None
-next_in s k f (r ∷ rs) = cond (fits s k f r) (To r.next) (next_in s k f rs)
+next_in s k f (r ∷ rs) = cond (fits s k f r) (Some r.next) (next_in s k f rs)
 
 -- where a message leads in a state: no transition outside the rows
-abbrev pub next_of : Protocol → ℕ → ℕ → ℕ → Next
+abbrev pub next_of : Protocol → ℕ → ℕ → ℕ → Option ℕ
 next_of p s k f = next_in s k f (rows_of p)
 
 unfoldable pub agency_in : ℕ → List Row → Agency

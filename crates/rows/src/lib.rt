@@ -6,9 +6,11 @@
 
 pub mod spoken;
 
-ghost use Rattle.std.specs.Prelude.{◌≡◌, ◌<◌, length, get_or};
+ghost use Rattle.std.specs.Prelude.{◌≡◌, ◌&&◌, ◌<◌, nat_eq, length, get_or};
+ghost use Rattle.std.specs.List.{find};
+ghost use Rattle.std.specs.Option.{option_map, unwrap_or};
 ghost use Rattle.rows.specs.Rows.{done_of, rows_of, next_of, agency_of};
-ghost use Rattle.rows.specs.Inside.{place_of, protocols, first_in, count_in, state_in, agent_in, leads_in, suits};
+ghost use Rattle.rows.specs.Inside.{place_of, protocols};
 
 #[derive(Clone, Copy)]
 pub enum Protocol {
@@ -29,104 +31,112 @@ pub enum Agency {
     Nobody,
 }
 
-// Where a message leads.
+// A row: in a state, whose agency it is, the message of a kind leads to the next state. The flag is the value of a message's bool, and 0
+// of a message without one: only RequestTxIds is two messages, told apart by its bool.
 #[derive(Clone, Copy)]
-pub enum Next {
-    To(u64),
-    None,
+pub struct Row {
+    pub state: u64,
+    pub agency: Agency,
+    pub kind: u64,
+    pub flag: u64,
+    pub next: u64,
 }
 
-// A row is one number, the sum of its columns, each of which stays below the unit of the next: the state; whose agency it
-// is, C the initiator's and S the responder's; KIND times the message's kind; TRUE if its bool is true; NEXT times the
-// next state. Only RequestTxIds is two messages, told apart by its bool: the flag is 1 in a row with TRUE, and else 0.
-const C: u16 = 0;
+// C marks initiator agency, S responder agency.
+const C: Agency = Agency::Initiator;
 
-const S: u16 = 8;
+const S: Agency = Agency::Responder;
 
-const KIND: u16 = 16;
+// State, agency and kind, `true` where the message's bool is true, and the next state.
+macro_rules! row {
+    ($state:literal, $agency:ident, $kind:literal, $next:literal) => {
+        Row { state: $state, agency: $agency, kind: $kind, flag: 0, next: $next }
+    };
+    ($state:literal, $agency:ident, $kind:literal, true, $next:literal) => {
+        Row { state: $state, agency: $agency, kind: $kind, flag: 1, next: $next }
+    };
+}
 
-const TRUE: u16 = 256;
+// Handshake: Propose 0, Confirm 1, Done 2
+static HANDSHAKE: [Row; 3] = [
+    row!(0, C, 0, 1), // Propose
+    row!(1, S, 1, 2), // Accept
+    row!(1, S, 2, 2), // Refuse
+];
 
-const NEXT: u16 = 512;
+// Chain-Sync: Idle 0, CanAwait 1, MustReply 2, Intersect 3, Done 4
+static CHAIN_SYNC: [Row; 10] = [
+    row!(0, C, 0, 1), // RequestNext
+    row!(0, C, 4, 3), // FindIntersect
+    row!(0, C, 7, 4), // Done
+    row!(1, S, 1, 2), // AwaitReply
+    row!(1, S, 2, 0), // RollForward
+    row!(1, S, 3, 0), // RollBackward
+    row!(2, S, 2, 0), // RollForward
+    row!(2, S, 3, 0), // RollBackward
+    row!(3, S, 5, 0), // IntersectFound
+    row!(3, S, 6, 0), // IntersectNotFound
+];
 
-const ROW_COUNT: usize = 44;
+// Block-Fetch: Idle 0, Busy 1, Streaming 2, Done 3
+static BLOCK_FETCH: [Row; 6] = [
+    row!(0, C, 0, 1), // RequestRange
+    row!(0, C, 1, 3), // ClientDone
+    row!(1, S, 2, 2), // StartBatch
+    row!(1, S, 3, 0), // NoBlocks
+    row!(2, S, 4, 2), // Block
+    row!(2, S, 5, 0), // BatchDone
+];
 
-const ROWS: [u16; ROW_COUNT] = [
-    // Handshake: Propose 0, Confirm 1, Done 2
-    0 + C + KIND * 0 + NEXT * 1, // Propose
-    1 + S + KIND * 1 + NEXT * 2, // Accept
-    1 + S + KIND * 2 + NEXT * 2, // Refuse
-    // Chain-Sync: Idle 0, CanAwait 1, MustReply 2, Intersect 3, Done 4
-    0 + C + KIND * 0 + NEXT * 1, // RequestNext
-    0 + C + KIND * 4 + NEXT * 3, // FindIntersect
-    0 + C + KIND * 7 + NEXT * 4, // Done
-    1 + S + KIND * 1 + NEXT * 2, // AwaitReply
-    1 + S + KIND * 2 + NEXT * 0, // RollForward
-    1 + S + KIND * 3 + NEXT * 0, // RollBackward
-    2 + S + KIND * 2 + NEXT * 0, // RollForward
-    2 + S + KIND * 3 + NEXT * 0, // RollBackward
-    3 + S + KIND * 5 + NEXT * 0, // IntersectFound
-    3 + S + KIND * 6 + NEXT * 0, // IntersectNotFound
-    // Block-Fetch: Idle 0, Busy 1, Streaming 2, Done 3
-    0 + C + KIND * 0 + NEXT * 1, // RequestRange
-    0 + C + KIND * 1 + NEXT * 3, // ClientDone
-    1 + S + KIND * 2 + NEXT * 2, // StartBatch
-    1 + S + KIND * 3 + NEXT * 0, // NoBlocks
-    2 + S + KIND * 4 + NEXT * 2, // Block
-    2 + S + KIND * 5 + NEXT * 0, // BatchDone
-    // TxSubmission: Init 0, Idle 1, Blocking 2, NonBlocking 3, Txs 4, Done 5
-    0 + C + KIND * 6 + NEXT * 1, // Init
-    1 + S + KIND * 0 + TRUE + NEXT * 2, // RequestTxIds, blocking
-    1 + S + KIND * 0 + NEXT * 3, // RequestTxIds, not blocking
-    1 + S + KIND * 2 + NEXT * 4, // RequestTxs
-    2 + C + KIND * 1 + NEXT * 1, // ReplyTxIds
-    2 + C + KIND * 4 + NEXT * 5, // Done
-    3 + C + KIND * 1 + NEXT * 1, // ReplyTxIds
-    4 + C + KIND * 3 + NEXT * 1, // ReplyTxs
-    // Keep-alive: Client 0, Server 1, Done 2
-    0 + C + KIND * 0 + NEXT * 1, // KeepAlive
-    0 + C + KIND * 2 + NEXT * 2, // Done
-    1 + S + KIND * 1 + NEXT * 0, // Response
-    // Local TxSubmission: Idle 0, Busy 1, Done 2
-    0 + C + KIND * 0 + NEXT * 1, // Submit
-    0 + C + KIND * 3 + NEXT * 2, // Done
-    1 + S + KIND * 1 + NEXT * 0, // Accept
-    1 + S + KIND * 2 + NEXT * 0, // Reject
-    // Local State Query: Idle 0, Acquiring 1, Acquired 2, Querying 3, Done 4
-    0 + C + KIND * 0 + NEXT * 1, // Acquire
-    0 + C + KIND * 8 + NEXT * 1, // Acquire of no item
-    0 + C + KIND * 7 + NEXT * 4, // Done
-    1 + S + KIND * 1 + NEXT * 2, // Acquired
-    1 + S + KIND * 2 + NEXT * 0, // Failure
-    2 + C + KIND * 3 + NEXT * 3, // Query
-    2 + C + KIND * 6 + NEXT * 1, // ReAcquire
-    2 + C + KIND * 9 + NEXT * 1, // ReAcquire of no item
-    2 + C + KIND * 5 + NEXT * 0, // Release
-    3 + S + KIND * 4 + NEXT * 2, // Result
+// TxSubmission: Init 0, Idle 1, Blocking 2, NonBlocking 3, Txs 4, Done 5
+static TX_SUBMISSION: [Row; 8] = [
+    row!(0, C, 6, 1), // Init
+    row!(1, S, 0, true, 2), // RequestTxIds, blocking
+    row!(1, S, 0, 3), // RequestTxIds, not blocking
+    row!(1, S, 2, 4), // RequestTxs
+    row!(2, C, 1, 1), // ReplyTxIds
+    row!(2, C, 4, 5), // Done
+    row!(3, C, 1, 1), // ReplyTxIds
+    row!(4, C, 3, 1), // ReplyTxs
+];
+
+// Keep-alive: Client 0, Server 1, Done 2
+static KEEP_ALIVE: [Row; 3] = [
+    row!(0, C, 0, 1), // KeepAlive
+    row!(0, C, 2, 2), // Done
+    row!(1, S, 1, 0), // Response
+];
+
+// Local TxSubmission: Idle 0, Busy 1, Done 2
+static LOCAL_TX_SUBMISSION: [Row; 4] = [
+    row!(0, C, 0, 1), // Submit
+    row!(0, C, 3, 2), // Done
+    row!(1, S, 1, 0), // Accept
+    row!(1, S, 2, 0), // Reject
+];
+
+// Local State Query: Idle 0, Acquiring 1, Acquired 2, Querying 3, Done 4
+static LOCAL_STATE_QUERY: [Row; 10] = [
+    row!(0, C, 0, 1), // Acquire
+    row!(0, C, 8, 1), // Acquire of no item
+    row!(0, C, 7, 4), // Done
+    row!(1, S, 1, 2), // Acquired
+    row!(1, S, 2, 0), // Failure
+    row!(2, C, 3, 3), // Query
+    row!(2, C, 6, 1), // ReAcquire
+    row!(2, C, 9, 1), // ReAcquire of no item
+    row!(2, C, 5, 0), // Release
+    row!(3, S, 4, 2), // Result
 ];
 
 // How many protocols there are.
 pub const PROTOCOLS: usize = 7;
 
-// By protocol: its first row, its number of rows, and its state Done.
-const FIRST: [u8; PROTOCOLS] = [0, 3, 13, 19, 27, 30, 34];
-
-const COUNT: [u8; PROTOCOLS] = [3, 10, 6, 8, 3, 4, 10];
-
-const DONE: [u8; PROTOCOLS] = [2, 4, 3, 5, 2, 2, 4];
-
+// The place of a protocol in a table of one for each.
 fn place(p: Protocol) -> usize
     ensures { (result ≡ place_of p) × (result < length protocols) }
 {
-    match p {
-        Protocol::Handshake => 0,
-        Protocol::ChainSync => 1,
-        Protocol::BlockFetch => 2,
-        Protocol::TxSubmission => 3,
-        Protocol::KeepAlive => 4,
-        Protocol::LocalTxSubmission => 5,
-        Protocol::LocalStateQuery => 6,
-    }
+    p as usize
 }
 
 // A protocol's number in a table of one for each.
@@ -141,84 +151,60 @@ pub fn number_of(table: [u8; PROTOCOLS], p: Protocol) -> usize
 pub fn done(p: Protocol) -> u64
     ensures { result ≡ done_of p }
 {
-    number_of(DONE, p) as u64
-}
-
-fn first(p: Protocol) -> usize
-    ensures { result ≡ first_in rows_of p }
-{
-    number_of(FIRST, p)
-}
-
-fn count(p: Protocol) -> usize
-    ensures { result ≡ count_in rows_of p }
-{
-    number_of(COUNT, p)
-}
-
-// The columns of a row: state, agency, next state.
-fn state_in(row: u16) -> u64
-    ensures { result ≡ state_in row }
-{
-    (row % S) as u64
-}
-
-fn agent_in(row: u16) -> Agency
-    ensures { result ≡ agent_in row }
-{
-    if row % KIND < S {
-        return Agency::Initiator;
+    match p {
+        Protocol::Handshake => 2,
+        Protocol::ChainSync => 4,
+        Protocol::BlockFetch => 3,
+        Protocol::TxSubmission => 5,
+        Protocol::KeepAlive => 2,
+        Protocol::LocalTxSubmission => 2,
+        Protocol::LocalStateQuery => 4,
     }
-    Agency::Responder
 }
 
-fn next_in(row: u16) -> u64
-    ensures { result ≡ leads_in row }
+// A protocol's rows.
+fn rows(p: Protocol) -> &'static [Row]
+    ensures { result.now ≡ rows_of p }
 {
-    (row / NEXT) as u64
+    match p {
+        Protocol::Handshake => &HANDSHAKE,
+        Protocol::ChainSync => &CHAIN_SYNC,
+        Protocol::BlockFetch => &BLOCK_FETCH,
+        Protocol::TxSubmission => &TX_SUBMISSION,
+        Protocol::KeepAlive => &KEEP_ALIVE,
+        Protocol::LocalTxSubmission => &LOCAL_TX_SUBMISSION,
+        Protocol::LocalStateQuery => &LOCAL_STATE_QUERY,
+    }
 }
 
-// Whether a row is that of a message in a state.
-fn is_for(row: u16, state: u64, kind: u64, flag: u64) -> bool
-    ensures { result ≡ suits state kind flag row }
+// Where the first row of a message in a state leads.
+fn next_at(rows: &[Row], state: u64, kind: u64, flag: u64) -> Option<u64>
+    ensures { result ≡ option_map (λ r. r.next) (find (λ r. nat_eq r.state state && (nat_eq r.kind kind && nat_eq r.flag flag)) rows.now) }
 {
-    let message = base::and(
-        (row % TRUE / KIND) as u64 == kind,
-        (row % NEXT / TRUE) as u64 == flag,
-    );
-    base::and(state_in(row) == state, message)
+    rows.iter()
+        .find(|r| r.state == state && (r.kind == kind && r.flag == flag))
+        .map(|r| r.next)
 }
 
-// Where a message leads in a state. The table is made anew wherever it is named: so once, before the search.
-pub fn find(p: Protocol, state: u64, kind: u64, flag: u64) -> Next
+// Whose agency the first row of a state is.
+fn agency_at(rows: &[Row], state: u64) -> Agency
+    ensures { result ≡ unwrap_or (option_map (λ r. r.agency) (find (λ r. nat_eq r.state state) rows.now)) Agency.Nobody }
+{
+    rows.iter()
+        .find(|r| r.state == state)
+        .map_or(Agency::Nobody, |r| r.agency)
+}
+
+// Where a message leads in a state, if it has a row there.
+pub fn find(p: Protocol, state: u64, kind: u64, flag: u64) -> Option<u64>
     ensures { result ≡ next_of p state kind flag }
 {
-    let table = ROWS;
-    let mut i = first(p);
-    let end = i + count(p);
-    while i < end {
-        let row = table[i];
-        if is_for(row, state, kind, flag) {
-            return Next::To(next_in(row));
-        }
-        i += 1;
-    }
-    Next::None
+    next_at(rows(p), state, kind, flag)
 }
 
 // Who may send in a state.
 pub fn agent(p: Protocol, state: u64) -> Agency
     ensures { result ≡ agency_of p state }
 {
-    let table = ROWS;
-    let mut i = first(p);
-    let end = i + count(p);
-    while i < end {
-        let row = table[i];
-        if state_in(row) == state {
-            return agent_in(row);
-        }
-        i += 1;
-    }
-    Agency::Nobody
+    agency_at(rows(p), state)
 }

@@ -6,10 +6,10 @@ ghost use Rattle.rows.specs.Spoken.{speaks};
 ghost use Rattle.rows.specs.Inside.{LastStates};
 
 use crate::Protocol;
-use wire::instances::{BUNDLES, INSTANCES, NUMBERS};
+use wire::instances::{BUNDLES, INSTANCES, NUMBERS, known};
 
 // By protocol number on the wire. No instance has 1.
-const SPOKEN: [Protocol; NUMBERS] = [
+static SPOKEN: [Protocol; NUMBERS] = [
     Protocol::Handshake,
     Protocol::Handshake,
     Protocol::ChainSync,
@@ -22,20 +22,23 @@ const SPOKEN: [Protocol; NUMBERS] = [
 ];
 
 // By bundle and instance: the state Done of its protocol; 0 where there is no instance.
-const LAST: [[u8; INSTANCES]; BUNDLES] = [[2, 4, 4, 3, 3, 5, 5, 2, 2], [2, 4, 2, 4, 0, 0, 0, 0, 0]];
+static LAST: [[u8; INSTANCES]; BUNDLES] = [
+    [2, 4, 4, 3, 3, 5, 5, 2, 2],
+    [2, 4, 2, 4, 0, 0, 0, 0, 0],
+];
 
 pub fn protocol(bundle: u64, i: usize) -> Protocol
     requires { i < instances bundle }
     ensures { result ≡ speaks bundle i }
 {
-    SPOKEN[wire::instances::protocol(bundle, i) as usize]
+    SPOKEN[usize::from(wire::instances::protocol(bundle, i))]
 }
 
 // By instance, the state that its protocol ends in, which is its last by number. An unknown bundle has no instance.
 pub fn last_states(bundle: u64) -> [u8; INSTANCES]
     ensures { LastStates bundle result }
 {
-    if BUNDLES as u64 <= bundle {
+    if !known(bundle) {
         return [0; INSTANCES];
     }
     LAST[bundle as usize]
@@ -46,6 +49,5 @@ pub fn done(bundle: u64, i: usize) -> u64
     requires { i < instances bundle }
     ensures { result ≡ done_of (speaks bundle i) }
 {
-    let last = last_states(bundle);
-    last[i] as u64
+    u64::from(last_states(bundle)[i])
 }

@@ -15,8 +15,7 @@ use Rattle.base.proofs.Conds.{by_test, cond_cases, exactly_when}
 use Rattle.wire.specs.Segments.{header_length}
 use Rattle.wire.specs.Instances.{instances}
 use Rattle.wire.proofs.InstanceLaws.{at_most}
-use Rattle.ready.specs.declared.Choice.{Choice}
-use Rattle.ready.specs.declared.Choice.TheVariants.{Instance, Nobody}
+use Rattle.std.specs.Prelude.{Option, Some, None}
 use Rattle.ready.proofs.ReadyLaws.{nobody_waits, chosen_waits, after_low}
 use Rattle.connection.specs.declared.Connection.{Connection}
 use Rattle.connection.specs.declared.Sending.{Sending}
@@ -43,7 +42,7 @@ pub counts_at : (c : Connection) (i : ℕ) → i < instances c.settings.party.bu
 counts_at c i h = get_or-take (instances c.settings.party.bundle) c.sending.waiting i 0 h
 
 -- whoever is chosen is an instance with bytes waiting
-pub chosen_waiting : (c : Connection) → Shaped c → (i : ℕ) → chosen_of c ≡ Instance i
+pub chosen_waiting : (c : Connection) → Shaped c → (i : ℕ) → chosen_of c ≡ Some i
     → (i < instances c.settings.party.bundle) × (0 < get_or c.sending.waiting i 0)
 chosen_waiting c s i e =
     let p = chosen_waits (counts c) c.sending.turn i e in
@@ -54,7 +53,7 @@ module _ (c : Connection) (store : List ℕ) (time : ℕ) (buf : List ℕ) where
   abbrev out : Told
   out = next_of c store time buf
 
-  abbrev who : Choice
+  abbrev who : Option ℕ
   who = chosen_of c
 
   abbrev Refuses : ℕ → Type 0
@@ -66,17 +65,17 @@ module _ (c : Connection) (store : List ℕ) (time : ℕ) (buf : List ℕ) where
 
   -- ---- what is answered where nobody is chosen, and where somebody is
 
-  o4 : Unclosed c store → who ≡ Nobody → Refuses 4
-  o4 (r, o) w = next_served c store time buf r o Nobody (sym w)
+  o4 : Unclosed c store → who ≡ None → Refuses 4
+  o4 (r, o) w = next_served c store time buf r o None (sym w)
 
-  o18 : Unclosed c store → (i : ℕ) → who ≡ Instance i → length buf < header_length + much c i → Refuses 18
-  o18 (r, o) i w l = serve_short c store time buf i (much c i) refl l ∙ next_served c store time buf r o (Instance i) (sym w)
+  o18 : Unclosed c store → (i : ℕ) → who ≡ Some i → length buf < header_length + much c i → Refuses 18
+  o18 (r, o) i w l = serve_short c store time buf i (much c i) refl l ∙ next_served c store time buf r o (Some i) (sym w)
 
-  o0 : Unclosed c store → (i : ℕ) → who ≡ Instance i → header_length + much c i ≤ length buf → Serves i
-  o0 (r, o) i w l = serve_all c store time buf i l ∙ next_served c store time buf r o (Instance i) (sym w)
+  o0 : Unclosed c store → (i : ℕ) → who ≡ Some i → header_length + much c i ≤ length buf → Serves i
+  o0 (r, o) i w l = serve_all c store time buf i l ∙ next_served c store time buf r o (Some i) (sym w)
 
   -- every queue is empty exactly where nobody is chosen
-  idle : Shaped c → Unclosed c store → (who ≡ Nobody) ↔ ((i : ℕ) → i < instances c.settings.party.bundle → get_or c.sending.waiting i 0 ≡ 0)
+  idle : Shaped c → Unclosed c store → (who ≡ None) ↔ ((i : ℕ) → i < instances c.settings.party.bundle → get_or c.sending.waiting i 0 ≡ 0)
   idle s u =
       let t = (ranged c (sends_both c (length store) u.0).0).turn in
       let none = nobody_waits (counts c) c.sending.turn t.0 (rw (counts_long c s) t.1) in (
@@ -87,11 +86,11 @@ module _ (c : Connection) (store : List ℕ) (time : ℕ) (buf : List ℕ) where
   -- the ways of a call: a refusal or a notice, with its "when"; or a segment
   pub data Way : Type 0 where
     stays : (n : ℕ) → n ≢ 0 → (n ≡ 23 → sends c (length store) ≡ false) → (Shaped c → When c store buf n) → Refuses n → Way
-    gone : (i : ℕ) → Unclosed c store → who ≡ Instance i → header_length + much c i ≤ length buf → Serves i → Way
+    gone : (i : ℕ) → Unclosed c store → who ≡ Some i → header_length + much c i ≤ length buf → Serves i → Way
 
-  by_who : Unclosed c store → (x : Choice) → who ≡ x → Way
-  by_who u Nobody e = stays 4 (λ z. omega arith) (λ z. absurd (omega arith)) (λ s. all_empty u ((idle s u).0 e)) (o4 u e)
-  by_who u (Instance i) e =
+  by_who : Unclosed c store → (x : Option ℕ) → who ≡ x → Way
+  by_who u None e = stays 4 (λ z. omega arith) (λ z. absurd (omega arith)) (λ s. all_empty u ((idle s u).0 e)) (o4 u e)
+  by_who u (Some i) e =
       by_test (ltb (length buf) (header_length + much c i))
       (λ t.
       let l = ltb-true (length buf) (header_length + much c i) t in

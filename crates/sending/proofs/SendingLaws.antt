@@ -19,8 +19,7 @@ use Rattle.wire.specs.Instances.{instances, mode_of, protocol_of}
 use Rattle.wire.proofs.InstanceLaws.{mode_low, protocol_low}
 use Rattle.ready.specs.Ready.{word_of, chosen, turn_after}
 use Rattle.ready.specs.Inside.{chosen_in}
-use Rattle.ready.specs.declared.Choice.{Choice}
-use Rattle.ready.specs.declared.Choice.TheVariants.{Instance, Nobody}
+use Rattle.std.specs.Prelude.{Option, Some, None}
 use Rattle.ready.proofs.ReadyLaws.{Low, chosen_word, chosen_low}
 use Rattle.connection.specs.declared.Connection.{Connection}
 use Rattle.connection.specs.Areas.{starts_past, counts_less}
@@ -96,13 +95,13 @@ module _ (c : Connection) (store : List ℕ) (time : ℕ) (buf : List ℕ) where
     unfolding next_of
     next_closed o = rw (r, o)
 
-    pub next_served : is_open c.gate ≡ true → (x : Choice) → x ≡ chosen_of c
+    pub next_served : is_open c.gate ≡ true → (x : Option ℕ) → x ≡ chosen_of c
         → by_choice c store time buf x ≡ next_of c store time buf
     unfolding next_of
     next_served o x e = rw (r, o, e)
 
 -- whoever the word chooses is whom the counts choose, and an instance
-pub by_word : (c : Connection) (n word : ℕ) (x : Choice) → in_range c ≡ true → n ≡ instances c.settings.party.bundle
+pub by_word : (c : Connection) (n word : ℕ) (x : Option ℕ) → in_range c ≡ true → n ≡ instances c.settings.party.bundle
     → length (take n c.sending.waiting) ≡ n → word ≡ word_of (take n c.sending.waiting)
     → x ≡ chosen_in n word c.sending.turn → x ≡ chosen_of c
 by_word c n word x r many long w e =
@@ -113,12 +112,12 @@ by_word c n word x r many long w e =
     ∙ chosen_word ws c.sending.turn (omega arith) (omega arith)
     ∙ ap (λ (m : ℕ). chosen (take m c.sending.waiting) c.sending.turn) many
 
-pub is_chosen : (c : Connection) (store : List ℕ) (n word : ℕ) (x : Choice) → sends c (length store) ≡ true → n ≡ instances c.settings.party.bundle
+pub is_chosen : (c : Connection) (store : List ℕ) (n word : ℕ) (x : Option ℕ) → sends c (length store) ≡ true → n ≡ instances c.settings.party.bundle
     → x ≡ chosen_in n word c.sending.turn → Chosen c store x
 is_chosen c store n word x r many e =
     let t = (ranged c (sends_both c (length store) r).0).turn in
     of x (subst (Low n) (sym e) (chosen_low n word c.sending.turn (omega arith) (omega arith)))
   where
-    of : (x : Choice) → Low n x → Chosen c store x
-    of Nobody l = tt
-    of (Instance i) l = (r, omega arith)
+    of : (x : Option ℕ) → Low n x → Chosen c store x
+    of None l = tt
+    of (Some i) l = (r, omega arith)

@@ -6,8 +6,7 @@ use Rattle.wire.specs.declared.instances.Party.{Party}
 use Rattle.wire.specs.Segments.{header_length, encoded}
 use Rattle.wire.specs.Instances.{instances, protocol_of, mode_of}
 use Rattle.ready.specs.Ready.{chosen, turn_after}
-use Rattle.ready.specs.declared.Choice.{Choice}
-use Rattle.ready.specs.declared.Choice.TheVariants.{Instance, Nobody}
+use Rattle.std.specs.Prelude.{Option, Some, None}
 use Rattle.connection.specs.declared.Sending.{Sending}
 use Rattle.connection.specs.declared.Connection.{Connection}
 use Rattle.connection.specs.Closings.{is_open}
@@ -57,12 +56,12 @@ serve c store time buf i =
     (told (record { number = 0; len = header_length + much c i; connection = with_sending c (sent_of us.bundle c.sending c.settings.send i (much c i)) })
     (sets buf 0 (encoded (headed us time i (much c i)) ++ payload_of c store i)))
 
-abbrev pub by_choice : Connection → List ℕ → ℕ → List ℕ → Choice → Told
-by_choice c store time buf Nobody = told (refused c 4) buf
-by_choice c store time buf (Instance i) = serve c store time buf i
+abbrev pub by_choice : Connection → List ℕ → ℕ → List ℕ → Option ℕ → Told
+by_choice c store time buf None = told (refused c 4) buf
+by_choice c store time buf (Some i) = serve c store time buf i
 
 -- who is served: of the bundle's instances, by the bytes waiting and the turn
-abbrev pub chosen_of : Connection → Choice
+abbrev pub chosen_of : Connection → Option ℕ
 chosen_of c = chosen (take (instances c.settings.party.bundle) c.sending.waiting) c.sending.turn
 
 unfoldable pub next_of : Connection → List ℕ → ℕ → List ℕ → Told

@@ -9,12 +9,11 @@ ghost use Rattle.wire.specs.Segments.{header_length, encoded};
 ghost use Rattle.wire.specs.Instances.{instances};
 ghost use Rattle.sending.specs.NextSegment.{told, refused, headed, next_of};
 
-use base::smaller;
 use connection::areas::{leave, read};
 use connection::closings::is_open;
 use connection::{Connection, Sending};
-use range::{Marks, in_range};
-use ready::{Choice, turn_after};
+use range::sends;
+use ready::{choose, turn_after, word};
 use wire::instances::{Party, count};
 use wire::segment::{HEADER, Segment};
 
@@ -52,72 +51,42 @@ fn put_header(buf: &mut [u8], party: Party, time: u32, i: usize, n: usize)
 }
 
 // Makes the next segment at the front of the lent buffer: 23, 20, notice 4, 18, and else the smaller of S and the bytes
-// waiting of whoever is chosen. The caller gives the time. The record is taken apart once, and put together once.
+// waiting of whoever is chosen. The caller gives the time.
 pub fn next_segment(c: Connection, store: &[u8], time: u32, buf: &mut [u8]) -> Made
     ensures { told result buf.new ≡ next_of c store.now time buf.old }
 {
-    let s = c.settings;
-    let r = c.receiving;
-    let w = c.sending;
-    let t = c.talk;
-    let gate = c.gate;
-    let party = s.party;
-    let header = r.header;
-    let marks = Marks {
-        limit: s.limit,
-        turn: w.turn,
-        bytes: header.count,
-        instance: r.instance,
-        rest: r.rest,
-        accepted: t.accepted,
-        gate,
-    };
-    let range = in_range(
-        party.bundle,
-        &s.receive,
-        &r.starts,
-        &r.held,
-        &s.send,
-        &w.starts,
-        &w.waiting,
-        &t.states,
-        marks,
-    );
-    if !base::and(range.ok, store.len() as u64 == range.send) {
+    if !sends(&c, store.len()) {
         return refused(c, 23);
     }
-    if !is_open(gate) {
+    if !is_open(c.gate) {
         return refused(c, 20);
     }
+    let party = c.settings.party;
     let many = count(party.bundle);
-    let mut waiting = w.waiting;
-    let choice = ready::choose(many, ready::word(waiting, many), w.turn as usize);
-    let Choice::Instance(i) = choice else {
+    let turn = c.sending.turn;
+    let mut waiting = c.sending.waiting;
+    let Some(i) = choose(many, word(waiting, many), turn as usize) else {
         return refused(c, 4);
     };
-    let n = smaller(s.limit as usize, waiting[i] as usize);
+    let n = (c.settings.limit as usize).min(waiting[i] as usize);
     let len = HEADER + n;
     if buf.len() < len {
         return refused(c, 18);
     }
     put_header(buf, party, time, i, n);
-    let mut starts = w.starts;
-    read(buf, HEADER, store, &s.send, i, starts[i], n);
-    leave(&s.send, &mut starts, &mut waiting, i, n as u64);
-    let sending = Sending {
-        starts,
-        waiting,
-        turn: turn_after(many, i, w.turn),
-    };
+    let mut starts = c.sending.starts;
+    read(buf, HEADER, store, &c.settings.send, i, starts[i], n);
+    leave(&c.settings.send, &mut starts, &mut waiting, i, n as u64);
     Made {
         number: 0,
         len,
         connection: Connection {
-            settings: s,
-            receiving: r,
-            sending,
-            talk: t,
-            gate,
+            sending: Sending {
+                starts,
+                waiting,
+                turn: turn_after(many, i, turn),
+            },
+            ..c
         },
     }
 }

@@ -7,23 +7,24 @@ use Prim.Native.Nat.{ℕ, zero, suc, ◌+◌, ◌-◌, ◌*◌, ◌/◌, ◌%◌
 use native.Mathlib.Nat.{add-zero, suc-mul, mul-le-mul_right, mul-add-div_right, mul-add-mod_self_right, div-eq_of_lt, mod-eq_of_lt}
 use native.Mathlib.Omega.{arith}
 use lib.Dec.{T, eqb, ltb, leb, ltb→lt, leb→le}
-use lib.ListN.{length, get_or, get_or-eq_default}
+use lib.ListN.{length, get_or, get_or-eq_default, length-map}
 use borrow.Author.Tests.{eqb-true, eqb-false, ltb-true, ltb-false}
 use Rattle.base.specs.Below.{all_below}
 use Rattle.base.proofs.Conds.{by_test, cond_cases, is, and_left, and_right}
 use Rattle.base.proofs.ListLaws.{get_or-map}
 use Rattle.base.proofs.Table.{every, at}
-use Rattle.wire.specs.declared.instances.Side.{Side}
 use Rattle.wire.specs.declared.instances.Side.TheVariants.{Dialler}
 use Rattle.wire.specs.declared.instances.Party.{Party}
-use Rattle.wire.specs.declared.instances.Route.{Route}
-use Rattle.wire.specs.declared.instances.Route.TheVariants.{Unknown, Wrong, To}
-use Rattle.wire.specs.Instances.{Instance, Role, initiator, responder, of_side, sided, bundles, known, bundle_of, instances, most, role_of, protocol_of, mode_of, mode_from, initiates, route_of}
+use Rattle.wire.specs.declared.instances.RouteError.TheVariants.{Unknown, Wrong}
+use Rattle.wire.specs.declared.instances.Role.{Role}
+use Rattle.wire.specs.declared.instances.Role.TheVariants.{Initiator}
+use Rattle.std.specs.Prelude.{Option, Some, None, Ok, Err}
+use Rattle.wire.specs.Instances.{Instance, Route, sided, bundles, known, bundle_of, instances, most, role_of, protocol_of, mode_of, mode_from, initiates, route_of}
 use Rattle.wire.specs.Inside.{Within}
 use Rattle.wire.specs.Besides.Instances.{pair_of}
 use Rattle.wire.specs.Instances as instances
 use Rattle.wire.specs.Besides.Routes.{passing, well_formed, OneWay}
-use Rattle.wire.specs.Inside.{numbers, mark_of, by_mode}
+use Rattle.wire.specs.Inside.{numbers, pair, by_mode}
 use Rattle.wire.proofs.RouteLaws.{nobody, fixed_role, to_low, wrong_low, any_bundle}
 
 -- ---- the bundles
@@ -96,15 +97,15 @@ one_way us = any_bundle (bundle_of us.bundle) (well_formed_lem us.bundle) us.sid
 -- a route leads to an instance, if to any
 within_at : (us : Party) (p m : ℕ) (r : Route) → route_of us p m ≡ r → Within us.bundle r
 unfolding route_of instances
-within_at us p m Unknown e = tt
-within_at us p m (Wrong i) e = wrong_low (bundle_of us.bundle) us.side p m i e
-within_at us p m (To i) e = to_low (bundle_of us.bundle) us.side p m i e
+within_at us p m (Err Unknown) e = tt
+within_at us p m (Err (Wrong i)) e = wrong_low (bundle_of us.bundle) us.side p m i e
+within_at us p m (Ok i) e = to_low (bundle_of us.bundle) us.side p m i e
 
 pub route_within : (us : Party) (p m : ℕ) → Within us.bundle (route_of us p m)
 route_within us p m = within_at us p m (route_of us p m) refl
 
 -- an unknown bundle knows no number
-pub no_bundle : (us : Party) (p m : ℕ) → length bundles ≤ us.bundle → Unknown ≡ route_of us p m
+pub no_bundle : (us : Party) (p m : ℕ) → length bundles ≤ us.bundle → Err Unknown ≡ route_of us p m
 no_bundle us p m h = sym (((one_way us).unknown p m).1 (λ i l q. omega (arith, none_unknown us.bundle h)))
 
 -- every protocol number of a bundle has a row
@@ -120,7 +121,7 @@ unfolding numbered
 protocol_row b i h = ltb→lt (protocol_of b i) numbers (of_instances numbered all_numbered b i h)
 
 -- a number past the table is unknown
-pub past : (us : Party) (p m : ℕ) → numbers ≤ p → Unknown ≡ route_of us p m
+pub past : (us : Party) (p m : ℕ) → numbers ≤ p → Err Unknown ≡ route_of us p m
 past us p m h = sym (((one_way us).unknown p m).1 (λ i l q. omega (arith, protocol_row us.bundle i l)))
 
 -- ---- the tables of the code
@@ -149,51 +150,38 @@ by_bundle_lem w f d b i here h =
     let in_all : b * w + i < length bundles * w = omega (arith, mul-le-mul_right w here, suc-mul b w) in
     in_table (λ k. f (k / w) (k % w)) d 0 (length bundles * w) (b * w + i) in_all ∙ rw (k, q, r)
 
--- how many instances, which protocol number, which role, and which instance by number and mode
-abbrev pub counts : List ℕ
-counts = map (λ (xs : List Instance). length xs) bundles
+-- a bundle's instances, as a table has them
+module _ (b : ℕ) {table : List (ℕ × Role)} (e : table ≡ map pair (bundle_of b)) where
+  pub pairs_long : length table ≡ instances b
+  unfolding instances
+  pairs_long = rw e (simp length-map)
 
-pub count_right : (b : ℕ) → b < length bundles → get_or counts b 0 ≡ instances b
-unfolding instances bundle_of
-count_right b h = get_or-map (λ (xs : List Instance). length xs) bundles b [] 0 h
-
-abbrev pub protocols : List ℕ
-protocols = by_bundle most protocol_of
-
-pub protocol_right : (b i : ℕ) → i < instances b → get_or protocols (b * most + i) 0 ≡ protocol_of b i
-protocol_right b i h = by_bundle_lem most protocol_of 0 b i (known_some b i h) (omega (arith, at_most b))
-
-abbrev mark : ℕ → ℕ → ℕ
-mark b i = mark_of (role_of b i)
-
-abbrev pub roles : List ℕ
-roles = by_bundle most mark
-
-pub role_right : (b i : ℕ) → i < instances b → get_or roles (b * most + i) 0 ≡ mark_of (role_of b i)
-role_right b i h = by_bundle_lem most mark 0 b i (known_some b i h) (omega (arith, at_most b))
+  pub pair_at : (i : ℕ) → i < instances b → get_or table i (0, Initiator) ≡ pair (instances.at b i)
+  unfolding instances
+  pair_at i h = rw e (get_or-map pair (bundle_of b) i nobody (0, Initiator) h)
 
 -- the instance that a route names, if any
-unfoldable pub named : Route → ℕ
-named Unknown = 255
-named (Wrong i) = i
-named (To i) = i
+unfoldable pub named : Route → Option ℕ
+named (Err Unknown) = None
+named (Err (Wrong i)) = Some i
+named (Ok i) = Some i
 
 -- our end of a bundle as its dialler, whose routes the table is made of: the accepter's name the same instances
 abbrev dialler : ℕ → Party
 dialler b = record { bundle = b; side = Dialler }
 
-unfoldable pub entry : ℕ → ℕ → ℕ → ℕ
+unfoldable pub entry : ℕ → ℕ → ℕ → Option ℕ
 entry b p m = named (route_of (dialler b) p m)
 
-abbrev row : ℕ → ℕ → List ℕ
+abbrev row : ℕ → ℕ → List (Option ℕ)
 row b p = entry b p 0 ∷ entry b p 1 ∷ []
 
-abbrev pub routes : List (List ℕ)
+abbrev pub routes : List (List (Option ℕ))
 routes = by_bundle numbers row
 
-pub route_right : (b p m : ℕ) → b < length bundles → p < numbers → m < 2 → get_or (get_or routes (b * numbers + p) []) m 0 ≡ entry b p m
-route_right b p zero here low two = ap (λ (r : List ℕ). get_or r 0 0) (by_bundle_lem numbers row [] b p here low)
-route_right b p (suc zero) here low two = ap (λ (r : List ℕ). get_or r 1 0) (by_bundle_lem numbers row [] b p here low)
+pub route_right : (b p m : ℕ) → b < length bundles → p < numbers → m < 2 → get_or (get_or routes (b * numbers + p) []) m None ≡ entry b p m
+route_right b p zero here low two = ap (λ (r : List (Option ℕ)). get_or r 0 None) (by_bundle_lem numbers row [] b p here low)
+route_right b p (suc zero) here low two = ap (λ (r : List (Option ℕ)). get_or r 1 None) (by_bundle_lem numbers row [] b p here low)
 route_right b p (suc (suc m)) here low two = absurd (omega arith)
 
 -- ---- the table of routes
@@ -218,47 +206,26 @@ module _ (us : Party) (p m : ℕ) (two : m < 2) where
       (λ t. let em : m ≡ 1 - mode_of us i = omega (arith, eqb-false m (mode_of us i) t) in rw (ep, em) (sym ((one_way us).reached i l)))
 
   -- so the instance that the dialler's route names is that of ours
-  abbrev Decided : ℕ → Type 0
-  Decided e = (e ≡ 255 → Unknown ≡ route_of us p m) × ((e ≡ 255 → ⊥) → (e < instances b) × (by_mode us m e ≡ route_of us p m))
+  abbrev Decided : Option ℕ → Type 0
+  Decided e = (e ≡ None → Err Unknown ≡ route_of us p m) × ((i : ℕ) → e ≡ Some i → (i < instances b) × (by_mode us m i ≡ route_of us p m))
 
   named_decides : (r : Route) → route_of (dialler b) p m ≡ r → Decided (named r)
   unfolding named
-  named_decides Unknown e = (λ q. sym (((one_way us).unknown p m).1 (((one_way (dialler b)).unknown p m).0 e)), λ n. absurd (n refl))
-  named_decides (Wrong i) e =
+  named_decides (Err Unknown) e = (λ q. sym (((one_way us).unknown p m).1 (((one_way (dialler b)).unknown p m).0 e)), λ j n. cc)
+  named_decides (Err (Wrong i)) e =
       let (l, s, ep, em) = ((one_way (dialler b)).wrong p m i two).0 e in
-      (λ q. absurd (omega (arith, at_most b)), λ n. (l, mode_decides i l ep (λ f. absurd (true≢false (sym s ∙ f)))))
-  named_decides (To i) e =
-      let l : i < instances b = within_at (dialler b) p m (To i) e in
+      (λ q. cc, λ j n. let same : i ≡ j = cc in rw (← same) (l, mode_decides i l ep (λ f. absurd (true≢false (sym s ∙ f)))))
+  named_decides (Ok i) e =
+      let l : i < instances b = within_at (dialler b) p m (Ok i) e in
       let (ep, em) = (one_way (dialler b)).only p m i e in
       let taken : sided (role_of b i) ≡ false → m ≡ 1 - mode_of us i =
       λ f. em ∙ ap (λ (t : Bool). 1 - mode_from t) (fixed_role Dialler us.side (role_of b i) f) in
-      (λ q. absurd (omega (arith, at_most b)), λ n. (l, mode_decides i l ep taken))
+      (λ q. cc, λ j n. let same : i ≡ j = cc in rw (← same) (l, mode_decides i l ep taken))
 
   -- what the code finds in its table
-  pub decided : (here : b < length bundles) (low : p < numbers) → Decided (get_or (get_or routes (b * numbers + p) []) m 0)
+  pub decided : (here : b < length bundles) (low : p < numbers) → Decided (get_or (get_or routes (b * numbers + p) []) m None)
   unfolding entry
   decided here low = rw (route_right b p m here low two) (named_decides (route_of (dialler b) p m) refl)
-
--- ---- roles
-
--- what the number of a role says
-pub role_sided : (r : Role) → eqb (mark_of r) 2 ≡ sided r
-unfolding mark_of
-role_sided initiator = refl
-role_sided responder = refl
-role_sided of_side = refl
-
-pub role_mode : (side : Side) (r : Role) → (mark_of r ≡ 2 → ⊥) → mark_of r ≡ mode_from (initiates side r)
-unfolding mark_of
-role_mode side initiator n = refl
-role_mode side responder n = refl
-role_mode side of_side n = absurd (n refl)
-
-pub role_side : (r : Role) → mark_of r ≡ 2 → r ≡ of_side
-unfolding mark_of
-role_side initiator e = absurd (omega arith)
-role_side responder e = absurd (omega arith)
-role_side of_side e = refl
 
 -- ---- what a header can hold
 

@@ -14,14 +14,17 @@ use borrow.Author.Tests.{eq-eqb, ne_eqb, eqb-true, eqb-false}
 use Rattle.base.proofs.Conds.{by_test, so, and_left, and_right, below_at, both_true}
 use Rattle.wire.specs.declared.instances.Side.{Side}
 use Rattle.wire.specs.declared.instances.Side.TheVariants.{Dialler, Accepter}
-use Rattle.wire.specs.declared.instances.Route.TheVariants.{Unknown, Wrong, To}
-use Rattle.wire.specs.Instances.{Instance, Role, initiator, responder, of_side, sided, instance_in, initiates, mode_from, mode_as, takes, find, or_else, route_in, other}
+use Rattle.wire.specs.declared.instances.RouteError.TheVariants.{Unknown, Wrong}
+use Rattle.wire.specs.declared.instances.Role.{Role}
+use Rattle.wire.specs.declared.instances.Role.TheVariants.{Initiator, Responder, OfSide}
+use Rattle.std.specs.Prelude.{Ok, Err}
+use Rattle.wire.specs.Instances.{Instance, Route, sided, instance_in, initiates, mode_from, mode_as, takes, find, or_else, route_in, other}
 use Rattle.wire.specs.Besides.Instances.{opposite, talks_with, pair_in}
 use Rattle.wire.specs.Besides.Routes.{passing, takes_as, formed_in, well_formed, AnyBundle}
 
 -- what stands past a list's end
 abbrev pub nobody : Instance
-nobody = record { protocol = 0; role = initiator }
+nobody = record { protocol = 0; role = Initiator }
 
 -- ---- the search
 
@@ -101,20 +104,23 @@ module _ {A : Type 0} (f : A → Bool) (d : A) where
 
 -- ---- what a search, and then another, say of a route
 
-wrong_or_unknown : (o : Option ℕ) (i : ℕ) → or_else o Wrong Unknown ≡ To i → ⊥
+abbrev astray : Option ℕ → Route
+astray o = or_else o (λ i. Err (Wrong i)) (Err Unknown)
+
+wrong_or_unknown : (o : Option ℕ) (i : ℕ) → astray o ≡ Ok i → ⊥
 wrong_or_unknown (some j) i e = let z : ◌≡◌ {A = ℕ} 0 1 = cc in omega arith
 wrong_or_unknown none i e = let z : ◌≡◌ {A = ℕ} 0 1 = cc in omega arith
 
-found : (o q : Option ℕ) (i : ℕ) → or_else o To (or_else q Wrong Unknown) ≡ To i → o ≡ some i
+found : (o q : Option ℕ) (i : ℕ) → or_else o Ok (astray q) ≡ Ok i → o ≡ some i
 found (some j) q i e = cc
 found none q i e = absurd (wrong_or_unknown q i e)
 
-known_not : (o q : Option ℕ) → or_else o To (or_else q Wrong Unknown) ≡ Unknown → q ≡ none
+known_not : (o q : Option ℕ) → or_else o Ok (astray q) ≡ Err Unknown → q ≡ none
 known_not (some j) q e = absurd (let z : ◌≡◌ {A = ℕ} 0 1 = cc in omega arith)
 known_not none (some j) e = absurd (let z : ◌≡◌ {A = ℕ} 0 1 = cc in omega arith)
 known_not none none e = refl
 
-wrong_found : (o q : Option ℕ) (i : ℕ) → or_else o To (or_else q Wrong Unknown) ≡ Wrong i → (o ≡ none) × (q ≡ some i)
+wrong_found : (o q : Option ℕ) (i : ℕ) → or_else o Ok (astray q) ≡ Err (Wrong i) → (o ≡ none) × (q ≡ some i)
 wrong_found (some j) q i e = absurd (let z : ◌≡◌ {A = ℕ} 0 1 = cc in omega arith)
 wrong_found none (some j) i e = (refl, cc)
 wrong_found none none i e = absurd (let z : ◌≡◌ {A = ℕ} 0 1 = cc in omega arith)
@@ -149,17 +155,17 @@ takes_own side y = rw (eq-eqb y.protocol y.protocol refl) (takes_mode (initiates
 
 -- a role that is not our side's is the same on both
 pub fixed_role : (a b : Side) (r : Role) → sided r ≡ false → initiates a r ≡ initiates b r
-fixed_role a b initiator e = refl
-fixed_role a b responder e = refl
-fixed_role a b of_side e = absurd (true≢false e)
+fixed_role a b Initiator e = refl
+fixed_role a b Responder e = refl
+fixed_role a b OfSide e = absurd (true≢false e)
 
 -- one that is our side's is, on one side, like any other
 like : (r s : Role) → sided r ≡ true → (side : Side) × (initiates side s ≡ initiates side r)
-like initiator s e = absurd (false≢true e)
-like responder s e = absurd (false≢true e)
-like of_side initiator e = (Dialler, refl)
-like of_side responder e = (Accepter, refl)
-like of_side of_side e = (Dialler, refl)
+like Initiator s e = absurd (false≢true e)
+like Responder s e = absurd (false≢true e)
+like OfSide Initiator e = (Dialler, refl)
+like OfSide Responder e = (Accepter, refl)
+like OfSide OfSide e = (Dialler, refl)
 
 -- of two that talk, each takes the mode that the other sends
 meets : (a b : Bool) → beq a (not b) ≡ true → mode_from a ≡ 1 - mode_from b
@@ -213,35 +219,35 @@ module _ (xs : List Instance) (side : Side) (p m : ℕ) where
   hears = takes side p m
 
   -- a segment goes to i only where i takes it
-  pub only : (i : ℕ) → route_in xs side p m ≡ To i → (p ≡ (x i).protocol) × (m ≡ 1 - mode_as side (x i))
+  pub only : (i : ℕ) → route_in xs side p m ≡ Ok i → (p ≡ (x i).protocol) × (m ≡ 1 - mode_as side (x i))
   only i e = takes_so side p m (x i) (find_at hears nobody xs i (found (find hears 0 xs) (find speaks 0 xs) i e)).1
 
   -- a route leads to an instance, if to any
-  pub to_low : (i : ℕ) → route_in xs side p m ≡ To i → i < length xs
+  pub to_low : (i : ℕ) → route_in xs side p m ≡ Ok i → i < length xs
   to_low i e = (find_at hears nobody xs i (found (find hears 0 xs) (find speaks 0 xs) i e)).0
 
-  pub wrong_low : (i : ℕ) → route_in xs side p m ≡ Wrong i → i < length xs
+  pub wrong_low : (i : ℕ) → route_in xs side p m ≡ Err (Wrong i) → i < length xs
   wrong_low i e = (find_at speaks nobody xs i (wrong_found (find hears 0 xs) (find speaks 0 xs) i e).1).0
 
   -- an unknown number is that of no instance
   abbrev Strange : Type 0
   Strange = (i : ℕ) → i < length xs → p ≡ (x i).protocol → ⊥
 
-  strange : route_in xs side p m ≡ Unknown → Strange
+  strange : route_in xs side p m ≡ Err Unknown → Strange
   strange e i h q =
       let n : find speaks 0 xs ≡ none = known_not (find hears 0 xs) (find speaks 0 xs) e in
       eqb-false (x i).protocol p (find_none_all speaks nobody xs 0 n i h) (sym q)
 
-  nowhere : Strange → route_in xs side p m ≡ Unknown
+  nowhere : Strange → route_in xs side p m ≡ Err Unknown
   nowhere h =
       let no : (j : ℕ) → j < length xs → eqb (x j).protocol p ≡ false = λ j l. ne_eqb (x j).protocol p (λ e. h j l (sym e)) in
       rw (find_none hears nobody xs 0 (λ j l. rw (no j l)), find_none speaks nobody xs 0 no)
 
-  pub unknown : (route_in xs side p m ≡ Unknown) ↔ Strange
+  pub unknown : (route_in xs side p m ≡ Err Unknown) ↔ Strange
   unknown = (strange, nowhere)
 
   -- a segment is wrong at i where i has its number, and nobody takes it
-  wrong_at : (i : ℕ) → m < 2 → route_in xs side p m ≡ Wrong i → (i < length xs) × (p ≡ (x i).protocol) × (m ≡ mode_as side (x i))
+  wrong_at : (i : ℕ) → m < 2 → route_in xs side p m ≡ Err (Wrong i) → (i < length xs) × (p ≡ (x i).protocol) × (m ≡ mode_as side (x i))
   wrong_at i two e =
       let (nobody-takes, has) = wrong_found (find hears 0 xs) (find speaks 0 xs) i e in
       let (l, t) = find_at speaks nobody xs i has in
@@ -274,7 +280,7 @@ module _ (xs : List Instance) (ok : well_formed xs ≡ true) where
   taken_once Dialler i h = (formed i h).0
   taken_once Accepter i h = (formed i h).1
 
-  reached : (side : Side) (i : ℕ) → i < length xs → route_in xs side (y i).protocol (1 - mode_as side (y i)) ≡ To i
+  reached : (side : Side) (i : ℕ) → i < length xs → route_in xs side (y i).protocol (1 - mode_as side (y i)) ≡ Ok i
   reached side i h = rw (find_one (takes_as side (y i)) nobody xs (taken_once side i h) i h (takes_own side (y i)))
 
   -- the one that i talks with
@@ -284,7 +290,7 @@ module _ (xs : List Instance) (ok : well_formed xs ≡ true) where
       let e : pair_in xs i ≡ j = ap (λ (o : Option ℕ). Option.get_or o 0) (find_one (talks_with (y i)) nobody xs (formed i h).2 j l t) in
       rw e (l, t)
 
-  arrives : (side : Side) (i : ℕ) → i < length xs → route_in xs (other side) (y i).protocol (mode_as side (y i)) ≡ To (pair_in xs i)
+  arrives : (side : Side) (i : ℕ) → i < length xs → route_in xs (other side) (y i).protocol (mode_as side (y i)) ≡ Ok (pair_in xs i)
   arrives side i h =
       let j = pair_in xs i in
       let (l, t) = partner i h in
@@ -313,7 +319,7 @@ module _ (xs : List Instance) (ok : well_formed xs ≡ true) where
       absurd (not_own (initiates side (y i).role) (q ∙ ap (λ (k : ℕ). 1 - mode_as side (y k)) (alone i j h l s (sym e)))))
       (λ t. t)
 
-  own_wrong : (side : Side) (i : ℕ) → i < length xs → sided (y i).role ≡ true → route_in xs side (y i).protocol (mode_as side (y i)) ≡ Wrong i
+  own_wrong : (side : Side) (i : ℕ) → i < length xs → sided (y i).role ≡ true → route_in xs side (y i).protocol (mode_as side (y i)) ≡ Err (Wrong i)
   own_wrong side i h s =
       let p = (y i).protocol in
       let none-hears = find_none (takes side p (mode_as side (y i))) nobody xs 0 (λ j l. none_takes side i j h l s) in
@@ -321,7 +327,7 @@ module _ (xs : List Instance) (ok : well_formed xs ≡ true) where
       rw (none-hears, has)
 
   -- and nowhere else: the one that i talks with takes it
-  wrong_sided : (side : Side) (i : ℕ) → i < length xs → route_in xs side (y i).protocol (mode_as side (y i)) ≡ Wrong i → sided (y i).role ≡ true
+  wrong_sided : (side : Side) (i : ℕ) → i < length xs → route_in xs side (y i).protocol (mode_as side (y i)) ≡ Err (Wrong i) → sided (y i).role ≡ true
   wrong_sided side i h e =
       by_test (sided (y i).role) (λ s. s)
       (λ s.
@@ -329,11 +335,11 @@ module _ (xs : List Instance) (ok : well_formed xs ≡ true) where
       let (l, t) = partner i h in
       let modes = opposite_modes (y i).role (y j).role (said (y i) (y j) t).1 side in
       let mode : mode_as side (y i) ≡ 1 - mode_as side (y j) = ap mode_from (fixed_role side (other side) (y i).role s) ∙ modes.1 in
-      let both : Wrong i ≡ To j = sym e ∙ ap₂ (route_in xs side) (same_protocol (y i) (y j) t) mode ∙ reached side j l in
+      let both : Err (Wrong i) ≡ Ok j = sym e ∙ ap₂ (route_in xs side) (same_protocol (y i) (y j) t) mode ∙ reached side j l in
       absurd (let z : ◌≡◌ {A = ℕ} 0 1 = cc in omega arith))
 
   wrong : (side : Side) (p m i : ℕ) → m < 2
-      → (route_in xs side p m ≡ Wrong i) ↔ ((i < length xs) × (sided (y i).role ≡ true) × (p ≡ (y i).protocol) × (m ≡ mode_as side (y i)))
+      → (route_in xs side p m ≡ Err (Wrong i)) ↔ ((i < length xs) × (sided (y i).role ≡ true) × (p ≡ (y i).protocol) × (m ≡ mode_as side (y i)))
   wrong side p m i two = (
     λ e. let (h, ep, em) = wrong_at xs side p m i two e in (h, wrong_sided side i h (rw (ep, em) at e), ep, em),
     λ (h, s, ep, em). rw (ep, em) (own_wrong side i h s),

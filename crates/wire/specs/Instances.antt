@@ -1,15 +1,13 @@
 -- Instances (document 01, "What the front holds" and "Segments"; document 02, K1).
-use Rattle.std.specs.Prelude.{ℕ, suc, Bool, true, false, cond, not, ◌&&◌, List, [], ◌∷◌, ◌++◌, eqb, ltb, leb, length, get_or}
+use Rattle.std.specs.Prelude.{ℕ, suc, Bool, true, false, cond, not, ◌&&◌, List, [], ◌∷◌, ◌++◌, eqb, ltb, leb, length, get_or, Result, Ok, Err}
 use Rattle.std.proofs.Math.Option.{Option, none, some}
 use Rattle.wire.specs.declared.instances.Side.{Side}
 use Rattle.wire.specs.declared.instances.Side.TheVariants.{Dialler, Accepter}
 use Rattle.wire.specs.declared.instances.Party.{Party}
-use Rattle.wire.specs.declared.instances.Route.{Route}
-use Rattle.wire.specs.declared.instances.Route.TheVariants.{Unknown, Wrong, To}
-
--- Our role in an instance: initiator, responder, or the one that our side has.
-pub data Role : Type 0 where
-  initiator responder of_side : Role
+use Rattle.wire.specs.declared.instances.Role.{Role}
+use Rattle.wire.specs.declared.instances.Role.TheVariants.{Initiator, Responder, OfSide}
+use Rattle.wire.specs.declared.instances.RouteError.{RouteError}
+use Rattle.wire.specs.declared.instances.RouteError.TheVariants.{Unknown, Wrong}
 
 pub record Instance : Type 0 where
   pub protocol : ℕ
@@ -17,17 +15,17 @@ pub record Instance : Type 0 where
 
 -- whether it is the one that our side has
 abbrev pub sided : Role → Bool
-sided initiator = false
-sided responder = false
-sided of_side = true
+sided Initiator = false
+sided Responder = false
+sided OfSide = true
 
 -- our initiator of a protocol, and then our responder
 abbrev pub double : ℕ → List Instance
-double p = record { protocol = p; role = initiator } ∷ record { protocol = p; role = responder } ∷ []
+double p = record { protocol = p; role = Initiator } ∷ record { protocol = p; role = Responder } ∷ []
 
 -- the dialler is initiator of a protocol, the accepter responder
 abbrev pub single : ℕ → List Instance
-single p = record { protocol = p; role = of_side } ∷ []
+single p = record { protocol = p; role = OfSide } ∷ []
 
 -- Node to node. Nine instances: Handshake 0; then for Chain-Sync 2, Block-Fetch 3, TxSubmission 4 and Keep-alive 8 in turn, our initiator and our responder.
 abbrev pub node_to_node : List Instance
@@ -65,7 +63,7 @@ handshake = 0
 
 -- what instance i of a list is
 abbrev pub instance_in : List Instance → ℕ → Instance
-instance_in xs i = get_or xs i (record { protocol = 0; role = initiator })
+instance_in xs i = get_or xs i (record { protocol = 0; role = Initiator })
 
 -- and of a bundle
 abbrev pub at : ℕ → ℕ → Instance
@@ -79,10 +77,10 @@ role_of b i = (at b i).role
 
 -- The dialler is initiator of Handshake and, node to client, of every protocol.
 abbrev pub initiates : Side → Role → Bool
-initiates side initiator = true
-initiates side responder = false
-initiates Dialler of_side = true
-initiates Accepter of_side = false
+initiates side Initiator = true
+initiates side Responder = false
+initiates Dialler OfSide = true
+initiates Accepter OfSide = false
 
 -- Mode 0 comes from an initiator, mode 1 from a responder.
 abbrev pub mode_from : Bool → ℕ
@@ -105,13 +103,17 @@ unfoldable pub find : {A : Type 0} → (A → Bool) → ℕ → List A → Optio
 find f k [] = none
 find f k (x ∷ xs) = cond (f x) (some k) (find f (suc k) xs)
 
+-- where a segment goes: to an instance, or why to none
+abbrev pub Route : Type 0
+Route = Result ℕ RouteError
+
 abbrev pub or_else : Option ℕ → (ℕ → Route) → Route → Route
 or_else (some i) found other = found i
 or_else none found other = other
 
 -- Protocol number and mode together choose the instance. A number that only an instance for the other mode has is wrong there.
 abbrev pub route_in : List Instance → Side → ℕ → ℕ → Route
-route_in xs side p m = or_else (find (takes side p m) 0 xs) To (or_else (find (λ x. eqb x.protocol p) 0 xs) Wrong Unknown)
+route_in xs side p m = or_else (find (takes side p m) 0 xs) Ok (or_else (find (λ x. eqb x.protocol p) 0 xs) (λ i. Err (Wrong i)) (Err Unknown))
 
 unfoldable pub route_of : Party → ℕ → ℕ → Route
 route_of us p m = route_in (bundle_of us.bundle) us.side p m

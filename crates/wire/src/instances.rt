@@ -1,10 +1,12 @@
 // Which instance a segment is for: protocol number and mode together choose it, in a bundle of instances.
 //
 // A bundle that is unknown has no instances, and knows no protocol.
-ghost use Rattle.std.specs.Prelude.{◌≡◌, ◌+◌, ◌*◌, ◌<◌, ◌≤◌, length};
-ghost use Rattle.wire.specs.Instances.{of_side, sided, bundles, known, instances, most, role_of, protocol_of, initiates, mode_from, mode_of, route_of};
+ghost use Rattle.std.specs.Prelude.{◌≡◌, ◌<◌, ◌≤◌, map};
+ghost use Rattle.wire.specs.Instances.{sided, known, bundle_of, instances, most, role_of, protocol_of, initiates, mode_from, mode_of, route_of};
 ghost use Rattle.wire.specs.Inside.{Within};
-ghost use Rattle.wire.specs.Inside.{numbers, mark_of, by_mode};
+ghost use Rattle.wire.specs.Inside.{numbers, pair, by_mode};
+
+use Role::{Initiator, OfSide, Responder};
 
 // The bundles, by number: 0 node to node, 1 node to client.
 pub const BUNDLES: usize = 2;
@@ -29,61 +31,62 @@ pub struct Party {
     pub side: Side,
 }
 
-// Where a segment goes: its protocol is unknown; its mode is that of our own side, at this instance;
-// it is for this instance.
+// Our role in an instance: initiator, responder, or the one that our side has.
 #[derive(Clone, Copy)]
-pub enum Route {
-    Unknown,
-    Wrong(usize),
-    To(usize),
+pub enum Role {
+    Initiator,
+    Responder,
+    OfSide,
 }
 
-// How many instances a bundle has.
-const COUNTS: [u8; BUNDLES] = [9, 4];
+// Why a segment goes to no instance: its protocol is unknown; its mode is that of our own side, at this instance.
+#[derive(Clone, Copy, Debug, PartialEq, Eq)]
+pub enum RouteError {
+    Unknown,
+    Wrong(usize),
+}
+
+// The instances of each bundle: protocol number, and our role.
+static NODE_TO_NODE: [(u16, Role); INSTANCES] = [
+    (0, OfSide),
+    (2, Initiator),
+    (2, Responder),
+    (3, Initiator),
+    (3, Responder),
+    (4, Initiator),
+    (4, Responder),
+    (8, Initiator),
+    (8, Responder),
+];
+
+static NODE_TO_CLIENT: [(u16, Role); 4] = [(0, OfSide), (5, OfSide), (6, OfSide), (7, OfSide)];
 
 // Every instance's protocol number is below this.
 pub const NUMBERS: usize = 9;
 
-// The instance by bundle and protocol number, then by mode: NUMBERS rows for each bundle. A number with no instance has NONE.
-const NONE: u8 = 255;
-
-const ROUTES: [[u8; 2]; BUNDLES * NUMBERS] = [
+// The instance by bundle and protocol number, then by mode: NUMBERS rows for each bundle.
+static ROUTES: [[Option<u8>; 2]; BUNDLES * NUMBERS] = [
     // node to node
-    [0, 0],
-    [NONE, NONE],
-    [2, 1],
-    [4, 3],
-    [6, 5],
-    [NONE, NONE],
-    [NONE, NONE],
-    [NONE, NONE],
-    [8, 7],
+    [Some(0), Some(0)],
+    [None, None],
+    [Some(2), Some(1)],
+    [Some(4), Some(3)],
+    [Some(6), Some(5)],
+    [None, None],
+    [None, None],
+    [None, None],
+    [Some(8), Some(7)],
     // node to client
-    [0, 0],
-    [NONE, NONE],
-    [NONE, NONE],
-    [NONE, NONE],
-    [NONE, NONE],
-    [1, 1],
-    [2, 2],
-    [3, 3],
-    [NONE, NONE],
+    [Some(0), Some(0)],
+    [None, None],
+    [None, None],
+    [None, None],
+    [None, None],
+    [Some(1), Some(1)],
+    [Some(2), Some(2)],
+    [Some(3), Some(3)],
+    [None, None],
 ];
-
-// As many places as a table by bundle and instance has: INSTANCES for each bundle.
-const PLACES: usize = BUNDLES * INSTANCES;
-
-// The protocol number by bundle and instance; 0 where there is no instance.
-const PROTOCOLS: [u16; PLACES] = [0, 2, 2, 3, 3, 4, 4, 8, 8, 0, 5, 6, 7, 0, 0, 0, 0, 0];
-
-// Our role by bundle and instance: I initiator, R responder, O that of our side.
-const I: u8 = 0;
-
-const R: u8 = 1;
-
-const O: u8 = 2;
-
-const ROLES: [u8; PLACES] = [O, I, R, I, R, I, R, I, R, O, O, O, O, I, I, I, I, I];
 
 // Whether there is such a bundle.
 pub fn known(bundle: u64) -> bool
@@ -92,22 +95,22 @@ pub fn known(bundle: u64) -> bool
     bundle < BUNDLES as u64
 }
 
+// A bundle's instances: none, if it is unknown.
+fn bundle(number: u64) -> &'static [(u16, Role)]
+    ensures { result.now ≡ map pair (bundle_of number) }
+{
+    match number {
+        0 => &NODE_TO_NODE,
+        1 => &NODE_TO_CLIENT,
+        _ => &[],
+    }
+}
+
 // How many instances a bundle has: none, if it is unknown.
 pub fn count(bundle: u64) -> usize
     ensures { (result ≡ instances bundle) × (result ≤ most) }
 {
-    if BUNDLES as u64 <= bundle {
-        return 0;
-    }
-    COUNTS[bundle as usize] as usize
-}
-
-// The place of an instance in a table by bundle and instance.
-fn place(bundle: u64, i: usize) -> usize
-    requires { i < instances bundle }
-    ensures { (result ≡ bundle * most + i) × (result < length bundles * most) }
-{
-    bundle as usize * INSTANCES + i
+    self::bundle(bundle).len()
 }
 
 // The protocol number of an instance.
@@ -115,15 +118,15 @@ pub fn protocol(bundle: u64, i: usize) -> u16
     requires { i < instances bundle }
     ensures { (result ≡ protocol_of bundle i) × (result < numbers) }
 {
-    PROTOCOLS[place(bundle, i)]
+    self::bundle(bundle)[i].0
 }
 
-// Our role in an instance, by its number in the table.
-fn role(bundle: u64, i: usize) -> u8
+// Our role in an instance.
+fn our_role(bundle: u64, i: usize) -> Role
     requires { i < instances bundle }
-    ensures { result ≡ mark_of (role_of bundle i) }
+    ensures { result ≡ role_of bundle i }
 {
-    ROLES[place(bundle, i)]
+    self::bundle(bundle)[i].1
 }
 
 // Whether our role in an instance is that of our side: then its protocol has no other instance.
@@ -131,7 +134,7 @@ pub fn of_side(bundle: u64, i: usize) -> bool
     requires { i < instances bundle }
     ensures { result ≡ sided (role_of bundle i) }
 {
-    role(bundle, i) == O
+    matches!(our_role(bundle, i), OfSide)
 }
 
 // The mode of what we send as an instance.
@@ -139,17 +142,16 @@ pub fn mode(party: Party, i: usize) -> u8
     requires { i < instances party.bundle }
     ensures { result ≡ mode_of party i }
 {
-    let role = role(party.bundle, i);
-    if role == O {
-        let side = party.side;
-        return side_mode(side);
+    match our_role(party.bundle, i) {
+        Initiator => 0,
+        Responder => 1,
+        OfSide => side_mode(party.side),
     }
-    role
 }
 
 // The mode of what our side sends.
 fn side_mode(side: Side) -> u8
-    ensures { result ≡ mode_from (initiates side of_side) }
+    ensures { result ≡ mode_from (initiates side Role.OfSide) }
 {
     match side {
         Side::Dialler => 0,
@@ -158,32 +160,27 @@ fn side_mode(side: Side) -> u8
 }
 
 // Which instance a segment is for.
-pub fn find(party: Party, protocol: u16, mode: u8) -> Route
+pub fn find(party: Party, protocol: u16, mode: u8) -> Result<usize, RouteError>
     requires { mode < 2 }
     ensures { (result ≡ route_of party protocol mode) × Within party.bundle result }
 {
-    let p = protocol as usize;
-    let m = mode as usize;
-    if BUNDLES as u64 <= party.bundle {
-        return Route::Unknown;
+    let p = usize::from(protocol);
+    if !known(party.bundle) || NUMBERS <= p {
+        return Err(RouteError::Unknown);
     }
-    if NUMBERS <= p {
-        return Route::Unknown;
+    match ROUTES[party.bundle as usize * NUMBERS + p][usize::from(mode)] {
+        Some(i) => by_mode(party, mode, usize::from(i)),
+        None => Err(RouteError::Unknown),
     }
-    let i = ROUTES[party.bundle as usize * NUMBERS + p][m];
-    if i == NONE {
-        return Route::Unknown;
-    }
-    by_mode(party, mode, i as usize)
 }
 
 // A segment with the mode of our own end did not come from the other.
-fn by_mode(party: Party, m: u8, i: usize) -> Route
+fn by_mode(party: Party, m: u8, i: usize) -> Result<usize, RouteError>
     requires { i < instances party.bundle }
     ensures { (result ≡ by_mode party m i) × Within party.bundle result }
 {
     if m == mode(party, i) {
-        return Route::Wrong(i);
+        return Err(RouteError::Wrong(i));
     }
-    Route::To(i)
+    Ok(i)
 }

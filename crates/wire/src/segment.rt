@@ -44,13 +44,11 @@ impl Header {
     pub fn add(self, b: u8) -> Header
         ensures { result ≡ added self b }
     {
-        let at = self.count;
-        if HEADER <= at {
-            return self;
-        }
         let mut next = self;
-        next.bytes[at] = b;
-        next.count = at + 1;
+        if self.count < HEADER {
+            next.bytes[self.count] = b;
+            next.count += 1;
+        }
         next
     }
 
@@ -65,8 +63,7 @@ impl Header {
     pub fn segment(self) -> Segment
         ensures { (result ≡ decoded self.bytes) × Fits result }
     {
-        let bytes = self.bytes;
-        decode(bytes)
+        decode(self.bytes)
     }
 }
 
@@ -90,8 +87,8 @@ pub fn write(buf: &mut [u8], s: Segment)
     requires { (header_length ≤ length buf.old) × Fits s }
     ensures { buf.new ≡ sets buf.old 0 (encoded s) }
 {
-    let word = (s.mode as u64) * MODE + (s.protocol as u64);
-    number::write(buf, 0, 4, s.time as u64);
+    let word = u64::from(s.mode) * MODE + u64::from(s.protocol);
+    number::write(buf, 0, 4, u64::from(s.time));
     number::write(buf, 4, 2, word);
-    number::write(buf, 6, 2, s.len as u64);
+    number::write(buf, 6, 2, u64::from(s.len));
 }

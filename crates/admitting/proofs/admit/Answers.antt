@@ -2,10 +2,9 @@
 use mathlib.Core.Path.{sym, ap, subst, ◌∙◌}
 use Prim.Native.Nat.{◌<◌}
 use native.Mathlib.Omega.{arith}
-use Rattle.wire.specs.Instances.{instances}
+use Rattle.wire.specs.Instances.{instances, Route}
 use Rattle.wire.specs.Inside.{Within}
 use Rattle.wire.proofs.InstanceLaws.{at_most}
-use Rattle.wire.specs.declared.instances.Route.{Route}
 use Rattle.admitting.specs.Admitting.{admitted}
 use Rattle.admitting.proofs.HeaderLaws.{admission_by}
 use Rattle.admitting.proofs.admit.Goals as goal
@@ -13,31 +12,20 @@ use Rattle.admitting.proofs.admit.Goals as goal
 pub room-requires : goal.room-requires
 room-requires c =
     let b = c.args.party.bundle in
-    let i : c.in-To.i < instances b = subst (Within b) c.in-To.is c.find-route.ensures.1 in
+    let i : c.in-Ok.i < instances b = subst (Within b) c.in-Ok.is c.find.ensures.1 in
     omega (arith, at_most b)
 
-pub returns-in-Unknown : goal.returns-in-Unknown
-returns-in-Unknown c =
+pub returns-in-Ok : goal.returns-in-Ok
+returns-in-Ok c =
     let a = c.args in
-    let f = c.find-route in
     let d = c.segment-d in
-    let by = admission_by a.party a.caps.now a.held.now a.h d.result f.result d.ensures.0 f.ensures.0 in
-    ap (λ (r : Route). admitted a.caps.now a.held.now d.result.len r) (sym c.in-Unknown.is) ∙ by
-
-pub returns-in-Wrong : goal.returns-in-Wrong
-returns-in-Wrong c =
-    let a = c.args in
-    let f = c.find-route in
-    let d = c.segment-d in
-    let by = admission_by a.party a.caps.now a.held.now a.h d.result f.result d.ensures.0 f.ensures.0 in
-    c.wrong.ensures
-    ∙ ap (λ (r : Route). admitted a.caps.now a.held.now d.result.len r) (sym c.in-Wrong.is) ∙ by
-
-pub returns-in-To : goal.returns-in-To
-returns-in-To c =
-    let a = c.args in
-    let f = c.find-route in
-    let d = c.segment-d in
-    let by = admission_by a.party a.caps.now a.held.now a.h d.result f.result d.ensures.0 f.ensures.0 in
+    let by = admission_by a.party a.caps.now a.held.now a.h d.result c.find.result d.ensures.0 c.find.ensures.0 in
     c.room.ensures
-    ∙ ap (λ (r : Route). admitted a.caps.now a.held.now d.result.len r) (sym c.in-To.is) ∙ by
+    ∙ rw c.from.ensures (ap (λ (r : Route). admitted a.caps.now a.held.now d.result.len r) (sym c.in-Ok.is) ∙ by)
+
+pub returns-in-Err : goal.returns-in-Err
+returns-in-Err c =
+    let a = c.args in
+    let d = c.segment-d in
+    let by = admission_by a.party a.caps.now a.held.now a.h d.result c.find.result d.ensures.0 c.find.ensures.0 in
+    rw c.astray.ensures (ap (λ (r : Route). admitted a.caps.now a.held.now d.result.len r) (sym c.in-Err.is) ∙ by)

@@ -1,8 +1,7 @@
 -- `admitting::header_whole` meets its contract: the header that is there decides.
 use mathlib.Core.Path.{◌∙◌, ap, subst}
 use Rattle.wire.specs.Segments.{header_length}
-use Rattle.admitting.specs.declared.Admission.{Admission}
-use Rattle.admitting.specs.Admitting.{admission}
+use Rattle.admitting.specs.Admitting.{Admission, admission}
 use Rattle.admitting.specs.Inside.{Settles}
 use Rattle.admitting.proofs.header_whole.Goals as goal
 

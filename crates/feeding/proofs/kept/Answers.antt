@@ -7,8 +7,8 @@ pub returns : goal.returns
 returns c =
     let m = c in
     let a = m.args in
-    let n = m.smaller-n.result in
-    let least = m.smaller-n.ensures in
+    let n = m.min-n.result in
+    let least = m.min-n.ensures in
     lays a.caps.now a.starts.now a.held.now a.w a.store.now _ a.input.now a.at n c.instance_for.result
     (omega arith)
     (omega arith)

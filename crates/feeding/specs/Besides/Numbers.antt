@@ -1,9 +1,9 @@
 -- Which number feed answers, exactly when, and what each leaves (document 01, "Segments" and "Numbers and their order"), as statements.
-use Rattle.std.specs.Prelude.{ℕ, suc, ◌+◌, ◌≤◌, ◌<◌, ◌≡◌, true, false, cond, List, ◌∷◌, ◌++◌, ◌↔◌, eqb, length, get_or}
+use Rattle.std.specs.Prelude.{ℕ, suc, ◌+◌, ◌≤◌, ◌<◌, ◌≡◌, true, false, cond, List, ◌∷◌, ◌++◌, ◌↔◌, eqb, length, get_or, Ok, Err}
 use Rattle.base.specs.Numbers.{Bytes}
 use Rattle.wire.specs.declared.instances.Party.{Party}
-use Rattle.wire.specs.declared.instances.Route.{Route}
-use Rattle.wire.specs.declared.instances.Route.TheVariants.{Unknown, Wrong, To}
+use Rattle.wire.specs.Instances.{Route}
+use Rattle.wire.specs.declared.instances.RouteError.TheVariants.{Unknown, Wrong}
 use Rattle.wire.specs.Segments.{header_length, empty, added, decoded}
 use Rattle.wire.specs.Instances.{route_of}
 use Rattle.connection.specs.declared.Connection.{Connection}
@@ -12,7 +12,6 @@ use Rattle.connection.specs.declared.Gate.TheVariants.{Closed}
 use Rattle.connection.specs.Closings.{closing_number, is_open}
 use Rattle.connection.specs.Parts.{with_receiving}
 use Rattle.range.specs.Ranges.{receives}
-use Rattle.admitting.specs.declared.Admission.TheVariants.{Fault}
 use Rattle.feeding.specs.Feeding.{Reception, admitted, with_header, fed, Told, told, refused, given, feed_of, Spelt}
 
 -- A byte of the run, reached while the connection is open and no payload under way, makes a header whole; of the held counts there, and of
@@ -40,11 +39,11 @@ Comes c st xs P = Eighth c.settings.party c.settings.receive (given c st) xs P
 pub data When (c : Connection) (st xs : List ℕ) : ℕ → Type 0 where
   out_of_range : receives c (length st) ≡ false → When c st xs 23
   closed : receives c (length st) ≡ true → is_open c.gate ≡ false → When c st xs 20
-  protocol_unknown : Listens c st → Comes c st xs (λ held n to. to ≡ Unknown) → When c st xs 11
-  mode_wrong : Listens c st → Comes c st xs (λ held n to. (i : ℕ) × (to ≡ Wrong i)) → When c st xs 12
-  overflows : Listens c st → Comes c st xs (λ held n to. (i : ℕ) × (to ≡ To i) × (get_or c.settings.receive i 0 < get_or held i 0 + n))
+  protocol_unknown : Listens c st → Comes c st xs (λ held n to. to ≡ Err Unknown) → When c st xs 11
+  mode_wrong : Listens c st → Comes c st xs (λ held n to. (i : ℕ) × (to ≡ Err (Wrong i))) → When c st xs 12
+  overflows : Listens c st → Comes c st xs (λ held n to. (i : ℕ) × (to ≡ Ok i) × (get_or c.settings.receive i 0 < get_or held i 0 + n))
       → When c st xs 13
-  done : Listens c st → (Comes c st xs (λ held n to. (x : Closing) × (admitted c.settings.receive held n to ≡ Fault x)) → ⊥) → When c st xs 0
+  done : Listens c st → (Comes c st xs (λ held n to. (x : Closing) × (admitted c.settings.receive held n to ≡ Err x)) → ⊥) → When c st xs 0
 
 abbrev pub Exactly : Type 0
 Exactly = (c : Connection) (st xs : List ℕ) (n : ℕ) → ((feed_of c st xs).answer.number ≡ n) ↔ When c st xs n
@@ -55,7 +54,7 @@ pub record Leaves (c : Connection) (st xs : List ℕ) (r : Told) : Type 0 where
   pub nothing : (n : ℕ) → r.answer.number ≡ n → 20 ≤ n → r ≡ told (refused c n) st
   pub all : r.answer.number ≡ 0 → r.answer.used ≡ length xs
   pub fault : (x : Closing) → receives c (length st) ≡ true
-      → (e : Comes c st xs (λ held n to. admitted c.settings.receive held n to ≡ Fault x))
+      → (e : Comes c st xs (λ held n to. admitted c.settings.receive held n to ≡ Err x))
       → let s = fed c.settings.party c.settings.receive (given c st) e.front in
       let after = with_receiving c (with_header s.receiving empty) (Closed x) in
       r ≡ told (record { number = closing_number x; used = suc (length e.front); connection = after }) s.store

@@ -3,10 +3,10 @@ use mathlib.Core.Path.{sym, ap, ◌∙◌}
 use Rattle.judging.specs.Judging.{by_row}
 use Rattle.judging.proofs.by_row.Goals as goal
 
-pub returns-in-To : goal.returns-in-To
-returns-in-To c =
+pub returns-in-Some : goal.returns-in-Some
+returns-in-Some c =
     let a = c.args in
-    c.led.ensures ∙ sym (ap (by_row a.n a.message) c.in-To.is)
+    c.led.ensures ∙ sym (ap (by_row a.n a.message) c.in-Some.is)
 
 pub returns-in-None : goal.returns-in-None
 returns-in-None c =

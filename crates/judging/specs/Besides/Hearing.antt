@@ -2,7 +2,7 @@
 use Rattle.std.specs.Prelude.{ℕ, ◌≡◌, true, false, ◌↔◌, length, take, Ok, Err}
 use Rattle.item.specs.declared.NotWhole.TheVariants.{Bad, Incomplete}
 use Rattle.item.specs.Verdict.{verdict}
-use Rattle.rows.specs.declared.Next.TheVariants.{To, None}
+use Rattle.std.specs.Prelude.{Some, None}
 use Rattle.rows.specs.Rows.{done_of}
 use Rattle.messages.specs.declared.Message.{Message}
 use Rattle.messages.specs.declared.Reading.{Reading}
@@ -26,7 +26,7 @@ pub record Spells (v : View) (n : ℕ) (m : Message) (next : ℕ) : Type 0 where
   pub awaited : Awaited v
   pub whole : verdict v.bytes ≡ Ok n
   pub says : Says (spoken v) (take n v.bytes) m
-  pub row : leads_to v m ≡ To next
+  pub row : leads_to v m ≡ Some next
 
 -- when each refusal or notice is told
 pub data Unheard (v : View) : Outcome → Type 0 where

@@ -1,6 +1,6 @@
 -- T2 for what put asks of a view: which outcome is told, exactly when (document 01, "Numbers and their order").
 use Rattle.std.specs.Prelude.{ℕ, ◌≡◌, true, false, ◌↔◌, length}
-use Rattle.rows.specs.declared.Next.TheVariants.{To, None}
+use Rattle.std.specs.Prelude.{Some, None}
 use Rattle.messages.specs.declared.Message.{Message}
 use Rattle.messages.specs.declared.Reading.{Reading}
 use Rattle.messages.specs.Reading.{message_of}
@@ -22,7 +22,7 @@ pub record OurTurn (v : View) : Type 0 where
 pub record Moves (v : View) (m : Message) (next : ℕ) : Type 0 where
   pub turn : OurTurn v
   pub says : Says (spoken v) v.bytes m
-  pub row : leads_to v m ≡ To next
+  pub row : leads_to v m ≡ Some next
 
 -- when each refusal is told
 pub data Unsaid (v : View) : Outcome → Type 0 where

@@ -4,7 +4,6 @@ use Rattle.wire.specs.declared.segment.Segment.{Segment}
 use Rattle.wire.specs.declared.instances.Side.{Side}
 use Rattle.wire.specs.declared.instances.Side.TheVariants.{Dialler, Accepter}
 use Rattle.wire.specs.declared.instances.Party.{Party}
-use Rattle.wire.specs.declared.instances.Route.TheVariants.{To}
 use Rattle.wire.specs.Segments.{header_length, empty, decoded, encoded}
 use Rattle.wire.specs.Instances.{most, route_of}
 use Rattle.item.specs.declared.NotWhole.TheVariants.{Bad, Incomplete}
@@ -75,8 +74,8 @@ pub data Example : Type 0 where
 abbrev pub Holds : Example → Type 0
 Holds (carries bs s i p m) =
     (decoded (take header_length bs) ≡ s)
-    × (route_of (peer Dialler) s.protocol s.mode ≡ To i)
-    × (route_of (peer Accepter) s.protocol s.mode ≡ To i)
+    × (route_of (peer Dialler) s.protocol s.mode ≡ Ok i)
+    × (route_of (peer Accepter) s.protocol s.mode ≡ Ok i)
     × (speaks 0 i ≡ p)
     × (message_of p (drop header_length bs) ≡ read m)
 Holds (says p bs m) = message_of p bs ≡ read m

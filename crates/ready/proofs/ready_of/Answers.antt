@@ -3,14 +3,10 @@ use mathlib.Core.Path.{◌≡◌, sym, ◌∙◌}
 use native.Mathlib.Omega.{arith}
 use native.Mathlib.Nat.{add-zero}
 use lib.ListN.{length, take}
-use lib.Count.{count_trailing_zeros, trailing_le, ones-le}
-use Rattle.wire.specs.Instances.{most}
+use lib.Count.{count_trailing_zeros}
 use Rattle.ready.specs.Ready.{word_of}
 use Rattle.ready.proofs.ReadyLaws.{ones_ready, lowest_none, lowest_some}
 use Rattle.ready.proofs.ready_of.Goals as goal
-
-pub overflow_cast-count : goal.overflow_cast-count
-overflow_cast-count c = record { fits = omega (arith, ones-le most c.word-word.result c.word-word.ensures.1) }
 
 pub returns-then-word-eq0 : goal.returns-then-word-eq0
 returns-then-word-eq0 c =
@@ -19,11 +15,8 @@ returns-then-word-eq0 c =
     let e = c.word-word.ensures.0 in
     cc (ones_ready ws, lowest_none 0 ws (sym e ∙ c.if-word-eq0.true))
 
-pub overflow_cast-result : goal.overflow_cast-result
-overflow_cast-result c = record { fits = omega (arith, trailing_le 64 c.word-word.result) }
-
-pub returns : goal.returns
-returns c =
+pub returns-else-word-eq0 : goal.returns-else-word-eq0
+returns-else-word-eq0 c =
     let a = c.args in
     let ws = take a.n a.waiting in
     let long : length ws ≡ a.n = c.word-word.ensures.2 in

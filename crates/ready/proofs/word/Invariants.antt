@@ -7,6 +7,3 @@ use Rattle.ready.proofs.word.Given as goal
 
 abbrev pub invariant-loop-i : goal.invariant-loop-i
 invariant-loop-i l = (l.i ≤ l.n) × (length (take l.n l.waiting) ≡ l.n) × (l.word ≡ word_of (drop l.i (take l.n l.waiting))) × (l.word < 2 ^ most)
-
-abbrev pub decreases-loop-i : goal.decreases-loop-i
-decreases-loop-i l = l.i

@@ -1,6 +1,5 @@
 -- What the ready word says of each instance, and who is chosen: as statements.
-use Rattle.std.specs.Prelude.{ℕ, ◌/◌, ◌%◌, ◌^◌, ◌<◌, ◌≤◌, ◌↔◌, ◌≡◌, List, length, get_or}
-use Rattle.ready.specs.declared.Choice.TheVariants.{Instance, Nobody}
+use Rattle.std.specs.Prelude.{ℕ, ◌/◌, ◌%◌, ◌^◌, ◌<◌, ◌≤◌, ◌↔◌, ◌≡◌, List, length, get_or, Some, None}
 use Rattle.ready.specs.Ready.{bit_of, word_of, chosen}
 
 -- what the word says of each instance
@@ -14,8 +13,8 @@ NoMore = (ws : List ℕ) → word_of ws < 2 ^ length ws
 abbrev pub NobodyWaits : Type 0
 NobodyWaits =
     (ws : List ℕ) (turn : ℕ) → 1 ≤ turn → turn < length ws
-    → (chosen ws turn ≡ Nobody) ↔ ((i : ℕ) → i < length ws → get_or ws i 0 ≡ 0)
+    → (chosen ws turn ≡ None) ↔ ((i : ℕ) → i < length ws → get_or ws i 0 ≡ 0)
 
 -- whoever is chosen is an instance with bytes waiting
 abbrev pub ChosenWaits : Type 0
-ChosenWaits = (ws : List ℕ) (turn i : ℕ) → chosen ws turn ≡ Instance i → (i < length ws) × (0 < get_or ws i 0)
+ChosenWaits = (ws : List ℕ) (turn i : ℕ) → chosen ws turn ≡ Some i → (i < length ws) × (0 < get_or ws i 0)

@@ -1,9 +1,31 @@
--- `rows::done` meets its contract: the table by protocol has it.
-use mathlib.Core.Path.{◌∙◌}
-use Rattle.rows.specs.Rows.{done_of, place_in}
-use Rattle.rows.proofs.ByProtocol.{number_of}
+-- `rows::done` meets its contract: the last state of each protocol by number.
+use Rattle.rows.specs.Rows.{place_in}
 use Rattle.rows.proofs.done.Goals as goal
 
-pub returns : goal.returns
+pub returns-in-Handshake : goal.returns-in-Handshake
 unfolding place_in
-returns c = c.number_of.ensures ∙ number_of done_of c.args.p
+returns-in-Handshake c = rw c.in-Handshake.is
+
+pub returns-in-ChainSync : goal.returns-in-ChainSync
+unfolding place_in
+returns-in-ChainSync c = rw c.in-ChainSync.is
+
+pub returns-in-BlockFetch : goal.returns-in-BlockFetch
+unfolding place_in
+returns-in-BlockFetch c = rw c.in-BlockFetch.is
+
+pub returns-in-TxSubmission : goal.returns-in-TxSubmission
+unfolding place_in
+returns-in-TxSubmission c = rw c.in-TxSubmission.is
+
+pub returns-in-KeepAlive : goal.returns-in-KeepAlive
+unfolding place_in
+returns-in-KeepAlive c = rw c.in-KeepAlive.is
+
+pub returns-in-LocalTxSubmission : goal.returns-in-LocalTxSubmission
+unfolding place_in
+returns-in-LocalTxSubmission c = rw c.in-LocalTxSubmission.is
+
+pub returns-in-LocalStateQuery : goal.returns-in-LocalStateQuery
+unfolding place_in
+returns-in-LocalStateQuery c = rw c.in-LocalStateQuery.is

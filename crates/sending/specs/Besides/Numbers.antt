@@ -2,7 +2,7 @@
 use Rattle.std.specs.Prelude.{ℕ, ◌+◌, ◌<◌, ◌≤◌, ◌≡◌, true, false, List, ◌↔◌, length, get_or}
 use Rattle.wire.specs.Segments.{header_length}
 use Rattle.wire.specs.Instances.{instances}
-use Rattle.ready.specs.declared.Choice.TheVariants.{Instance}
+use Rattle.std.specs.Prelude.{Some}
 use Rattle.connection.specs.declared.Connection.{Connection}
 use Rattle.connection.specs.Shapes.{Shaped}
 use Rattle.connection.specs.Closings.{is_open}
@@ -20,9 +20,9 @@ pub data When (c : Connection) (store : List ℕ) (buf : List ℕ) : ℕ → Typ
   closed : sends c (length store) ≡ true → is_open c.gate ≡ false → When c store buf 20
   all_empty : Unclosed c store → ((i : ℕ) → i < instances c.settings.party.bundle → get_or c.sending.waiting i 0 ≡ 0) → When c store buf 4
   -- the buffer is shorter than header and payload
-  no_room : {i : ℕ} → Unclosed c store → chosen_of c ≡ Instance i → length buf < header_length + much c i
+  no_room : {i : ℕ} → Unclosed c store → chosen_of c ≡ Some i → length buf < header_length + much c i
       → When c store buf 18
-  done : {i : ℕ} → Unclosed c store → chosen_of c ≡ Instance i → header_length + much c i ≤ length buf
+  done : {i : ℕ} → Unclosed c store → chosen_of c ≡ Some i → header_length + much c i ≤ length buf
       → When c store buf 0
 
 abbrev pub Exactly : Type 0

@@ -4,7 +4,8 @@ use Rattle.std.specs.Bool.{beq}
 use Rattle.std.proofs.Math.Option.{get_or}
 use Rattle.wire.specs.declared.instances.Side.TheVariants.{Dialler, Accepter}
 use Rattle.wire.specs.declared.instances.Party.{Party}
-use Rattle.wire.specs.Instances.{Role, Instance, bundle_of, instance_in, initiates, find, other}
+use Rattle.wire.specs.declared.instances.Role.{Role}
+use Rattle.wire.specs.Instances.{Instance, bundle_of, instance_in, initiates, find, other}
 
 -- the other party: the same bundle, from the other side
 abbrev pub other_of : Party → Party

@@ -1,12 +1,11 @@
 -- T5, the route (document 01, "Segments"; document 02, K1): stated of any list of instances that is well formed, as each bundle is.
-use Rattle.std.specs.Prelude.{ℕ, suc, ◌<◌, ◌-◌, ◌≡◌, Bool, true, cond, ◌&&◌, List, [], ◌∷◌, ◌↔◌, eqb, length}
+use Rattle.std.specs.Prelude.{ℕ, suc, ◌<◌, ◌-◌, ◌≡◌, Bool, true, cond, ◌&&◌, List, [], ◌∷◌, ◌↔◌, eqb, length, Ok, Err}
 use Rattle.base.specs.Below.{all_below}
 use Rattle.wire.specs.declared.instances.Side.{Side}
 use Rattle.wire.specs.declared.instances.Side.TheVariants.{Dialler, Accepter}
 use Rattle.wire.specs.declared.instances.Party.{Party}
-use Rattle.wire.specs.declared.instances.Route.{Route}
-use Rattle.wire.specs.declared.instances.Route.TheVariants.{Unknown, Wrong, To}
-use Rattle.wire.specs.Instances.{Instance, sided, bundle_of, instances, instance_in, mode_as, takes, route_in, route_of, other}
+use Rattle.wire.specs.declared.instances.RouteError.TheVariants.{Unknown, Wrong}
+use Rattle.wire.specs.Instances.{Instance, Route, sided, bundle_of, instances, instance_in, mode_as, takes, route_in, route_of, other}
 use Rattle.wire.specs.Besides.Instances.{other_of, talks_with, pair_in, pair_of}
 
 -- ---- a list of instances that is well formed
@@ -41,12 +40,12 @@ module _ (xs : List Instance) (side : Side) (n : ℕ) (route there : ℕ → ℕ
   mode i = mode_as side (x i)
 
   pub record Chooses : Type 0 where
-    pub reached : (i : ℕ) → i < n → route (x i).protocol (1 - mode i) ≡ To i
-    pub only : (p m i : ℕ) → route p m ≡ To i → (p ≡ (x i).protocol) × (m ≡ 1 - mode i)
-    pub unknown : (p m : ℕ) → (route p m ≡ Unknown) ↔ ((i : ℕ) → i < n → p ≡ (x i).protocol → ⊥)
+    pub reached : (i : ℕ) → i < n → route (x i).protocol (1 - mode i) ≡ Ok i
+    pub only : (p m i : ℕ) → route p m ≡ Ok i → (p ≡ (x i).protocol) × (m ≡ 1 - mode i)
+    pub unknown : (p m : ℕ) → (route p m ≡ Err Unknown) ↔ ((i : ℕ) → i < n → p ≡ (x i).protocol → ⊥)
     pub wrong : (p m i : ℕ) → m < 2
-        → (route p m ≡ Wrong i) ↔ ((i < n) × (sided (x i).role ≡ true) × (p ≡ (x i).protocol) × (m ≡ mode i))
-    pub arrives : (i : ℕ) → i < n → there (x i).protocol (mode i) ≡ To (pair i)
+        → (route p m ≡ Err (Wrong i)) ↔ ((i < n) × (sided (x i).role ≡ true) × (p ≡ (x i).protocol) × (m ≡ mode i))
+    pub arrives : (i : ℕ) → i < n → there (x i).protocol (mode i) ≡ Ok (pair i)
     pub paired : (i : ℕ) → i < n → pair (pair i) ≡ i
 
 -- so in any list of instances that is well formed

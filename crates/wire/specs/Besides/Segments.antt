@@ -1,5 +1,5 @@
 -- T5, headers: what is written is read back, both ways; a header that gains a byte; and bytes are divided into segments in one way: as statements.
-use Rattle.std.specs.Prelude.{ℕ, ◌+◌, ◌<◌, ◌≡◌, List, [], ◌∷◌, ◌++◌, length, take}
+use Rattle.std.specs.Prelude.{ℕ, ◌<◌, ◌≡◌, List, [], ◌∷◌, ◌++◌, length, take}
 use Rattle.base.specs.Numbers.{Bytes}
 use Rattle.wire.specs.declared.segment.Segment.{Segment}
 use Rattle.wire.specs.declared.segment.Header.{Header}

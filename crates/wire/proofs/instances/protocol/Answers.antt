@@ -1,13 +1,19 @@
--- `wire::instances::protocol` meets its contract: the table has the protocol number of each instance of each bundle.
+-- `wire::instances::protocol` meets its contract: the bundle's table has the protocol number of each instance.
+use mathlib.Core.Path.{ap}
+use Prim.Native.Nat.{ℕ}
 use native.Mathlib.Omega.{arith}
-use borrow.Author.Rules.{rules}
-use Rattle.wire.specs.Instances.{bundle_of}
-use Rattle.wire.proofs.InstanceLaws.{table, protocol_right, protocol_row}
+use Rattle.wire.specs.declared.instances.Role.{Role}
+use Rattle.wire.proofs.InstanceLaws.{pairs_long, pair_at, at_most, protocol_row}
 use Rattle.wire.proofs.instances.protocol.Goals as goal
 
+pub offset_bounds-bundle-i : goal.offset_bounds-bundle-i
+offset_bounds-bundle-i c = record { fits = omega (arith, at_most c.args.bundle, c.requires) }
+
+pub bounds-bundle-i : goal.bounds-bundle-i
+bounds-bundle-i c = omega (arith, pairs_long c.args.bundle c.bundle.ensures, c.requires)
+
 pub returns : goal.returns
-unfolding table bundle_of
 returns c =
     let a = c.args in
-    let e = protocol_right a.bundle a.i c.requires in
-    rw c.place.ensures.0 (e, omega (arith, e, protocol_row a.bundle a.i c.requires))
+    let e = ap (λ (x : ℕ × Role). x.0) (pair_at a.bundle c.bundle.ensures a.i c.requires) in
+    (e, omega (arith, e, protocol_row a.bundle a.i c.requires))

@@ -1,5 +1,4 @@
 -- `wire::segment::write` meets its contract: three numbers stored one after the other.
-use borrow.Author.Rules.{rules}
 use Rattle.wire.proofs.SegmentLaws.{stored}
 use Rattle.wire.proofs.segment.write.Goals as goal
 

@@ -1,13 +1,12 @@
--- `wire::segment::Header::add` meets its contract: the test on the way to each return decides the definition's.
-use borrow.Author.Rules.{rules}
+-- `wire::segment::Header::add` meets its contract: the test decides the definition's.
 use Rattle.base.proofs.Conds.{tests}
 use Rattle.wire.specs.Segments.{added}
 use Rattle.wire.proofs.segment.Header.add.Goals as goal
 
-pub returns-then-at-ge-HEADER : goal.returns-then-at-ge-HEADER
+pub returns-then-self-lt-HEADER : goal.returns-then-self-lt-HEADER
 unfolding added
-returns-then-at-ge-HEADER c = search tests
+returns-then-self-lt-HEADER c = search tests
 
-pub returns : goal.returns
+pub returns-else-self-lt-HEADER : goal.returns-else-self-lt-HEADER
 unfolding added
-returns c = search tests
+returns-else-self-lt-HEADER c = search tests
