@@ -3,6 +3,8 @@
 
 #[unsafe(no_mangle)]
 pub extern "C" fn log_find(slots: &[u64], hashes: &[u64], count: usize, slot: u64) -> usize {
-    let f = slices::find(slots, hashes, count, slot);
-    f.upto
+    match slices::find(slots, hashes, count, slot) {
+        Ok(found) => found.upto,
+        Err(_) => 0,
+    }
 }

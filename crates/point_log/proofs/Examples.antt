@@ -2,11 +2,11 @@
 -- Assumes nothing.
 use mathlib.Core.Path.{refl}
 use Rattle.points.proofs.Examples.{edges}
-use Rattle.point_log.specs.Log.{rises_to, upto_of, find_of, count_to, back_of, above, add_of}
+use Rattle.point_log.specs.Log.{rises_to, upto_of, find_of, count_to, back_of, above, fit_of, add_of}
 use Rattle.point_log.specs.Besides.Examples.{Replayed}
 
 pub replayed : Replayed
-unfolding rises_to upto_of find_of count_to back_of above add_of
+unfolding rises_to upto_of find_of count_to back_of above fit_of add_of
 replayed =
     record {
       add = rw edges.block;

@@ -16,15 +16,17 @@ use Rattle.base.proofs.Conds.{by_test}
 use Rattle.points.specs.declared.Point.{Point}
 use Rattle.points.specs.declared.Place.{Place}
 use Rattle.points.specs.declared.Place.TheVariants.{Origin, Block}
-use Rattle.points.specs.declared.Read.{Read}
-use Rattle.points.specs.Points.{point_of}
-use Rattle.point_log.specs.declared.decide.Done.{Done}
-use Rattle.point_log.specs.Log.{empty, slots_of, same, done, count_to, back_of, Told}
+use Rattle.points.specs.declared.NotAPoint as points
+use Rattle.points.specs.Points.{point_of, point_told}
+use Rattle.std.specs.Prelude.{Result, Ok, Err}
+use Rattle.point_log.specs.declared.Refusal.{Refusal}
+use Rattle.point_log.specs.declared.Refusal.TheVariants.{NotLogged}
+use Rattle.point_log.specs.Log.{empty, slots_of, same, number, left, count_to, back_of, Told}
 use Rattle.point_log.specs.Inside.{Rising}
 use Rattle.point_log.specs.Besides.Numbers.{slot_at, WhenBack, back_out, back_none, not_logged, to_origin, to_block}
 use Rattle.point_log.specs.Besides.History.{Call, adds, backs, appended, up_to_point, cut_back, says, Log, answer, after, after_all, history, content, fresh, History}
 use Rattle.point_log.proofs.RecordLaws.{slots_at, slots_set}
-use Rattle.point_log.proofs.NumberLaws.{same_is, is_same, count_is, counted, spelled, back_by, back_when, back_goes, kept_back, Leaves, stays, grows, add_leaves}
+use Rattle.point_log.proofs.NumberLaws.{same_is, is_same, count_is, counted, refused_not, spelled, back_by, back_when, back_goes, kept_back, Leaves, stays, grows, add_leaves}
 
 -- a log in range
 record Good (l : Log) : Type 0 where
@@ -98,14 +100,14 @@ step_add : (l : Log) (item : List ℕ) → Good l → Stepped l (adds item) (aft
 step_add l item g = go (add_leaves l.run l.count item).1
   where
     go : {k : ℕ} → Leaves l.run l.count item k → Stepped l (adds item) (after l (adds item))
-    go (stays k z e) =
-        unchanged l (adds item) g (λ y. z (sym (ap (λ (t : Told). t.answer.number) e) ∙ y)) (ap (λ (t : Told). record { run = t.run; count = t.answer.count }) e)
+    go (stays x e) =
+        unchanged l (adds item) g (λ y. refused_not x (rw e at y)) (ap (λ (t : Told). record { run = t.run; count = left l.count t.answer }) e)
     go (grows p s r up h e) =
         let n = l.count in
         let run = l.run in
-        let is : after l (adds item) ≡ record { run = set run n p; count = n + 1 } = ap (λ (t : Told). record { run = t.run; count = t.answer.count }) e in
-        let zero_is : answer l (adds item) ≡ 0 = ap (λ (t : Told). t.answer.number) e in
-        let place : (point_of item).place ≡ Block p = ap (λ (x : Read). x.place) (spelled run n item s) in
+        let is : after l (adds item) ≡ record { run = set run n p; count = n + 1 } = ap (λ (t : Told). record { run = t.run; count = left l.count t.answer }) e in
+        let zero_is : answer l (adds item) ≡ 0 = ap (λ (t : Told). number t.answer) e in
+        let place : (point_told (point_of item)).place ≡ Block p = ap (λ (x : Result Place points.NotAPoint). (point_told x).place) (spelled run n item s) in
         let more : take (n + 1) (set run n p) ≡ take n run ++ (p ∷ []) = ap (λ (k : ℕ). take k (set run n p)) (add-one n) ∙ take-suc-set run n p h in
         record {
           says_so =
@@ -127,14 +129,14 @@ step_back l item g = go (back_when l.run l.count item).1
         unchanged l (backs item) g (λ y. z (sym (back_goes l.run l.count item w) ∙ y))
         (ap (λ (k : ℕ). record { run = l.run; count = k }) (kept_back l.run l.count item w z))
 
-    cut : (place : Place) (k : ℕ) → (point_of item).place ≡ place → back_of l.run l.count item ≡ done 0 k → k ≤ l.count → take k l.run ≡ cut_back place (content l)
+    cut : (place : Place) (k : ℕ) → (point_told (point_of item)).place ≡ place → back_of l.run l.count item ≡ Ok k → k ≤ l.count → take k l.run ≡ cut_back place (content l)
         → Stepped l (backs item) (after l (backs item))
     cut place k at e less same-content =
-        let is : after l (backs item) ≡ record { run = l.run; count = k } = ap (λ (d : Done). record { run = l.run; count = d.count }) e in
+        let is : after l (backs item) ≡ record { run = l.run; count = k } = ap (λ (d : Result ℕ Refusal). record { run = l.run; count = left l.count d }) e in
         record {
           says_so =
               ap content is ∙ same-content ∙ sym (ap (λ (x : Place). cut_back x (content l)) at)
-              ∙ sym (ap (λ (t : Bool). cond t (says (backs item) (content l)) (content l)) (eq-eqb (answer l (backs item)) 0 (ap (λ (d : Done). d.number) e)));
+              ∙ sym (ap (λ (t : Bool). cond t (says (backs item) (content l)) (content l)) (eq-eqb (answer l (backs item)) 0 (ap (number {A = ℕ}) e)));
           good = subst Good (sym is) (record { within = omega (arith, g.within); rising = λ i j a b. g.rising i j a (omega arith) });
           size = ap (λ (m : Log). length m.run) is;
         }
@@ -143,15 +145,15 @@ step_back l item g = go (back_when l.run l.count item).1
     go (back_out x) = refused (back_out x) (λ z. omega arith)
     go (back_none r x) = refused (back_none r x) (λ z. omega arith)
     go (not_logged r s x) = refused (not_logged r s x) (λ z. omega arith)
-    go (to_origin r s) = cut Origin 0 (ap (λ (x : Read). x.place) (spelled l.run l.count item s)) (back_by l.run l.count item r s) (omega arith) refl
+    go (to_origin r s) = cut Origin 0 (ap (λ (x : Result Place points.NotAPoint). (point_told x).place) (spelled l.run l.count item s)) (back_by l.run l.count item r s) (omega arith) refl
     go (to_block {p = p} r s w) =
         let c = count_to l.run l.count p in
         let some : c ≢ 0 = counted l.run l.count p w in
         let f : c ≡ suc (c - 1) = omega arith in
         let (h, e) = count_is l.run l.count p (c - 1) f in
         let inside : c - 1 < length l.run = omega (arith, g.within) in
-        cut (Block p) c (ap (λ (x : Read). x.place) (spelled l.run l.count item s))
-        (back_by l.run l.count item r s ∙ ap (λ (t : Bool). cond t (done 31 l.count) (done 0 c)) (ne_eqb c 0 some)) (omega arith)
+        cut (Block p) c (ap (λ (x : Result Place points.NotAPoint). (point_told x).place) (spelled l.run l.count item s))
+        (back_by l.run l.count item r s ∙ ap (λ (t : Bool). cond t (Err NotLogged) (Ok c)) (ne_eqb c 0 some)) (omega arith)
         (ap (λ (k : ℕ). take k l.run) f ∙ sym (up_to_lem p l.run l.count (c - 1) h inside e (no_other l.run l.count (c - 1) p g.rising h e)))
 
 step : (l : Log) (c : Call) → Good l → Stepped l c (after l c)

@@ -16,13 +16,13 @@ use Rattle.points.specs.declared.Hash.{Hash}
 use Rattle.points.specs.declared.Point.{Point}
 use Rattle.points.specs.declared.Place.{Place}
 use Rattle.points.specs.declared.Place.TheVariants.{Origin, Block}
-use Rattle.points.specs.declared.Read.{Read}
-use Rattle.points.specs.Points.{point, point_of}
-use Rattle.points.specs.Besides.Standing.{read}
+use Rattle.points.specs.Points.{point, refused, point_of}
 use Rattle.points.proofs.StandingLaws.{readings, ReadWay, one, none, read_way}
-use Rattle.point_log.specs.declared.decide.Done.{Done}
-use Rattle.point_log.specs.declared.decide.Found.{Found}
-use Rattle.point_log.specs.Log.{empty, slots_of, same_hash, same, in_range, upto_of, lost, at, find_of, done, count_to, back_to, back_of, Told, told, above, add_to, add_of}
+use Rattle.std.specs.Prelude.{Result, Ok, Err}
+use Rattle.points.specs.declared.NotAPoint as points
+use Rattle.point_log.specs.declared.Refusal.{Refusal}
+use Rattle.point_log.specs.declared.Refusal.TheVariants.{OutOfRange, NotAPoint, NotAbove, NotLogged, Full}
+use Rattle.point_log.specs.Log.{empty, slots_of, same_hash, same, number_of, number, left, in_range, upto_of, at, find_of, count_to, back_to, back_of, Told, told, above, fit_to, fit_of, put_of, add_of}
 use Rattle.point_log.specs.Besides.Numbers.{Spells, NoPoint, slot_at, InRange, Logged, WhenFind, find_outside, find_inside, WhenBack, back_out, back_none, not_logged, to_origin, to_block, WhenAdd, add_out, add_none, the_origin, not_above, full, added, Finds, LeavesAdd, AllCalls}
 use Rattle.point_log.proofs.SearchLaws.{rising, rises, upto_within, upto_below, upto_above}
 
@@ -41,6 +41,16 @@ range_out run n never = by_test (in_range run n) (λ t. absurd (never (is_in_ran
 
 out_range : (run : List Point) (n : ℕ) → in_range run n ≡ false → InRange run n → ⊥
 out_range run n e r = true≢false (sym (range_in_lem run n r) ∙ e)
+
+-- ---- refusals
+
+-- a refusal's number is not 0
+pub refused_not : (e : Refusal) → number_of e ≢ 0
+refused_not OutOfRange z = omega arith
+refused_not NotAPoint z = omega arith
+refused_not NotAbove z = omega arith
+refused_not NotLogged z = omega arith
+refused_not Full z = omega arith
 
 -- ---- points that are the same
 
@@ -92,17 +102,17 @@ counted run (suc n) p l e =
 -- ---- find
 
 module _ (run : List Point) (n : ℕ) where
-  find_ok : (slot : ℕ) → InRange run n → find_of run n slot ≡ at run (upto_of (slots_of run) n slot)
+  find_ok : (slot : ℕ) → InRange run n → find_of run n slot ≡ Ok (at run (upto_of (slots_of run) n slot))
   unfolding find_of
   find_ok slot r = rw (range_in_lem run n r)
 
-  find_out_of : (slot : ℕ) → (InRange run n → ⊥) → find_of run n slot ≡ lost
+  find_out_of : (slot : ℕ) → (InRange run n → ⊥) → find_of run n slot ≡ Err OutOfRange
   unfolding find_of
   find_out_of slot never = rw (range_out run n never)
 
-  find_goes : (slot : ℕ) {k : ℕ} → WhenFind run n k → (find_of run n slot).number ≡ k
-  find_goes slot (find_outside never) = ap (λ (f : Found). f.number) (find_out_of slot never)
-  find_goes slot (find_inside r) = ap (λ (f : Found). f.number) (find_ok slot r)
+  find_goes : (slot : ℕ) {k : ℕ} → WhenFind run n k → number (find_of run n slot) ≡ k
+  find_goes slot (find_outside never) = rw (find_out_of slot never)
+  find_goes slot (find_inside r) = rw (find_ok slot r)
 
   find_when : (k : ℕ) × WhenFind run n k
   find_when = by_test (in_range run n) (λ t. (0, find_inside (is_in_range run n t))) (λ t. (23, find_outside (out_range run n t)))
@@ -119,14 +129,14 @@ module _ (run : List Point) (n : ℕ) where
 -- ---- back
 
 module _ (run : List Point) (n : ℕ) (item : List ℕ) where
-  pub spelled : {place : Place} → Spells item place → point_of item ≡ read place 0
+  pub spelled : {place : Place} → Spells item place → point_of item ≡ Ok place
   spelled {place} s = ((readings item).point_reads place).1 s
 
-  back_out_of : (InRange run n → ⊥) → back_of run n item ≡ done 23 n
+  back_out_of : (InRange run n → ⊥) → back_of run n item ≡ Err OutOfRange
   unfolding back_of
   back_out_of never = rw (range_out run n never)
 
-  back_bad : InRange run n → (point_of item).number ≡ 29 → back_of run n item ≡ done 29 n
+  back_bad : InRange run n → point_of item ≡ Err refused → back_of run n item ≡ Err NotAPoint
   unfolding back_of
   back_bad r e = rw (range_in_lem run n r, e)
 
@@ -134,24 +144,24 @@ module _ (run : List Point) (n : ℕ) (item : List ℕ) where
   unfolding back_of
   back_by r s = rw (range_in_lem run n r, spelled s)
 
-  no_number : NoPoint item → (point_of item).number ≡ 29
-  no_number never = go (read_way item)
+  no_point : NoPoint item → point_of item ≡ Err refused
+  no_point never = go (read_way item)
     where
-      go : ReadWay item → (point_of item).number ≡ 29
+      go : ReadWay item → point_of item ≡ Err refused
       go (one place s e) = absurd (never place s)
-      go (none f e) = ap (λ (r : Read). r.number) e
+      go (none f e) = e
 
-  pub back_goes : {k : ℕ} → WhenBack run n item k → (back_of run n item).number ≡ k
-  back_goes (back_out never) = ap (λ (d : Done). d.number) (back_out_of never)
-  back_goes (back_none r never) = ap (λ (d : Done). d.number) (back_bad r (no_number never))
+  pub back_goes : {k : ℕ} → WhenBack run n item k → number (back_of run n item) ≡ k
+  back_goes (back_out never) = ap (number {A = ℕ}) (back_out_of never)
+  back_goes (back_none r never) = ap (number {A = ℕ}) (back_bad r (no_point never))
   back_goes (not_logged {p = p} r s never) =
-      ap (λ (d : Done). d.number) (back_by r s) ∙ by_test (eqb (count_to run n p) 0) (λ t. rw t)
+      ap (number {A = ℕ}) (back_by r s) ∙ by_test (eqb (count_to run n p) 0) (λ t. rw t)
       (λ t.
       let some = eqb-false (count_to run n p) 0 t in
       let (l, e) = count_is run n p (count_to run n p - 1) (omega arith) in
       absurd (never (record { i = count_to run n p - 1; inside = l; is = e })))
-  back_goes (to_origin r s) = ap (λ (d : Done). d.number) (back_by r s)
-  back_goes (to_block {p = p} r s l) = ap (λ (d : Done). d.number) (back_by r s) ∙ rw (ne_eqb (count_to run n p) 0 (counted run n p l))
+  back_goes (to_origin r s) = ap (number {A = ℕ}) (back_by r s)
+  back_goes (to_block {p = p} r s l) = ap (number {A = ℕ}) (back_by r s) ∙ rw (ne_eqb (count_to run n p) 0 (counted run n p l))
 
   abbrev pub SomeBack : Type 0
   SomeBack = (k : ℕ) × WhenBack run n item k
@@ -173,11 +183,11 @@ module _ (run : List Point) (n : ℕ) (item : List ℕ) where
   back_when = by_test (in_range run n) (λ t. back_read (is_in_range run n t) (read_way item)) (λ t. (23, back_out (out_range run n t)))
 
   -- what it leaves, by the way it goes
-  pub kept_back : {k : ℕ} → WhenBack run n item k → k ≢ 0 → (back_of run n item).count ≡ n
-  kept_back (back_out never) z = ap (λ (d : Done). d.count) (back_out_of never)
-  kept_back (back_none r never) z = ap (λ (d : Done). d.count) (back_bad r (no_number never))
+  pub kept_back : {k : ℕ} → WhenBack run n item k → k ≢ 0 → left n (back_of run n item) ≡ n
+  kept_back (back_out never) z = ap (left n) (back_out_of never)
+  kept_back (back_none r never) z = ap (left n) (back_bad r (no_point never))
   kept_back (not_logged {p = p} r s never) z =
-      ap (λ (d : Done). d.count) (back_by r s) ∙ by_test (eqb (count_to run n p) 0) (λ t. rw t)
+      ap (left n) (back_by r s) ∙ by_test (eqb (count_to run n p) 0) (λ t. rw t)
       (λ t.
       let some = eqb-false (count_to run n p) 0 t in
       let (l, e) = count_is run n p (count_to run n p - 1) (omega arith) in
@@ -192,13 +202,13 @@ module _ (run : List Point) (n : ℕ) (item : List ℕ) where
   ranged_back (to_origin r s) z = r
   ranged_back (to_block r s l) z = r
 
-  back_cut : (p : Point) → InRange run n → Spells item (Block p) → (back_of run n item).number ≡ 0
-      → (0 < (back_of run n item).count) × ((back_of run n item).count ≤ n) × (get_or run ((back_of run n item).count - 1) empty ≡ p)
+  back_cut : (p : Point) → InRange run n → Spells item (Block p) → number (back_of run n item) ≡ 0
+      → (0 < left n (back_of run n item)) × (left n (back_of run n item) ≤ n) × (get_or run (left n (back_of run n item) - 1) empty ≡ p)
   back_cut p r s z =
       by_test (eqb (count_to run n p) 0)
-      (λ t. let e : back_of run n item ≡ done 31 n = back_by r s ∙ rw t in absurd (omega (arith, ap (λ (d : Done). d.number) e)))
+      (λ t. let e : back_of run n item ≡ Err NotLogged = back_by r s ∙ rw t in absurd (omega (arith, ap (number {A = ℕ}) e)))
       (λ t.
-      let e : back_of run n item ≡ done 0 (count_to run n p) = back_by r s ∙ rw t in
+      let e : back_of run n item ≡ Ok (count_to run n p) = back_by r s ∙ rw t in
       let some = eqb-false (count_to run n p) 0 t in
       let (l, is) = count_is run n p (count_to run n p - 1) (omega arith) in
       rw e (omega arith, omega arith, is))
@@ -206,16 +216,16 @@ module _ (run : List Point) (n : ℕ) (item : List ℕ) where
 -- ---- add
 
 module _ (run : List Point) (n : ℕ) (item : List ℕ) where
-  add_out_of : (InRange run n → ⊥) → add_of run n item ≡ told (done 23 n) run
-  unfolding add_of
+  add_out_of : (InRange run n → ⊥) → add_of run n item ≡ told (Err OutOfRange) run
+  unfolding fit_of add_of
   add_out_of never = rw (range_out run n never)
 
-  add_bad : InRange run n → (point_of item).number ≡ 29 → add_of run n item ≡ told (done 29 n) run
-  unfolding add_of
+  add_bad : InRange run n → point_of item ≡ Err refused → add_of run n item ≡ told (Err NotAPoint) run
+  unfolding fit_of add_of
   add_bad r e = rw (range_in_lem run n r, e)
 
-  add_by : {place : Place} → InRange run n → Spells item place → add_of run n item ≡ add_to run n place
-  unfolding add_of
+  add_by : {place : Place} → InRange run n → Spells item place → add_of run n item ≡ put_of run n (fit_to run n place)
+  unfolding fit_of add_of
   add_by r s = rw (range_in_lem run n r, spelled run n item s)
 
   -- above the last
@@ -243,37 +253,37 @@ module _ (run : List Point) (n : ℕ) (item : List ℕ) where
       go zero f = absurd (true≢false f)
       go (suc m) f = (omega arith, rw (sub-one (suc m)) (ltb-false (slot_at run m) x f))
 
-  add_not : {p : Point} → InRange run n → Spells item (Block p) → 0 < n → p.slot ≤ slot_at run (n - 1) → add_of run n item ≡ told (done 30 n) run
+  add_not : {p : Point} → InRange run n → Spells item (Block p) → 0 < n → p.slot ≤ slot_at run (n - 1) → add_of run n item ≡ told (Err NotAbove) run
   add_not {p} r s l h =
       add_by r s ∙ by_test (above (slots_of run) n p.slot) (λ t. let g = above_is p.slot t l in absurd (omega arith)) (λ t. rw t)
 
-  add_full : {p : Point} → InRange run n → Spells item (Block p) → (0 < n → slot_at run (n - 1) < p.slot) → length run ≤ n → add_of run n item ≡ told (done 32 n) run
+  add_full : {p : Point} → InRange run n → Spells item (Block p) → (0 < n → slot_at run (n - 1) < p.slot) → length run ≤ n → add_of run n item ≡ told (Err Full) run
   add_full {p} r s up h = add_by r s ∙ rw (is_above p.slot up, le-ltb n (length run) h)
 
   add_ok : {p : Point} → InRange run n → Spells item (Block p) → (0 < n → slot_at run (n - 1) < p.slot) → n < length run
-      → add_of run n item ≡ told (done 0 (n + 1)) (set run n p)
+      → add_of run n item ≡ told (Ok (n + 1)) (set run n p)
   add_ok {p} r s up h = add_by r s ∙ rw (is_above p.slot up, lt-ltb n (length run) h)
 
   -- each "when", and what it leaves: nothing has changed, or the point is the last
   pub data Leaves : ℕ → Type 0 where
-    stays : (k : ℕ) → k ≢ 0 → add_of run n item ≡ told (done k n) run → Leaves k
+    stays : (e : Refusal) → add_of run n item ≡ told (Err e) run → Leaves (number_of e)
     grows : (p : Point) → Spells item (Block p) → InRange run n → (0 < n → slot_at run (n - 1) < p.slot) → n < length run
-        → add_of run n item ≡ told (done 0 (n + 1)) (set run n p) → Leaves 0
+        → add_of run n item ≡ told (Ok (n + 1)) (set run n p) → Leaves 0
 
   add_way : {k : ℕ} → WhenAdd run n item k → Leaves k
-  add_way (add_out never) = stays 23 (λ z. omega arith) (add_out_of never)
-  add_way (add_none r never) = stays 29 (λ z. omega arith) (add_bad r (no_number run n item never))
-  add_way (the_origin r s) = stays 30 (λ z. omega arith) (add_by r s)
-  add_way (not_above r s l h) = stays 30 (λ z. omega arith) (add_not r s l h)
-  add_way (full r s up e) = stays 32 (λ z. omega arith) (add_full r s up (omega arith))
+  add_way (add_out never) = stays OutOfRange (add_out_of never)
+  add_way (add_none r never) = stays NotAPoint (add_bad r (no_point run n item never))
+  add_way (the_origin r s) = stays NotAbove (add_by r s)
+  add_way (not_above r s l h) = stays NotAbove (add_not r s l h)
+  add_way (full r s up e) = stays Full (add_full r s up (omega arith))
   add_way (added {p = p} r s up l) = grows p s r up l (add_ok r s up l)
 
-  add_goes : {k : ℕ} → WhenAdd run n item k → (add_of run n item).answer.number ≡ k
+  add_goes : {k : ℕ} → WhenAdd run n item k → number (add_of run n item).answer ≡ k
   add_goes w = go (add_way w)
     where
-      go : {k : ℕ} → Leaves k → (add_of run n item).answer.number ≡ k
-      go (stays k z e) = ap (λ (t : Told). t.answer.number) e
-      go (grows p s r up l e) = ap (λ (t : Told). t.answer.number) e
+      go : {k : ℕ} → Leaves k → number (add_of run n item).answer ≡ k
+      go (stays x e) = rw e
+      go (grows p s r up l e) = rw e
 
   abbrev SomeAdd : Type 0
   SomeAdd = (k : ℕ) × WhenAdd run n item k
@@ -299,38 +309,36 @@ module _ (run : List Point) (n : ℕ) (item : List ℕ) where
   add_leaves = let (k, w) = add_when in (k, add_way w)
 
   leaves_by : {k : ℕ} → Leaves k → LeavesAdd run n item (add_of run n item)
-  leaves_by (stays k z e) =
+  leaves_by (stays x e) =
       record {
-        kept = λ y. e ∙ ap (λ (m : ℕ). told (done m n) run) (sym (ap (λ (t : Told). t.answer.number) e));
-        put = λ y p s. absurd (z (sym (ap (λ (t : Told). t.answer.number) e) ∙ y));
-        others = λ j d. ap (λ (t : Told). get_or t.run j empty) e;
+        kept = λ y. rw e (refl, refl);
+        put = λ y p s. absurd (refused_not x (rw e at y));
+        others = λ j d. rw e;
       }
   leaves_by (grows p s r up l e) =
       record {
-        kept = λ y. absurd (y (ap (λ (t : Told). t.answer.number) e));
-        put = λ y q w. e ∙ ap (λ (x : Point). told (done 0 (n + 1)) (set run n x)) (same_block (ap (λ (x : Read). x.place) (sym (spelled run n item s) ∙ spelled run n item w)));
+        kept = λ y. absurd (y (rw e));
+        put = λ y q w. let f : ◌≡◌ {A = Result Place points.NotAPoint} (Ok (Block p)) (Ok (Block q)) = sym (spelled run n item s) ∙ spelled run n item w in let g : p ≡ q = cc in e ∙ ap (λ (x : Point). told (Ok (n + 1)) (set run n x)) g;
         others = λ j d. ap (λ (t : Told). get_or t.run j empty) e ∙ get_or-set_other run n j p empty d;
       }
-    where
-      same_block : {x y : Point} → Block x ≡ Block y → x ≡ y
-      same_block e = cc
 
 pub calls : AllCalls
 calls run n =
     record {
       find_exactly = λ slot k. let (m, w) = find_when run n in exactly_when (WhenFind run n) (find_goes run n slot w) w (find_goes run n slot);
       find_lost = λ slot e. by_test (in_range run n)
-          (λ t. absurd (omega (arith, ap (λ (f : Found). f.number) (find_ok run n slot (is_in_range run n t)), e))) (λ t. find_out_of run n slot (out_range run n t));
+          (λ t. absurd (omega (arith, rw (find_ok run n slot (is_in_range run n t)) at e)))
+          (λ t. let f = find_out_of run n slot (out_range run n t) in (f, rw f));
       find_finds = λ slot e. by_test (in_range run n)
-          (λ t. let r = is_in_range run n t in subst (Finds run n slot) (sym (find_ok run n slot r)) (finds_last run n slot r))
-          (λ t. absurd (omega (arith, ap (λ (f : Found). f.number) (find_out_of run n slot (out_range run n t)), e)));
+          (λ t. let r = is_in_range run n t in rw (find_ok run n slot r) (finds_last run n slot r))
+          (λ t. absurd (omega (arith, rw (find_out_of run n slot (out_range run n t)) at e)));
       back_exactly = λ item k. let (m, w) = back_when run n item in exactly_when (WhenBack run n item) (back_goes run n item w) w (back_goes run n item);
       back_leaves = λ item.
           let (m, w) = back_when run n item in
           let is = back_goes run n item w in
           record {
             kept = λ z. kept_back run n item w (λ y. z (is ∙ y));
-            emptied = λ z s. ap (λ (d : Done). d.count) (back_by run n item (ranged_back run n item w (sym is ∙ z)) s);
+            emptied = λ z s. ap (left n) (back_by run n item (ranged_back run n item w (sym is ∙ z)) s);
             cut = λ z p s. back_cut run n item p (ranged_back run n item w (sym is ∙ z)) s z;
           };
       add_exactly = λ item k. let (m, w) = add_when run n item in exactly_when (WhenAdd run n item) (add_goes run n item w) w (add_goes run n item);

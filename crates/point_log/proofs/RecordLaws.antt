@@ -6,7 +6,6 @@ use Prim.Native.Nat.{ℕ, zero, suc}
 use lib.ListN.{get_or, set, get_or-map}
 use Rattle.points.specs.declared.Point.{Point}
 use Rattle.point_log.specs.Log.{empty, slots_of}
-use Rattle.point_log.specs.Inside.{last_of}
 
 pub slots_at : (run : List Point) (i : ℕ) → get_or (slots_of run) i 0 ≡ (get_or run i empty).slot
 slots_at run i = get_or-map (λ (p : Point). p.slot) run i empty
@@ -15,12 +14,3 @@ pub slots_set : (run : List Point) (i : ℕ) (p : Point) → slots_of (set run i
 slots_set [] i p = refl
 slots_set (q ∷ run) zero p = refl
 slots_set (q ∷ run) (suc i) p = ap (λ (l : List ℕ). q.slot ∷ l) (slots_set run i p)
-
--- the last of k records
-pub last_none : (run : List Point) {k : ℕ} → k ≡ 0 → empty ≡ last_of run k
-unfolding last_of
-last_none run e = rw e
-
-pub last_before : (run : List Point) (k i : ℕ) → k ≡ suc i → get_or run i empty ≡ last_of run k
-unfolding last_of
-last_before run k i e = rw e

@@ -12,7 +12,7 @@ use lib.Dec.{ltb, leb}
 use lib.ListN.{get_or}
 use borrow.Author.Tests.{ltb-true, lt-ltb, le-leb, lt-leb, leb-true, leb-false}
 use Rattle.base.proofs.Conds.{by_test, both_true}
-use Rattle.point_log.specs.Log.{rises_to, upto_of}
+use Rattle.point_log.specs.Log.{rises_to, upto_of, above}
 use Rattle.point_log.specs.Inside.{Rising, Between}
 
 -- ---- slots that rise
@@ -57,6 +57,15 @@ rises_end s n i h (inl a) b = let e : i ≡ n = omega arith in ap (rises_to s) e
 rises_end s zero i h (inr a) b = rw a
 rises_end s (suc zero) i h (inr a) b = rw a
 rises_end s (suc (suc n)) i h (inr a) b = absurd (omega arith)
+
+-- a slot above the last
+pub above_none : (s : List ℕ) (n x : ℕ) → n ≡ 0 → true ≡ above s n x
+unfolding above
+above_none s n x e = rw e
+
+pub above_last : (s : List ℕ) (n i x : ℕ) → n ≡ suc i → ltb (get_or s i 0) x ≡ above s n x
+unfolding above
+above_last s n i x e = rw e
 
 -- ---- by halves
 

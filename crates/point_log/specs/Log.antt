@@ -2,15 +2,39 @@
 -- always understood before the first record". `run` is the run, of which the first n records are in use. "Refusals, in this order: 23 for a count above
 -- the run or slots not rising; 29 not a point or tip; 30 the origin added, or a slot not above the last; 31 rolled back to a point that isn't logged;
 -- 32 log full."
-use Rattle.std.specs.Prelude.{ℕ, zero, suc, ◌+◌, Bool, true, cond, ◌&&◌, List, map, eqb, ltb, leb, length, get_or, set}
+use Rattle.std.specs.Prelude.{ℕ, zero, suc, ◌+◌, Bool, true, cond, ◌&&◌, List, map, eqb, ltb, leb, length, get_or, set, Result, Ok, Err}
 use Rattle.points.specs.declared.Hash.{Hash}
 use Rattle.points.specs.declared.Point.{Point}
 use Rattle.points.specs.declared.Place.{Place}
 use Rattle.points.specs.declared.Place.TheVariants.{Origin, Block}
-use Rattle.points.specs.declared.Read.{Read}
+use Rattle.points.specs.declared.NotAPoint as points
 use Rattle.points.specs.Points.{point_of}
-use Rattle.point_log.specs.declared.decide.Done.{Done}
-use Rattle.point_log.specs.declared.decide.Found.{Found}
+use Rattle.point_log.specs.declared.Refusal.{Refusal}
+use Rattle.point_log.specs.declared.Refusal.TheVariants.{OutOfRange, NotAPoint, NotAbove, NotLogged, Full}
+use Rattle.point_log.specs.declared.Found.{Found}
+
+-- ---- numbers: 0 for an answer, and the number of a refusal
+
+abbrev pub number_of : Refusal → ℕ
+number_of OutOfRange = 23
+number_of NotAPoint = 29
+number_of NotAbove = 30
+number_of NotLogged = 31
+number_of Full = 32
+
+abbrev pub number : {A : Type 0} → Result A Refusal → ℕ
+number (Ok a) = 0
+number (Err e) = number_of e
+
+-- how many of n records are in use after back or add: a refusal leaves them
+abbrev pub left : ℕ → Result ℕ Refusal → ℕ
+left n (Ok k) = k
+left n (Err e) = n
+
+-- what find found: a refusal finds nothing, and nothing is the origin
+abbrev pub sought : Result Found Refusal → Found
+sought (Ok f) = f
+sought (Err e) = record { upto = 0; place = Origin }
 
 -- ---- records
 
@@ -50,19 +74,13 @@ abbrev pub place_at : List Point → ℕ → Place
 place_at run zero = Origin
 place_at run (suc i) = Block (get_or run i empty)
 
-abbrev pub lost : Found
-lost = record { number = 23; upto = 0; place = Origin }
-
 abbrev pub at : List Point → ℕ → Found
-at run k = record { number = 0; upto = k; place = place_at run k }
+at run k = record { upto = k; place = place_at run k }
 
-unfoldable pub find_of : List Point → ℕ → ℕ → Found
-find_of run n slot = cond (in_range run n) (at run (upto_of (slots_of run) n slot)) lost
+unfoldable pub find_of : List Point → ℕ → ℕ → Result Found Refusal
+find_of run n slot = cond (in_range run n) (Ok (at run (upto_of (slots_of run) n slot))) (Err OutOfRange)
 
 -- ---- back
-
-abbrev pub done : ℕ → ℕ → Done
-done number count = record { number = number; count = count }
 
 -- how many records there are up to a point: 0 where it isn't logged
 unfoldable pub count_to : List Point → ℕ → Point → ℕ
@@ -70,40 +88,48 @@ count_to run zero p = 0
 count_to run (suc n) p = cond (same (get_or run n empty) p) (suc n) (count_to run n p)
 
 -- cut back to the origin nothing is left; to a point, what there is up to it
-abbrev pub back_to : List Point → ℕ → Place → Done
-back_to run n Origin = done 0 0
-back_to run n (Block p) = cond (eqb (count_to run n p) 0) (done 31 n) (done 0 (count_to run n p))
+abbrev pub back_to : List Point → ℕ → Place → Result ℕ Refusal
+back_to run n Origin = Ok 0
+back_to run n (Block p) = cond (eqb (count_to run n p) 0) (Err NotLogged) (Ok (count_to run n p))
 
-abbrev pub back_by : List Point → ℕ → Read → Done
-back_by run n r = cond (eqb r.number 0) (back_to run n r.place) (done 29 n)
+abbrev pub back_by : List Point → ℕ → Result Place points.NotAPoint → Result ℕ Refusal
+back_by run n (Ok place) = back_to run n place
+back_by run n (Err e) = Err NotAPoint
 
-unfoldable pub back_of : List Point → ℕ → List ℕ → Done
-back_of run n item = cond (in_range run n) (back_by run n (point_of item)) (done 23 n)
+unfoldable pub back_of : List Point → ℕ → List ℕ → Result ℕ Refusal
+back_of run n item = cond (in_range run n) (back_by run n (point_of item)) (Err OutOfRange)
 
 -- ---- add
-
--- an answer, and what the run then holds
-pub record Told : Type 0 where
-  pub answer : Done
-  pub run : List Point
-
-abbrev pub told : Done → List Point → Told
-told d run = record { answer = d; run = run }
 
 -- whether a slot is above the last
 unfoldable pub above : List ℕ → ℕ → ℕ → Bool
 above slots zero slot = true
 above slots (suc k) slot = ltb (get_or slots k 0) slot
 
--- the point is put behind the last
-abbrev pub add_to : List Point → ℕ → Place → Told
-add_to run n Origin = told (done 30 n) run
-add_to run n (Block p) =
-    cond (above (slots_of run) n p.slot) (cond (ltb n (length run)) (told (done 0 (n + 1)) (set run n p)) (told (done 32 n) run))
-    (told (done 30 n) run)
+-- a point that can be put behind the last
+abbrev pub fit_to : List Point → ℕ → Place → Result Point Refusal
+fit_to run n Origin = Err NotAbove
+fit_to run n (Block p) = cond (above (slots_of run) n p.slot) (cond (ltb n (length run)) (Ok p) (Err Full)) (Err NotAbove)
 
-abbrev pub add_by : List Point → ℕ → Read → Told
-add_by run n r = cond (eqb r.number 0) (add_to run n r.place) (told (done 29 n) run)
+abbrev pub fit_by : List Point → ℕ → Result Place points.NotAPoint → Result Point Refusal
+fit_by run n (Ok place) = fit_to run n place
+fit_by run n (Err e) = Err NotAPoint
+
+unfoldable pub fit_of : List Point → ℕ → List ℕ → Result Point Refusal
+fit_of run n item = cond (in_range run n) (fit_by run n (point_of item)) (Err OutOfRange)
+
+-- an answer, and what the run then holds
+pub record Told : Type 0 where
+  pub answer : Result ℕ Refusal
+  pub run : List Point
+
+abbrev pub told : Result ℕ Refusal → List Point → Told
+told d run = record { answer = d; run = run }
+
+-- it is put there
+abbrev pub put_of : List Point → ℕ → Result Point Refusal → Told
+put_of run n (Ok p) = told (Ok (n + 1)) (set run n p)
+put_of run n (Err e) = told (Err e) run
 
 unfoldable pub add_of : List Point → ℕ → List ℕ → Told
-add_of run n item = cond (in_range run n) (add_by run n (point_of item)) (told (done 23 n) run)
+add_of run n item = put_of run n (fit_of run n item)

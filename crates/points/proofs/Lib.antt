@@ -1,4 +1,3 @@
-pub mod Steps
 pub mod StandingLaws
 pub mod BackLaws
 pub mod Examples

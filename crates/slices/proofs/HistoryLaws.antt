@@ -5,8 +5,9 @@ use mathlib.Core.Bool.{true}
 use mathlib.Core.List.{List, [], ◌∷◌}
 use Prim.Native.Nat.{ℕ}
 use Rattle.points.specs.declared.Point.{Point}
-use Rattle.point_log.specs.declared.decide.Done.{Done}
-use Rattle.point_log.specs.Log.{add_of}
+use Rattle.std.specs.Prelude.{Result}
+use Rattle.point_log.specs.declared.Refusal.{Refusal}
+use Rattle.point_log.specs.Log.{number, left, add_of}
 use Rattle.slices.specs.Parallel.{match, records, add_in}
 use Rattle.point_log.specs.Besides.History.{Call, adds, backs, Log, answer, after, after_all}
 use Rattle.slices.specs.Besides.History.{Slices, log_of, answer_in, after_in, after_all_in, answers_in, answers, Alike}
@@ -21,17 +22,17 @@ alike_step : (l : Slices) (c : Call) → match l.slots l.hashes ≡ true → Ali
 alike_step l (adds item) e =
     let (ans, run, m) = ((calls_in l.slots l.hashes l.count).together e).2 item in
     record {
-      answers_so = ap (λ (d : Done). d.number) ans;
+      answers_so = ap (number {A = ℕ}) ans;
       after_so =
-          ap (λ (r : List Point). record { run = r; count = (add_in l.slots l.hashes l.count item).answer.count }) run
-          ∙ ap (λ (d : Done). record { run = (add_of (records l.slots l.hashes) l.count item).run; count = d.count }) ans;
+          ap (λ (r : List Point). record { run = r; count = left l.count (add_in l.slots l.hashes l.count item).answer }) run
+          ∙ ap (λ (d : Result ℕ Refusal). record { run = (add_of (records l.slots l.hashes) l.count item).run; count = left l.count d }) ans;
       matches = m;
     }
 alike_step l (backs item) e =
     let b = ((calls_in l.slots l.hashes l.count).together e).1 item in
     record {
-      answers_so = ap (λ (d : Done). d.number) b;
-      after_so = ap (λ (d : Done). record { run = records l.slots l.hashes; count = d.count }) b;
+      answers_so = ap (number {A = ℕ}) b;
+      after_so = ap (λ (d : Result ℕ Refusal). record { run = records l.slots l.hashes; count = left l.count d }) b;
       matches = e;
     }
 

@@ -8,7 +8,7 @@ use Prim.Native.Nat.{ℕ, ◌*◌}
 use lib.ListN.{length}
 use borrow.Author.Tests.{eq-eqb, eqb-true}
 use Rattle.base.proofs.Conds.{by_test}
-use Rattle.point_log.specs.Log.{slots_of, Told, add_of}
+use Rattle.point_log.specs.Log.{slots_of, number, left, add_of}
 use Rattle.slices.specs.Parallel.{match, records, hashes_of, find_in, back_in, add_in}
 use Rattle.slices.specs.Besides.Numbers.{AllCallsIn}
 use Rattle.slices.proofs.RecordLaws.{slots_records, hashes_records, together, hashes_length}
@@ -23,15 +23,15 @@ module _ (slots hashes : List ℕ) (n : ℕ) (item : List ℕ) where
       let t = add_of (records slots hashes) n item in
       rw e (refl, together t.run, eq-eqb (length (hashes_of t.run)) (length (slots_of t.run) * 4) (hashes_length t.run))
 
-  add_kept : let t = add_in slots hashes n item in t.answer.number ≢ 0 → (t.slots ≡ slots) × (t.hashes ≡ hashes) × (t.answer.count ≡ n)
+  add_kept : let t = add_in slots hashes n item in number t.answer ≢ 0 → (t.slots ≡ slots) × (t.hashes ≡ hashes) × (left n t.answer ≡ n)
   unfolding add_in
   add_kept =
       by_test (match slots hashes)
       (λ e.
       let k = ((calls (records slots hashes) n).add_leaves item).kept in
       rw e (λ z.
-      let f = k z in
-      (ap (λ (t : Told). slots_of t.run) f ∙ slots_records slots hashes, ap (λ (t : Told). hashes_of t.run) f ∙ hashes_records slots hashes (eqb-true (length hashes) (length slots * 4) e), ap (λ (t : Told). t.answer.count) f)))
+      let (f, c) = k z in
+      (ap slots_of f ∙ slots_records slots hashes, ap hashes_of f ∙ hashes_records slots hashes (eqb-true (length hashes) (length slots * 4) e), c)))
       (λ e. rw e (λ z. (refl, refl, refl)))
 
 pub calls_in : AllCallsIn

@@ -1,21 +1,15 @@
 -- Laws of records that lie in parallel slices.
 -- Assumes nothing.
 use mathlib.Core.Path.{◌≡◌, refl, sym, ap, ◌∙◌}
-use mathlib.Core.Bool.{◌&&◌}
 use mathlib.Core.List.{List, [], ◌∷◌, ◌++◌}
-use Prim.Native.Nat.{ℕ, zero, suc, ◌+◌, ◌*◌, ◌/◌, ◌%◌, ◌<◌}
+use Prim.Native.Nat.{ℕ, zero, suc, ◌+◌, ◌*◌, ◌<◌}
 use native.Mathlib.Omega.{arith}
-use lib.Dec.{eqb}
 use lib.ListN.{length, get_or, set, drop}
 use lib.Seq.{sets, get_or-drop}
-use borrow.Author.Tests.{eq-eqb, ne_eqb, eqb-true, eqb-false}
-use Rattle.base.proofs.Conds.{by_test}
 use Rattle.points.specs.declared.Hash.{Hash}
 use Rattle.points.specs.declared.Point.{Point}
 use Rattle.point_log.specs.Log.{empty, slots_of}
 use Rattle.slices.specs.Parallel.{words, records, hashes_of}
-use Rattle.point_log.specs.Inside.{last_of}
-use Rattle.point_log.proofs.RecordLaws.{last_before}
 
 -- ---- apart and together
 
@@ -67,20 +61,6 @@ record_at [] h i l = absurd (omega arith)
 record_at (x ∷ s) h zero l = refl
 record_at (x ∷ s) h (suc i) l =
     record_at s (drop 4 h) i (omega arith) ∙ ap (λ (g : Hash). record { slot = get_or s i 0; hash = g }) (hash_later h i)
-
-pub last_is : (s h : List ℕ) (k i : ℕ) → k ≡ suc i → i < length s → record { slot = get_or s i 0; hash = hash_at h i } ≡ last_of (records s h) k
-last_is s h k i e l = sym (record_at s h i l) ∙ last_before (records s h) k i e
-
--- whether there are four words for each slot
-pub four : (w n : ℕ) → (eqb (w % 4) 0 && eqb (w / 4) n) ≡ eqb w (n * 4)
-four w n =
-    by_test (eqb w (n * 4))
-    (λ t. let e = eqb-true w (n * 4) t in rw (t, eq-eqb (w % 4) 0 (omega arith), eq-eqb (w / 4) n (omega arith)))
-    (λ t.
-    let e = eqb-false w (n * 4) t in
-    by_test (eqb (w % 4) 0)
-    (λ u. let f = eqb-true (w % 4) 0 u in rw (t, u, ne_eqb (w / 4) n (λ g. e (omega arith))))
-    (λ u. rw (t, u)))
 
 -- ---- a record stored
 

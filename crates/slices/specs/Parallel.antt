@@ -1,11 +1,12 @@
 -- The log's records in parallel slices: a slot for each, and four words of hash. What each call does is what it does to the records; slices whose lengths
--- do not match are 23.
-use Rattle.std.specs.Prelude.{ℕ, ◌*◌, Bool, cond, List, [], ◌∷◌, ◌++◌, eqb, length, get_or, drop}
+-- do not match are out of range.
+use Rattle.std.specs.Prelude.{ℕ, ◌*◌, Bool, cond, List, [], ◌∷◌, ◌++◌, eqb, length, get_or, drop, Result, Err}
 use Rattle.points.specs.declared.Hash.{Hash}
 use Rattle.points.specs.declared.Point.{Point}
-use Rattle.point_log.specs.declared.decide.Done.{Done}
-use Rattle.point_log.specs.declared.decide.Found.{Found}
-use Rattle.point_log.specs.Log.{slots_of, lost, find_of, done, back_of, Told, add_of}
+use Rattle.point_log.specs.declared.Refusal.{Refusal}
+use Rattle.point_log.specs.declared.Refusal.TheVariants.{OutOfRange}
+use Rattle.point_log.specs.declared.Found.{Found}
+use Rattle.point_log.specs.Log.{slots_of, find_of, back_of, Told, add_of}
 
 abbrev pub match : List ℕ → List ℕ → Bool
 match slots hashes = eqb (length hashes) (length slots * 4)
@@ -27,23 +28,23 @@ unfoldable pub hashes_of : List Point → List ℕ
 hashes_of [] = []
 hashes_of (p ∷ run) = words p.hash ++ hashes_of run
 
-unfoldable pub find_in : List ℕ → List ℕ → ℕ → ℕ → Found
-find_in slots hashes n slot = cond (match slots hashes) (find_of (records slots hashes) n slot) lost
+unfoldable pub find_in : List ℕ → List ℕ → ℕ → ℕ → Result Found Refusal
+find_in slots hashes n slot = cond (match slots hashes) (find_of (records slots hashes) n slot) (Err OutOfRange)
 
-unfoldable pub back_in : List ℕ → List ℕ → ℕ → List ℕ → Done
-back_in slots hashes n item = cond (match slots hashes) (back_of (records slots hashes) n item) (done 23 n)
+unfoldable pub back_in : List ℕ → List ℕ → ℕ → List ℕ → Result ℕ Refusal
+back_in slots hashes n item = cond (match slots hashes) (back_of (records slots hashes) n item) (Err OutOfRange)
 
 -- an answer, and what the slices then hold
 pub record ToldIn : Type 0 where
-  pub answer : Done
+  pub answer : Result ℕ Refusal
   pub slots : List ℕ
   pub hashes : List ℕ
 
-abbrev pub told_in : Done → List ℕ → List ℕ → ToldIn
+abbrev pub told_in : Result ℕ Refusal → List ℕ → List ℕ → ToldIn
 told_in d slots hashes = record { answer = d; slots = slots; hashes = hashes }
 
 abbrev pub apart : Told → ToldIn
 apart t = told_in t.answer (slots_of t.run) (hashes_of t.run)
 
 unfoldable pub add_in : List ℕ → List ℕ → ℕ → List ℕ → ToldIn
-add_in slots hashes n item = cond (match slots hashes) (apart (add_of (records slots hashes) n item)) (told_in (done 23 n) slots hashes)
+add_in slots hashes n item = cond (match slots hashes) (apart (add_of (records slots hashes) n item)) (told_in (Err OutOfRange) slots hashes)

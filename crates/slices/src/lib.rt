@@ -2,105 +2,89 @@
 // in use; their slots rise strictly, and the origin is always understood before the first.
 //
 // `add` and `back` are given a point's item, for a RollForward and of a RollBackward; `find` is given a slot. A refused call
-// changes nothing, and a record behind the count is written by nothing but an add. What is decided by numbers and points
-// alone is in `point_log::decide`.
+// changes nothing, and a record behind the count is written by nothing but an add. Two slices that match are rows, so
+// `point_log::rows` has each call; what is put is put here.
 #![tactic(auto)]
 
-ghost use Rattle.std.specs.Prelude.{◌≡◌, ◌*◌, ◌≤◌, ◌<◌, eqb, length, set};
+ghost use Rattle.std.specs.Prelude.{◌≡◌, ◌*◌, ◌<◌, true, false, IfOk, IfErr, OnOk, length, set};
 ghost use Rattle.std.proofs.lemmas.List.Edits.{sets};
-ghost use Rattle.point_log.specs.Log.{rises_to};
-ghost use Rattle.slices.specs.Parallel.{words, records, find_in, back_in, add_in, told_in};
-ghost use Rattle.point_log.specs.Inside.{Between, last_of};
+ghost use Rattle.point_log.specs.declared.Refusal.TheVariants.{OutOfRange};
+ghost use Rattle.slices.specs.Parallel.{match, words, records, find_in, back_in, add_in, told_in};
 
-use point_log::decide::{
-    Done, Found, cut, finding, growth, lost, nowhere, point_of, slot_of, usable,
-};
-use points::{Hash, Point, read_point};
+use point_log::rows::{self, Rows};
+use point_log::{Found, Refusal};
+use points::{Hash, Point};
 
 // How many words a hash has.
 const WORDS: usize = 4;
 
-// Whether there are four words of hash for each slot.
-fn matched(slots: usize, words: usize) -> bool
-    ensures { result ≡ eqb words (slots * 4) }
-{
-    base::and(words % WORDS == 0, words / WORDS == slots)
+// Parallel slices that match: four words of hash for each slot.
+#[derive(Drop)]
+struct Parallel<'a> {
+    slots: &'a [u64],
+    hashes: &'a [u64],
+    ghost matched: { length hashes.now ≡ length slots.now * 4 },
 }
 
-// Whether the first n slots rise.
-fn rises(slots: &[u64], n: usize) -> bool
-    requires { n ≤ length slots.now }
-    ensures { result ≡ rises_to slots.now n }
-{
-    let mut good = true;
-    let mut i: usize = 1;
-    while i < n {
-        good = good & (slots[i - 1] < slots[i]);
-        i += 1;
+impl<'a> Parallel<'a> {
+    // The two slices, if they match.
+    fn of(slots: &'a [u64], hashes: &'a [u64]) -> Result<Parallel<'a>, Refusal>
+        ensures ok { IfOk result (λ p. (p.slots.now ≡ slots.now) × (p.hashes.now ≡ hashes.now)) }
+        ensures matched { OnOk result (match slots.now hashes.now ≡ true) }
+        ensures apart { IfErr result (λ e. (e ≡ OutOfRange) × (match slots.now hashes.now ≡ false)) }
+    {
+        if slots.len().checked_mul(WORDS) != Some(hashes.len()) {
+            return Err(Refusal::OutOfRange);
+        }
+        Ok(Parallel { slots, hashes })
     }
-    good
 }
 
-// How many of the first n slots are at or below a slot, where they rise. By halves: looked at are at most ⌊log2 n⌋ + 1.
-fn upto(slots: &[u64], n: usize, slot: u64) -> usize
-    requires { n ≤ length slots.now }
-    ensures { Between slots.now n slot result result }
-{
-    let mut low: usize = 0;
-    let mut high = n;
-    while low < high {
-        let mid = low + (high - low) / 2;
-        if slots[mid] <= slot {
-            low = mid + 1;
-        } else {
-            high = mid;
+impl<'a> Rows for Parallel<'a> {
+    ghost records = { λ p. records p.slots.now p.hashes.now };
+
+    #[tactic(auto, using(crate::proofs::RecordLaws::length_records))]
+    fn len(&self) -> usize {
+        self.slots.len()
+    }
+
+    #[tactic(auto, using(crate::proofs::RecordLaws::length_records, crate::proofs::RecordLaws::slots_records))]
+    fn slot(&self, i: usize) -> u64 {
+        self.slots[i]
+    }
+
+    #[tactic(auto, using(crate::proofs::RecordLaws::length_records, crate::proofs::RecordLaws::record_at))]
+    fn record(&self, i: usize) -> Point {
+        let at = i * WORDS;
+        let hash = Hash {
+            a: self.hashes[at],
+            b: self.hashes[at + 1],
+            c: self.hashes[at + 2],
+            d: self.hashes[at + 3],
+        };
+        Point {
+            slot: self.slots[i],
+            hash,
         }
     }
-    low
 }
 
-// The last of the first k records; the empty one where k is 0.
-fn last_of(slots: &[u64], hashes: &[u64], k: usize) -> Point
-    requires { (k ≤ length slots.now) × (length hashes.now ≡ length slots.now * 4) }
-    ensures { result ≡ last_of (records slots.now hashes.now) k }
-{
-    if k == 0 {
-        return nowhere();
-    }
-    let i = k - 1;
-    let at = i * WORDS;
-    let hash = Hash {
-        a: hashes[at],
-        b: hashes[at + 1],
-        c: hashes[at + 2],
-        d: hashes[at + 3],
-    };
-    Point {
-        slot: slots[i],
-        hash,
-    }
-}
-
-// Finds the last record at or below a slot: 23, or the record, or the origin where there is none.
-pub fn find(slots: &[u64], hashes: &[u64], count: usize, slot: u64) -> Found
+// Finds the last record at or below a slot, or the origin where there is none.
+#[tactic(auto, unfolding(crate::specs::Parallel::find_in))]
+pub fn find(slots: &[u64], hashes: &[u64], count: usize, slot: u64) -> Result<Found, Refusal>
     ensures { result ≡ find_in slots.now hashes.now count slot }
 {
-    let len = slots.len();
-    if !matched(len, hashes.len()) {
-        return lost();
-    }
-    let n = usable(len, count);
-    let good = rises(slots, n);
-    let k = upto(slots, n, slot);
-    finding(len, count, good, k, last_of(slots, hashes, k))
+    let parallel = Parallel::of(slots, hashes)?;
+    rows::find(&parallel, count, slot)
 }
 
-// Cuts the log back to a point: 23, 29, 31, or how many records are left.
-pub fn back(slots: &[u64], hashes: &[u64], count: usize, item: &[u8]) -> Done
+// Cuts the log back to a point: how many records are left.
+#[tactic(auto, unfolding(crate::specs::Parallel::back_in))]
+pub fn back(slots: &[u64], hashes: &[u64], count: usize, item: &[u8]) -> Result<usize, Refusal>
     ensures { result ≡ back_in slots.now hashes.now count item.now }
 {
-    let read = read_point(item);
-    cut(count, read, find(slots, hashes, count, slot_of(read)))
+    let parallel = Parallel::of(slots, hashes)?;
+    rows::back(&parallel, count, item)
 }
 
 // Puts a record at a place.
@@ -118,19 +102,18 @@ fn put(slots: &mut [u64], hashes: &mut [u64], i: usize, p: Point)
     hashes[at + 3] = hash.d;
 }
 
-// Adds a point: 23, 29, 30, 32, or it is the last record, and there is one more.
-pub fn add(slots: &mut [u64], hashes: &mut [u64], count: usize, item: &[u8]) -> Done
+// Adds a point: it is the last record, and there is one more.
+#[tactic(auto, using(crate::proofs::CallLaws::add_apart, crate::proofs::CallLaws::add_refused, crate::proofs::CallLaws::add_put, crate::proofs::CallLaws::put_fits))]
+pub fn add(
+    slots: &mut [u64],
+    hashes: &mut [u64],
+    count: usize,
+    item: &[u8],
+) -> Result<usize, Refusal>
     ensures { told_in result slots.new hashes.new ≡ add_in slots.old hashes.old count item.now }
 {
-    let read = read_point(item);
-    let len = slots.len();
-    let number = growth(len, count, read, find(slots, hashes, count, slot_of(read)));
-    if number != 0 {
-        return Done { number, count };
-    }
-    put(slots, hashes, count, point_of(read));
-    Done {
-        number: 0,
-        count: count + 1,
-    }
+    let parallel = Parallel::of(slots, hashes)?;
+    let point = rows::fitting(&parallel, count, item)?;
+    put(slots, hashes, count, point);
+    Ok(count + 1)
 }

@@ -3,8 +3,8 @@ use Rattle.std.specs.Prelude.{ℕ, ◌≤◌, ◌≡◌, cond, List, [], ◌∷�
 use Rattle.points.specs.declared.Point.{Point}
 use Rattle.points.specs.declared.Place.{Place}
 use Rattle.points.specs.declared.Place.TheVariants.{Origin, Block}
-use Rattle.points.specs.Points.{point_of}
-use Rattle.point_log.specs.Log.{slots_of, same, back_of, add_of}
+use Rattle.points.specs.Points.{point_of, point_told}
+use Rattle.point_log.specs.Log.{slots_of, same, number, left, back_of, add_of}
 use Rattle.point_log.specs.Inside.{Rising}
 
 -- a call, with the item that it is given
@@ -28,8 +28,8 @@ cut_back Origin ps = []
 cut_back (Block p) ps = up_to_point p ps
 
 abbrev pub says : Call → List Point → List Point
-says (adds item) ps = appended (point_of item).place ps
-says (backs item) ps = cut_back (point_of item).place ps
+says (adds item) ps = appended (point_told (point_of item)).place ps
+says (backs item) ps = cut_back (point_told (point_of item)).place ps
 
 -- ---- a run of records
 
@@ -39,12 +39,12 @@ pub record Log : Type 0 where
   pub count : ℕ
 
 abbrev pub answer : Log → Call → ℕ
-answer l (adds item) = (add_of l.run l.count item).answer.number
-answer l (backs item) = (back_of l.run l.count item).number
+answer l (adds item) = number (add_of l.run l.count item).answer
+answer l (backs item) = number (back_of l.run l.count item)
 
 abbrev pub after : Log → Call → Log
-after l (adds item) = record { run = (add_of l.run l.count item).run; count = (add_of l.run l.count item).answer.count }
-after l (backs item) = record { run = l.run; count = (back_of l.run l.count item).count }
+after l (adds item) = record { run = (add_of l.run l.count item).run; count = left l.count (add_of l.run l.count item).answer }
+after l (backs item) = record { run = l.run; count = left l.count (back_of l.run l.count item) }
 
 unfoldable pub after_all : Log → List Call → Log
 after_all l [] = l

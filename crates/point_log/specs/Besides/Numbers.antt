@@ -1,12 +1,13 @@
 -- Which number each call answers, exactly when (document 02, K10: 23, 29, 30, 31, 32, in this order), and what it leaves, as statements. `PointAt item 0 place (length item)` says that the item is exactly one point.
-use Rattle.std.specs.Prelude.{ℕ, ◌+◌, ◌-◌, ◌≤◌, ◌<◌, ◌≡◌, List, ◌≢◌, ◌↔◌, length, get_or, set}
+use Rattle.std.specs.Prelude.{ℕ, ◌+◌, ◌-◌, ◌≤◌, ◌<◌, ◌≡◌, List, ◌≢◌, ◌↔◌, length, get_or, set, Result, Ok, Err}
 use Rattle.points.specs.declared.Point.{Point}
 use Rattle.points.specs.declared.Place.{Place}
 use Rattle.points.specs.declared.Place.TheVariants.{Origin, Block}
 use Rattle.points.specs.Besides.Standing.{PointAt}
-use Rattle.point_log.specs.declared.decide.Done.{Done}
-use Rattle.point_log.specs.declared.decide.Found.{Found}
-use Rattle.point_log.specs.Log.{empty, slots_of, place_at, lost, find_of, done, back_of, Told, told, add_of}
+use Rattle.point_log.specs.declared.Refusal.{Refusal}
+use Rattle.point_log.specs.declared.Refusal.TheVariants.{OutOfRange}
+use Rattle.point_log.specs.declared.Found.{Found}
+use Rattle.point_log.specs.Log.{empty, slots_of, place_at, number, left, sought, find_of, back_of, Told, told, add_of}
 
 -- the item is exactly this point, or no point
 abbrev pub Spells : List ℕ → Place → Type 0
@@ -61,24 +62,24 @@ pub record Finds (run : List Point) (n slot : ℕ) (f : Found) : Type 0 where
   pub above : f.upto < n → slot < slot_at run f.upto
 
 -- A refused back leaves the count; to the origin nothing is left, and to a point what there is up to it.
-pub record LeavesBack (run : List Point) (n : ℕ) (item : List ℕ) (d : Done) : Type 0 where
-  pub kept : d.number ≢ 0 → d.count ≡ n
-  pub emptied : d.number ≡ 0 → Spells item Origin → d.count ≡ 0
-  pub cut : d.number ≡ 0 → (p : Point) → Spells item (Block p) → (0 < d.count) × (d.count ≤ n) × (get_or run (d.count - 1) empty ≡ p)
+pub record LeavesBack (run : List Point) (n : ℕ) (item : List ℕ) (d : Result ℕ Refusal) : Type 0 where
+  pub kept : number d ≢ 0 → left n d ≡ n
+  pub emptied : number d ≡ 0 → Spells item Origin → left n d ≡ 0
+  pub cut : number d ≡ 0 → (p : Point) → Spells item (Block p) → (0 < left n d) × (left n d ≤ n) × (get_or run (left n d - 1) empty ≡ p)
 
 -- A refused add leaves run and count; any other puts the point behind the last, so that no other record is written.
 pub record LeavesAdd (run : List Point) (n : ℕ) (item : List ℕ) (t : Told) : Type 0 where
-  pub kept : t.answer.number ≢ 0 → t ≡ told (done t.answer.number n) run
-  pub put : t.answer.number ≡ 0 → (p : Point) → Spells item (Block p) → t ≡ told (done 0 (n + 1)) (set run n p)
+  pub kept : number t.answer ≢ 0 → (t.run ≡ run) × (left n t.answer ≡ n)
+  pub put : number t.answer ≡ 0 → (p : Point) → Spells item (Block p) → t ≡ told (Ok (n + 1)) (set run n p)
   pub others : (j : ℕ) → j ≢ n → get_or t.run j empty ≡ get_or run j empty
 
 pub record Calls (run : List Point) (n : ℕ) : Type 0 where
-  pub find_exactly : (slot k : ℕ) → ((find_of run n slot).number ≡ k) ↔ WhenFind run n k
-  pub find_lost : (slot : ℕ) → (find_of run n slot).number ≡ 23 → find_of run n slot ≡ lost
-  pub find_finds : (slot : ℕ) → (find_of run n slot).number ≡ 0 → Finds run n slot (find_of run n slot)
-  pub back_exactly : (item : List ℕ) (k : ℕ) → ((back_of run n item).number ≡ k) ↔ WhenBack run n item k
+  pub find_exactly : (slot k : ℕ) → (number (find_of run n slot) ≡ k) ↔ WhenFind run n k
+  pub find_lost : (slot : ℕ) → number (find_of run n slot) ≡ 23 → (find_of run n slot ≡ Err OutOfRange) × (sought (find_of run n slot) ≡ record { upto = 0; place = Origin })
+  pub find_finds : (slot : ℕ) → number (find_of run n slot) ≡ 0 → Finds run n slot (sought (find_of run n slot))
+  pub back_exactly : (item : List ℕ) (k : ℕ) → (number (back_of run n item) ≡ k) ↔ WhenBack run n item k
   pub back_leaves : (item : List ℕ) → LeavesBack run n item (back_of run n item)
-  pub add_exactly : (item : List ℕ) (k : ℕ) → ((add_of run n item).answer.number ≡ k) ↔ WhenAdd run n item k
+  pub add_exactly : (item : List ℕ) (k : ℕ) → (number (add_of run n item).answer ≡ k) ↔ WhenAdd run n item k
   pub add_leaves : (item : List ℕ) → LeavesAdd run n item (add_of run n item)
 
 abbrev pub AllCalls : Type 0

@@ -1,12 +1,11 @@
 -- When a reading answers 0 and when 29 (T2), by what stands at a place. It says over again what `Points` defines, as a relation: a head is one of definite length, an array
 -- one of either form.
-use Rattle.std.specs.Prelude.{ℕ, ◌+◌, ◌-◌, ◌≤◌, ◌≡◌, List, ◌↔◌, length}
+use Rattle.std.specs.Prelude.{ℕ, ◌+◌, ◌-◌, ◌≤◌, ◌≡◌, List, ◌↔◌, length, Ok, Err}
 use Rattle.head.specs.Read.{head_at}
 use Rattle.head.specs.declared.read.Head.TheVariants.{Definite, Indefinite, Break}
 use Rattle.points.specs.declared.Place.{Place}
 use Rattle.points.specs.declared.Place.TheVariants.{Origin, Block}
-use Rattle.points.specs.declared.Read.{Read}
-use Rattle.points.specs.Points.{unsigned, bytes, array, hash_at, point, point_of, tip_of}
+use Rattle.points.specs.Points.{unsigned, bytes, array, hash_at, point, tip_with, refused, point_of, tip_of, point_told, tip_told}
 
 -- From place p up to place q stands an array of k elements, which lie from place a up to place b.
 pub data ArrayAt (bs : List ℕ) (k : ℕ) : ℕ → ℕ → ℕ → ℕ → Type 0 where
@@ -32,17 +31,14 @@ pub data WhenTip (bs : List ℕ) : ℕ → Type 0 where
   a_tip : {place : Place} {n : ℕ} → TipAt bs 0 place n (length bs) → WhenTip bs 0
   no_tip : ((place : Place) (n : ℕ) → TipAt bs 0 place n (length bs) → ⊥) → WhenTip bs 29
 
-abbrev pub read : Place → ℕ → Read
-read place n = record { number = 0; place = place; block = n }
-
--- and with 0 the answer is the one point, or tip, that stands there; with 29 nothing is set (T3; nothing is lent for writing)
+-- and with 0 the answer is the one point, or tip, that stands there; with 29 it holds nothing (T3; nothing is lent for writing)
 pub record Readings (bs : List ℕ) : Type 0 where
-  pub point_exactly : (n : ℕ) → ((point_of bs).number ≡ n) ↔ WhenPoint bs n
-  pub point_reads : (place : Place) → (point_of bs ≡ read place 0) ↔ PointAt bs 0 place (length bs)
-  pub point_refused : (point_of bs).number ≡ 29 → point_of bs ≡ record { number = 29; place = Origin; block = 0 }
-  pub tip_exactly : (n : ℕ) → ((tip_of bs).number ≡ n) ↔ WhenTip bs n
-  pub tip_reads : (place : Place) (n : ℕ) → (tip_of bs ≡ read place n) ↔ TipAt bs 0 place n (length bs)
-  pub tip_refused : (tip_of bs).number ≡ 29 → tip_of bs ≡ record { number = 29; place = Origin; block = 0 }
+  pub point_exactly : (n : ℕ) → ((point_told (point_of bs)).number ≡ n) ↔ WhenPoint bs n
+  pub point_reads : (place : Place) → (point_of bs ≡ Ok place) ↔ PointAt bs 0 place (length bs)
+  pub point_refused : (point_told (point_of bs)).number ≡ 29 → point_of bs ≡ Err refused
+  pub tip_exactly : (n : ℕ) → ((tip_told (tip_of bs)).number ≡ n) ↔ WhenTip bs n
+  pub tip_reads : (place : Place) (n : ℕ) → (tip_of bs ≡ Ok (tip_with place n)) ↔ TipAt bs 0 place n (length bs)
+  pub tip_refused : (tip_told (tip_of bs)).number ≡ 29 → tip_of bs ≡ Err refused
 
 abbrev pub ReadsAll : Type 0
 ReadsAll = (bs : List ℕ) → Readings bs

@@ -1,5 +1,6 @@
 -- A log in parallel slices is the same log, at every call.
 use Rattle.std.specs.Prelude.{ℕ, ◌≡◌, true, List, [], ◌∷◌}
+use Rattle.point_log.specs.Log.{number, left}
 use Rattle.slices.specs.Parallel.{match, records, back_in, add_in}
 use Rattle.point_log.specs.Besides.History.{Call, adds, backs, Log, answer, after, after_all}
 
@@ -12,13 +13,13 @@ abbrev pub log_of : Slices → Log
 log_of l = record { run = records l.slots l.hashes; count = l.count }
 
 abbrev pub answer_in : Slices → Call → ℕ
-answer_in l (adds item) = (add_in l.slots l.hashes l.count item).answer.number
-answer_in l (backs item) = (back_in l.slots l.hashes l.count item).number
+answer_in l (adds item) = number (add_in l.slots l.hashes l.count item).answer
+answer_in l (backs item) = number (back_in l.slots l.hashes l.count item)
 
 abbrev pub after_in : Slices → Call → Slices
 after_in l (adds item) =
-    let t = add_in l.slots l.hashes l.count item in record { slots = t.slots; hashes = t.hashes; count = t.answer.count }
-after_in l (backs item) = record { slots = l.slots; hashes = l.hashes; count = (back_in l.slots l.hashes l.count item).count }
+    let t = add_in l.slots l.hashes l.count item in record { slots = t.slots; hashes = t.hashes; count = left l.count t.answer }
+after_in l (backs item) = record { slots = l.slots; hashes = l.hashes; count = left l.count (back_in l.slots l.hashes l.count item) }
 
 unfoldable pub after_all_in : Slices → List Call → Slices
 after_all_in l [] = l

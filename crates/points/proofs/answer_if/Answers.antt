@@ -1,8 +1,0 @@
--- `points::answer_if` meets its contract: the test decides.
-use Rattle.points.proofs.answer_if.Goals as goal
-
-pub returns-then-test : goal.returns-then-test
-returns-then-test c = rw c.if-test.true
-
-pub returns : goal.returns
-returns c = rw c.if-test.false

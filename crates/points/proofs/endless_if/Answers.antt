@@ -1,5 +1,0 @@
--- `points::endless_if` meets its contract: the test decides.
-use Rattle.points.proofs.endless_if.Goals as goal
-
-pub returns-then-test : goal.returns-then-test
-returns-then-test c = rw c.if-test.true
