@@ -2,8 +2,7 @@
 // what it wrote. The rest of the buffer stays as it was.
 #![tactic(auto)]
 
-ghost use Rattle.std.specs.Prelude.{◌≡◌, ◌+◌, ◌/◌, ◌%◌, ◌<◌, ◌≤◌, length, set, take};
-ghost use Rattle.std.proofs.lemmas.List.Edits.{sets};
+ghost use Rattle.std.specs.Prelude.{◌≡◌, ◌+◌, ◌/◌, ◌%◌, ◌<◌, ◌≤◌, length, set};
 ghost use Rattle.io.specs.Digits.{hex_digit_ascii};
 ghost use Rattle.text.specs.Inside.{Decimal};
 
@@ -24,18 +23,10 @@ pub fn decimal(out: &mut [u8], at: usize, n: u64) -> usize
     requires { at + 20 ≤ length out.old }
     ensures { Decimal out.old at n out.new result }
 {
-    let mut digits = [0u8; DIGITS];
+    let mut digits = [0; DIGITS];
     let k = io::decimal(n, &mut digits);
-    front(out, at, &digits, k);
+    ring::copy(out, at, &digits, 0, k);
     at + k
-}
-
-// The first k digits.
-fn front(out: &mut [u8], at: usize, digits: &[u8; DIGITS], k: usize)
-    requires { (at + k ≤ length out.old) × (k ≤ 20) }
-    ensures { out.new ≡ sets out.old at (take k digits.now) }
-{
-    ring::copy(out, at, digits, 0, k);
 }
 
 // A byte in hex, two digits in lower case.
@@ -48,13 +39,11 @@ pub fn hex(out: &mut [u8], at: usize, b: u8) -> usize
     at + 2
 }
 
+// Kept: no `io::hex`, which fills sixteen bytes of its own, of which two would be copied.
 // A digit below 10 is so far behind `0`, and one from 10 on so far behind what is ten before `a`.
 fn digit(d: u8) -> u8
     requires { d < 16 }
     ensures { result ≡ hex_digit_ascii d }
 {
-    if d < 10 {
-        return b'0' + d;
-    }
-    b'a' - 10 + d
+    if d < 10 { b'0' + d } else { b'a' - 10 + d }
 }
