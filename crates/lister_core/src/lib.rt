@@ -82,6 +82,7 @@ impl Listing {
     }
 
     // The same, and where no payload bytes are to come, the segment has ended.
+    #[tactic(auto, unfolding(crate::specs::Lister::after))]
     fn then(self, h: Header, n: usize, k: usize) -> Step
         ensures { (told result ≡ after self h n k) × (result.used ≡ k) }
     {
@@ -101,6 +102,7 @@ impl Listing {
     }
 
     // One byte more of a header.
+    #[tactic(auto, using(crate::proofs::ListerLaws::head_whole, crate::proofs::ListerLaws::head_part))]
     fn header_byte(self, b: u8) -> Step
         ensures { (told result ≡ head_byte self b) × (result.used ≡ 1) }
     {

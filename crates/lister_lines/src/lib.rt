@@ -15,6 +15,7 @@ use wire::segment::Segment;
 const LINE: usize = 64;
 
 // Lists a run of bytes, all of it even where a line could not be written. Once one could not, no other is.
+#[tactic(auto, using(lister_core::proofs::ListerLaws::onward), unfolding(lister_core::specs::Lister::fed))]
 pub fn print_run(stdout: Stdout, l: &mut Listing, run: &[u8]) -> Result<(), WriteFailed>
     ensures { l.new ≡ (fed l.old run.now).listing }
 {
