@@ -1,15 +1,17 @@
 -- The ways out of build.
 -- Assumes nothing.
+use Rattle.std.proofs.Common.{Option, Some, None, Result, Err, ok_or}
+use Rattle.std.specs.Result.{IsErrAnd}
+use Rattle.std.proofs.lemmas.Result.{err_from_is_err_and}
 use Prim.Native.Nat.{ℕ, ◌+◌, ◌≤◌, ◌<◌}
 use mathlib.Core.Path.{◌≡◌, refl, sym, ap, subst, ◌∙◌}
 use mathlib.Core.Bool.{Bool, true, false}
 use mathlib.Core.List.{List, ◌++◌}
-use mathlib.Core.Option.{Option, none, some}
 use native.Mathlib.Omega.{arith}
 use lib.Dec.{leb}
 use lib.ListN.{length}
 use lib.Seq.{sets}
-use borrow.Author.Tests.{lt-ltb, le-ltb, leb-true, leb-false}
+use borrow.Author.Tests.{lt-ltb, le-ltb, leb-true}
 use Rattle.base.proofs.Conds.{so, is, and_left}
 use Rattle.wire.specs.Instances.{known, instances}
 use Rattle.head.specs.Write.{shortest}
@@ -21,16 +23,18 @@ use Rattle.messages.specs.declared.forms.Listed.TheVariants.{Row, Unknown}
 use Rattle.messages.specs.Inside.{form_at, Finds}
 use Rattle.elements.specs.Matching.{array}
 use Rattle.messages.proofs.FormLaws.{at_most}
-use Rattle.parts.specs.declared.Plan.{Plan}
+use Rattle.parts.specs.declared.given.Given.{Given}
 use Rattle.parts.specs.Given.{all_given}
 use Rattle.parts.specs.Counting.{on_some}
-use Rattle.parts.specs.Inside.{nothing, planned, plan_of}
+use Rattle.parts.specs.Inside.{nothing, planned, Holds, arguments_of}
 use Rattle.parts.proofs.Counting.{Found}
 use Rattle.layout.specs.Inside.{body_of, whole_of, all_heads}
 use Rattle.layout.proofs.LayoutLaws.{whole_long}
+use Rattle.build.specs.declared.Refusal.{Refusal}
+use Rattle.build.specs.declared.Refusal.TheVariants.{NoMessage}
 use Rattle.build.specs.Made.{made, encoded}
 use Rattle.build.specs.Building.{told, given, bytes_of, handed, build_of}
-use Rattle.build.specs.Inside.{refusal, made_by, HeadsAndRuns}
+use Rattle.build.specs.Inside.{refusal, answer, made_by, made_of}
 use Rattle.build.proofs.PlanLaws.{lent, plan_makes, plan_long, all_lent}
 
 -- ---- the message of a form
@@ -41,69 +45,61 @@ at_most_two runs first second g = leb-true runs 2 (is (leb runs 2) (and_left (le
 module _ (asked : Bool) (ns : List ℕ) (runs : ℕ) (first second : List ℕ) (kind : ℕ) (fs : List Field) where
   -- arguments first, and bytes then
   plan_whole : runs ≤ 2 → length fs ≤ 3
-      → on_some (made asked fs ns (lent first second runs)) (λ ys. some (shortest array (length fs + 1) ++ (shortest 0 kind ++ ys)))
+      → on_some (made asked fs ns (lent first second runs)) (λ ys. Some (shortest array (length fs + 1) ++ (shortest 0 kind ++ ys)))
       ≡ made_by asked ns runs first second fs kind
   unfolding made_by
   plan_whole two few =
-      ap (λ (o : Option (List ℕ)). on_some o (λ ys. some (shortest array (length fs + 1) ++ (shortest 0 kind ++ ys))))
+      ap (λ (o : Option (List ℕ)). on_some o (λ ys. Some (shortest array (length fs + 1) ++ (shortest 0 kind ++ ys))))
       (plan_makes asked ns runs first second two fs 0 0 0 nothing (omega arith) (omega arith) (omega arith))
       ∙ of (planned ns runs first second fs 0 0 0 nothing)
     where
       of : (o : Option (List ℕ))
-          → on_some (on_some o (λ args. some (body_of asked first second fs args 0 0)))
-          (λ ys. some (shortest array (length fs + 1) ++ (shortest 0 kind ++ ys)))
-          ≡ on_some o (λ args. some (whole_of asked first second fs kind args))
-      of none = refl
-      of (some args) = refl
-
-  -- it is as long as its heads and all runs
-  pub heads_and_runs : (args : List ℕ) → all_given runs first second ≡ true → planned ns runs first second fs 0 0 0 nothing ≡ some args
-      → HeadsAndRuns asked first second fs kind args
-  heads_and_runs args g e =
-      let body = subst (Found (λ _. length (body_of asked first second fs args 0 0) ≡ _)) e
-      (plan_long asked ns runs first second (at_most_two runs first second g) fs args) in
-      omega (arith, whole_long asked first second fs kind args, all_lent runs first second g)
+          → on_some (on_some o (λ args. Some (body_of asked first second fs args 0 0)))
+          (λ ys. Some (shortest array (length fs + 1) ++ (shortest 0 kind ++ ys)))
+          ≡ on_some o (λ args. Some (whole_of asked first second fs kind args))
+      of None = refl
+      of (Some args) = refl
 
 -- ---- handing it over
 
-module _ (asked : Bool) (first second : List ℕ) (fs : List Field) (kind : ℕ) (args buf : List ℕ) (e : HeadsAndRuns asked first second fs kind args) {heads : ℕ}
-    (h : heads ≡ all_heads asked fs kind args) where
-  abbrev whole : List ℕ
-  whole = whole_of asked first second fs kind args
+module _ (bs buf : List ℕ) where
+  pub hand_short : length buf < length bs → told (refusal 18) buf ≡ handed buf (Some bs)
+  hand_short h = rw (lt-ltb (length buf) (length bs) h)
 
-  abbrev need : ℕ
-  need = heads + (length first + length second)
+  pub hand_over : {n : ℕ} {after : List ℕ} → n ≡ length bs → n ≤ length buf → after ≡ sets buf 0 bs
+      → told (record { number = 0; len = n }) after ≡ handed buf (Some bs)
+  hand_over en h ea =
+      let fits : length bs ≤ length buf = omega arith in
+      rw (le-ltb (length buf) (length bs) fits, en, ea)
 
-  exact : length whole ≡ need
-  exact = omega arith
-
-  pub hand_fits : {t : Bool} → t ≡ leb need (length buf) → t ≡ true → length whole ≤ length buf
-  hand_fits f t = omega (arith, exact, leb-true need (length buf) (sym f ∙ t))
-
-  pub hand_short : {t : Bool} → t ≡ leb need (length buf) → t ≡ false → told (refusal 18) buf ≡ handed buf (some whole)
-  hand_short f t = rw (lt-ltb (length buf) (length whole) (omega (arith, exact, leb-false need (length buf) (sym f ∙ t))))
-
-  pub hand_over : {t : Bool} {n : ℕ} {after : List ℕ} → t ≡ leb need (length buf) → t ≡ true → n ≡ need → after ≡ sets buf 0 whole
-      → told (record { number = 0; len = n }) after ≡ handed buf (some whole)
-  hand_over {n = n} {after = after} f t en ea =
-      ap (λ (k : ℕ). told (record { number = 0; len = k }) after) (en ∙ sym exact)
-      ∙ ap (told (record { number = 0; len = length whole })) ea
-      ∙ rw (le-ltb (length buf) (length whole) (hand_fits f t))
+-- what stands in the way is that there is none of these
+pub no_message : {A : Type 0} (o : Option A) (r : Result ℕ Refusal) (e : Refusal) → IsErrAnd r (λ x. x ≡ e) → Err e ≡ ok_or o NoMessage → o ≡ None
+    → answer r ≡ refusal 15
+no_message o r e answers said none =
+    let p = err_from_is_err_and r answers in
+    let s = rw none at said in
+    let k : e ≡ NoMessage = cc in
+    rw (p.1, p.2, k)
 
 -- ---- the parts of a form
 
-module _ (asked : Bool) (ns : List ℕ) (runs : ℕ) (first second : List ℕ) (kind : ℕ) (fs : List Field) (p : Plan)
-    (e : plan_of p ≡ planned ns runs first second fs 0 0 0 nothing) where
-  pub unplanned : p.made ≡ false → made_by asked ns runs first second fs kind ≡ none
+module _ (asked : Bool) (g : Given) (kind : ℕ) (fs : List Field) where
+  pub unplanned : arguments_of g fs ≡ None → made_of asked g fs kind ≡ None
   unfolding made_by
-  unplanned t = rw (← e, t)
+  unplanned e = rw e
 
-  pub plan_is : p.made ≡ true → planned ns runs first second fs 0 0 0 nothing ≡ some p.arguments
-  plan_is t = sym e ∙ rw t
+  module _ {args : List ℕ} (e : arguments_of g fs ≡ Some args) where
+    pub planned_so : Some (whole_of asked g.first.now g.second.now fs kind args) ≡ made_of asked g fs kind
+    unfolding made_by
+    planned_so = rw e
 
-  pub planned_so : p.made ≡ true → some (whole_of asked first second fs kind p.arguments) ≡ made_by asked ns runs first second fs kind
-  unfolding made_by
-  planned_so t = rw (plan_is t)
+    -- it is as long as its heads and all runs
+    pub heads_and_runs : length (whole_of asked g.first.now g.second.now fs kind args)
+        ≡ all_heads asked fs kind args + (length g.first.now + length g.second.now)
+    heads_and_runs =
+        let body = subst (Found (λ _. length (body_of asked g.first.now g.second.now fs args 0 0) ≡ _)) e
+        (plan_long asked g.numbers.now g.runs g.first.now g.second.now (at_most_two g.runs g.first.now g.second.now g.complete) fs args) in
+        omega (arith, whole_long asked g.first.now g.second.now fs kind args, all_lent g.runs g.first.now g.second.now g.complete)
 
 -- ---- a kind, and its row
 
@@ -111,22 +107,26 @@ module _ (p : Protocol) (kind : ℕ) (asked : Bool) (ns : List ℕ) (runs : ℕ)
   abbrev message : Option (List ℕ)
   message = bytes_of p kind asked ns runs first second
 
-  pub kind_not_given : all_given runs first second ≡ false → message ≡ none
+  pub kind_not_given : all_given runs first second ≡ false → message ≡ None
   unfolding bytes_of given
   kind_not_given g = rw g
 
-  module _ (g : all_given runs first second ≡ true) {w : Listed} (found : Finds p kind w) where
-    pub kind_unknown : w ≡ Unknown → message ≡ none
-    unfolding bytes_of given encoded
-    kind_unknown e = rw (g, subst (Finds p kind) e found)
+  complete : (g : Given) → Holds g ns runs first second → all_given runs first second ≡ true
+  complete g holds = let c = g.complete in rw (← holds.1, ← holds.2, ← holds.3) c
 
-    pub kind_known : (row : ℕ) → w ≡ Row row → made_by asked ns runs first second (form_at row).fields kind ≡ message
+  module _ (g : Given) (holds : Holds g ns runs first second) {w : Listed} (found : Finds p kind w) where
+    pub kind_unknown : w ≡ Unknown → message ≡ None
     unfolding bytes_of given encoded
-    kind_known row e =
+    kind_unknown e = rw (complete g holds, subst (Finds p kind) e found)
+
+    pub kind_known : {row : ℕ} → w ≡ Row row → made_of asked g (form_at row).fields kind ≡ message
+    unfolding bytes_of given encoded
+    kind_known {row} e =
         let row-found : Finds p kind (Row row) = subst (Finds p kind) e found in
-        sym
-        (rw (g, row-found.1)
-        (plan_whole asked ns runs first second kind (form_at row).fields (at_most_two runs first second g) (at_most row row-found.0)))
+        rw (holds.0, holds.1, holds.2, holds.3)
+        (sym
+        (rw (complete g holds, row-found.1)
+        (plan_whole asked ns runs first second kind (form_at row).fields (at_most_two runs first second (complete g holds)) (at_most row row-found.0))))
 
 -- ---- the bundle, and its instance
 

@@ -1,16 +1,16 @@
 -- What is made of runs of bytes is bytes: heads are, and all else is the runs.
 -- Assumes nothing.
+use Rattle.std.proofs.Common.{Option, Some, None}
 use Prim.Native.Nat.{ℕ, ◌+◌}
 use mathlib.Core.Bool.{Bool, cond}
 use mathlib.Core.List.{List, [], ◌∷◌, ◌++◌}
-use mathlib.Core.Option.{Option, none, some}
-use Rattle.std.specs.Prelude.{Some, None}
 use native.Mathlib.Omega.{arith}
 use lib.Dec.{eqb, ltb}
 use lib.ListN.{length}
 use Rattle.base.specs.Numbers.{Bytes}
 use Rattle.base.proofs.Conds.{cond_cases}
 use Rattle.base.proofs.NumberLaws.{bytes_append}
+use mathlib.Core.Option as forms
 use Rattle.head.specs.Write.{shortest}
 use Rattle.head.proofs.WriteLaws.{shortest_bytes}
 use Rattle.rows.specs.declared.Protocol.{Protocol}
@@ -25,7 +25,7 @@ use Rattle.parts.specs.Given.{numeric}
 use Rattle.layout.specs.Asked.{openly}
 use Rattle.parts.specs.Counting.{on_some, count_of}
 use Rattle.parts.proofs.Counting.{Found}
-use Rattle.build.specs.Made.{headed, limited, of_number, of_run, first_of, all_used, made, encoded}
+use Rattle.build.specs.Made.{on_form, headed, limited, of_number, of_run, first_of, all_used, made, encoded}
 
 -- ---- fields
 
@@ -40,14 +40,14 @@ number_bytes (field.Below limit) v = limited_bytes limit v
 number_bytes field.Bool v =
     cond_cases (Found Bytes) (eqb v 0) (λ _. (omega arith, tt)) (λ _. cond_cases (Found Bytes) (eqb v 1) (λ _. (omega arith, tt)) (λ _. tt))
 
-item_bytes : (r : List ℕ) (e : End) → Bytes r → Found Bytes (on_end none e (λ q. cond (eqb q (length r)) (some r) none))
+item_bytes : (r : List ℕ) (e : End) → Bytes r → Found Bytes (on_end None e (λ q. cond (eqb q (length r)) (Some r) None))
 item_bytes r (Some q) b = cond_cases (Found Bytes) (eqb q (length r)) (λ _. b) (λ _. tt)
 item_bytes r None b = tt
 
-headed_bytes : (asked : Bool) (e : Element) (r : List ℕ) (o : Option ℕ) → Bytes r → Found Bytes (on_some o (λ k. some (headed asked e r k)))
+headed_bytes : (asked : Bool) (e : Element) (r : List ℕ) (o : Option ℕ) → Bytes r → Found Bytes (on_some o (λ k. Some (headed asked e r k)))
 unfolding Bytes
-headed_bytes asked e r none b = tt
-headed_bytes asked e r (some k) b =
+headed_bytes asked e r None b = tt
+headed_bytes asked e r (Some k) b =
     cond_cases Bytes (openly asked e) (λ _. (omega (arith, opener_low e), bytes_append r (Break ∷ []) b (omega arith, tt)))
     (λ _. bytes_append (shortest (opener e) k) r (shortest_bytes (opener e) k (omega (arith, opener_low e))) b)
 
@@ -64,10 +64,10 @@ abbrev pub AllBytes : List (List ℕ) → Type 0
 AllBytes [] = Unit {0}
 AllBytes (r ∷ rs) = Bytes r × AllBytes rs
 
-in_front : (o m : Option (List ℕ)) → Found Bytes o → Found Bytes m → Found Bytes (on_some o (λ xs. on_some m (λ ys. some (xs ++ ys))))
-in_front none m b c = tt
-in_front (some xs) none b c = tt
-in_front (some xs) (some ys) b c = bytes_append xs ys b c
+in_front : (o m : Option (List ℕ)) → Found Bytes o → Found Bytes m → Found Bytes (on_some o (λ xs. on_some m (λ ys. Some (xs ++ ys))))
+in_front None m b c = tt
+in_front (Some xs) None b c = tt
+in_front (Some xs) (Some ys) b c = bytes_append xs ys b c
 
 none_left : (ns : List ℕ) (rs : List (List ℕ)) → Found Bytes (all_used ns rs)
 unfolding Bytes
@@ -76,13 +76,13 @@ none_left [] (r ∷ rs) = tt
 none_left (n ∷ ns) rs = tt
 
 by_number : (asked : Bool) (f : Field) (fs : List Field) (ns : List ℕ) (rs : List (List ℕ)) → ((ns : List ℕ) → Found Bytes (made asked fs ns rs))
-    → Found Bytes (first_of ns (λ v ns. on_some (of_number f v) (λ xs. on_some (made asked fs ns rs) (λ ys. some (xs ++ ys)))))
+    → Found Bytes (first_of ns (λ v ns. on_some (of_number f v) (λ xs. on_some (made asked fs ns rs) (λ ys. Some (xs ++ ys)))))
 by_number asked f fs [] rs rest = tt
 by_number asked f fs (v ∷ ns) rs rest = in_front (of_number f v) (made asked fs ns rs) (number_bytes f v) (rest ns)
 
 by_run : (asked : Bool) (f : Field) (fs : List Field) (ns : List ℕ) (rs : List (List ℕ)) → AllBytes rs
     → ((rs : List (List ℕ)) → AllBytes rs → Found Bytes (made asked fs ns rs))
-    → Found Bytes (first_of rs (λ r rs. on_some (of_run asked f r) (λ xs. on_some (made asked fs ns rs) (λ ys. some (xs ++ ys)))))
+    → Found Bytes (first_of rs (λ r rs. on_some (of_run asked f r) (λ xs. on_some (made asked fs ns rs) (λ ys. Some (xs ++ ys)))))
 by_run asked f fs ns [] b rest = tt
 by_run asked f fs ns (r ∷ rs) (h, b) rest = in_front (of_run asked f r) (made asked fs ns rs) (run_bytes asked f r h) (rest rs b)
 
@@ -98,13 +98,13 @@ unfolding encoded
 encoded_bytes p kind asked ns rs b = of (form_of p kind)
   where
     whole : (fs : List Field) (o : Option (List ℕ)) → Found Bytes o
-        → Found Bytes (on_some o (λ ys. some (shortest array (length fs + 1) ++ (shortest 0 kind ++ ys))))
-    whole fs none c = tt
-    whole fs (some ys) c =
+        → Found Bytes (on_some o (λ ys. Some (shortest array (length fs + 1) ++ (shortest 0 kind ++ ys))))
+    whole fs None c = tt
+    whole fs (Some ys) c =
         bytes_append (shortest array (length fs + 1)) (shortest 0 kind ++ ys) (shortest_bytes array (length fs + 1) (omega arith))
         (bytes_append (shortest 0 kind) ys (shortest_bytes 0 kind (omega arith)) c)
 
-    of : (o : Option (List Field))
-        → Found Bytes (on_some o (λ fs. on_some (made asked fs ns rs) (λ ys. some (shortest array (length fs + 1) ++ (shortest 0 kind ++ ys)))))
-    of none = tt
-    of (some fs) = whole fs (made asked fs ns rs) (made_bytes asked fs ns rs b)
+    of : (o : forms.Option (List Field))
+        → Found Bytes (on_form o (λ fs. on_some (made asked fs ns rs) (λ ys. Some (shortest array (length fs + 1) ++ (shortest 0 kind ++ ys)))))
+    of forms.none = tt
+    of (forms.some fs) = whole fs (made asked fs ns rs) (made_bytes asked fs ns rs b)

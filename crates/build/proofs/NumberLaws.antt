@@ -1,12 +1,12 @@
 -- Which number build answers, and what it leaves: `exactly`, `not_a_message`, `untouched`, `stands`; what it makes reads back and is made
 -- again of its own parts: `reads_back`, `givable`, `rebuilds`.
 -- Assumes nothing.
+use Rattle.std.proofs.Common.{Option, Some, None}
 use Prim.Native.Nat.{ℕ, zero, suc, ◌+◌, ◌^◌, ◌<◌, ◌≤◌}
 use mathlib.Core.Path.{◌≡◌, refl, sym, ap, subst, subst⁻¹, ◌∙◌}
 use mathlib.Core.Bool.{Bool, true, false, true≢false}
 use mathlib.Core.List.{List, [], ◌∷◌, ◌++◌}
 use mathlib.Core.Logic.{◌↔◌}
-use mathlib.Core.Option.{Option, none, some}
 use native.Mathlib.Omega.{arith}
 use lib.Dec.{ltb}
 use lib.ListN.{length, take, drop}
@@ -53,7 +53,7 @@ given_bytes : (runs : ℕ) (first second : List ℕ) → Bytes first → Bytes s
 given_bytes runs first second h l = given_each AllBytes runs first second tt (h, tt) (h, (l, tt))
 
 -- two runs can be given
-two_given : (rs : List (List ℕ)) → length rs ≤ 2 → (runs : ℕ) × (first : List ℕ) × (second : List ℕ) × (given runs first second ≡ some rs)
+two_given : (rs : List (List ℕ)) → length rs ≤ 2 → (runs : ℕ) × (first : List ℕ) × (second : List ℕ) × (given runs first second ≡ Some rs)
 unfolding given
 two_given [] h = (0, [], [], refl)
 two_given (r ∷ []) h = (1, r, [], refl)
@@ -74,14 +74,14 @@ module _ (bundle i kind : ℕ) (asked : Bool) (ns : List ℕ) (runs : ℕ) (firs
   data Way : Type 0 where
     foreign : known bundle ≡ false → out ≡ refused buf 23 → Way
     above : known bundle ≡ true → instances bundle ≤ i → out ≡ refused buf 10 → Way
-    unmade : i < instances bundle → message ≡ none → out ≡ refused buf 15 → Way
-    short : i < instances bundle → (bs : List ℕ) → message ≡ some bs → length buf < length bs → out ≡ refused buf 18 → Way
-    made : i < instances bundle → (bs : List ℕ) → message ≡ some bs → length bs ≤ length buf
+    unmade : i < instances bundle → message ≡ None → out ≡ refused buf 15 → Way
+    short : i < instances bundle → (bs : List ℕ) → message ≡ Some bs → length buf < length bs → out ≡ refused buf 18 → Way
+    made : i < instances bundle → (bs : List ℕ) → message ≡ Some bs → length bs ≤ length buf
         → out ≡ told (record { number = 0; len = length bs }) (sets buf 0 bs) → Way
 
   by_message : i < instances bundle → (o : Option (List ℕ)) → message ≡ o → out ≡ handed buf o → Way
-  by_message low none e q = unmade low e q
-  by_message low (some bs) e q =
+  by_message low None e q = unmade low e q
+  by_message low (Some bs) e q =
       by_test (ltb (length buf) (length bs)) (λ t. short low bs e (ltb-true (length buf) (length bs) t) (q ∙ rw t))
       (λ t. made low bs e (ltb-false (length buf) (length bs) t) (q ∙ rw t))
 
@@ -107,7 +107,7 @@ module _ (bundle i kind : ℕ) (asked : Bool) (ns : List ℕ) (runs : ℕ) (firs
   zeroed : (bs : List ℕ) → out ≡ told (record { number = 0; len = length bs }) (sets buf 0 bs) → number ≡ 0
   zeroed bs e = ap (λ (x : Told). x.answer.number) e
 
-  apart : (bs : List ℕ) → message ≡ some bs → message ≡ none → ⊥
+  apart : (bs : List ℕ) → message ≡ Some bs → message ≡ None → ⊥
   apart bs e q = let z : ◌≡◌ {A = ℕ} 0 1 = cc in omega arith
 
   -- where the "when" of a number holds, it is answered; and one holds
@@ -128,32 +128,32 @@ module _ (bundle i kind : ℕ) (asked : Bool) (ns : List ℕ) (runs : ℕ) (firs
 
   -- the bytes are a message that says these parts, with own heads as short as can be
   abbrev Back : List ℕ → Option (List (List ℕ)) → Type 0
-  Back bs o = (xs : List Value) × (m : Matches (speaks bundle i) bs kind xs) × (numbers_of xs ≡ ns) × (o ≡ some (runs_of bs xs)) × OwnLeast asked m
+  Back bs o = (xs : List Value) × (m : Matches (speaks bundle i) bs kind xs) × (numbers_of xs ≡ ns) × (o ≡ Some (runs_of bs xs)) × OwnLeast asked m
 
   -- the message that was made of these runs
-  back_by : (o : Option (List (List ℕ))) (bs : List ℕ) → Found Slices o → on_some o (λ rs. encoded (speaks bundle i) kind asked ns rs) ≡ some bs → Back bs o
-  back_by none bs fit e = absurd (let z : ◌≡◌ {A = ℕ} 0 1 = cc in omega arith)
-  back_by (some rs) bs fit e = let r = read_back (speaks bundle i) kind asked ns rs bs fit e in (r.0, r.1, r.2, ap some (sym r.3), r.4)
+  back_by : (o : Option (List (List ℕ))) (bs : List ℕ) → Found Slices o → on_some o (λ rs. encoded (speaks bundle i) kind asked ns rs) ≡ Some bs → Back bs o
+  back_by None bs fit e = absurd (let z : ◌≡◌ {A = ℕ} 0 1 = cc in omega arith)
+  back_by (Some rs) bs fit e = let r = read_back (speaks bundle i) kind asked ns rs bs fit e in (r.0, r.1, r.2, ap Some (sym r.3), r.4)
 
-  bytes_by : (o : Option (List (List ℕ))) (bs : List ℕ) → Found AllBytes o → on_some o (λ rs. encoded (speaks bundle i) kind asked ns rs) ≡ some bs → Bytes bs
-  bytes_by none bs fit e = absurd (let z : ◌≡◌ {A = ℕ} 0 1 = cc in omega arith)
-  bytes_by (some rs) bs fit e = subst (Found Bytes) e (encoded_bytes (speaks bundle i) kind asked ns rs fit)
+  bytes_by : (o : Option (List (List ℕ))) (bs : List ℕ) → Found AllBytes o → on_some o (λ rs. encoded (speaks bundle i) kind asked ns rs) ≡ Some bs → Bytes bs
+  bytes_by None bs fit e = absurd (let z : ◌≡◌ {A = ℕ} 0 1 = cc in omega arith)
+  bytes_by (Some rs) bs fit e = subst (Found Bytes) e (encoded_bytes (speaks bundle i) kind asked ns rs fit)
 
   -- no bytes are a message that says these parts
   abbrev Nothing : Type 0
   Nothing =
       (bs : List ℕ) (xs : List Value) → Bytes bs → Matches (speaks bundle i) bs kind xs → numbers_of xs ≡ ns
-      → given runs first second ≡ some (runs_of bs xs) → ⊥
+      → given runs first second ≡ Some (runs_of bs xs) → ⊥
 
-  none_made : message ≡ none → Nothing
+  none_made : message ≡ None → Nothing
   unfolding bytes_of
   none_made e bs xs bytes m n g =
       let again = message_made bs asked (speaks bundle i) bytes m in
-      let same : message ≡ some again.0 = rw (g, ← n) again.1 in
+      let same : message ≡ Some again.0 = rw (g, ← n) again.1 in
       apart again.0 same e
 
   module _ (bf : Bytes first) (bs : Bytes second) (h : length first < 2 ^ 64) (l : length second < 2 ^ 64) where
-    something : (cs : List ℕ) → message ≡ some cs → Nothing → ⊥
+    something : (cs : List ℕ) → message ≡ Some cs → Nothing → ⊥
     unfolding bytes_of
     something cs e nowhere =
         let r = back_by (given runs first second) cs (given_slices runs first second h l) e in
@@ -180,7 +180,7 @@ module _ (bundle i kind : ℕ) (asked : Bool) (ns : List ℕ) (runs : ℕ) (firs
     untouched_by (short h bs m l e) z = as_was 18 e
     untouched_by (made h bs m l e) z = absurd (z (ap (λ (x : Told). x.answer.number) (is ∙ e)))
 
-    stands_by : Way → b.number ≡ 0 → (bs : List ℕ) × (message ≡ some bs) × (b.len ≡ length bs) × (after ≡ bs ++ drop (length bs) buf)
+    stands_by : Way → b.number ≡ 0 → (bs : List ℕ) × (message ≡ Some bs) × (b.len ≡ length bs) × (after ≡ bs ++ drop (length bs) buf)
     stands_by (foreign k e) z = absurd (omega (arith, number_is 23 e))
     stands_by (above k h e) z = absurd (omega (arith, number_is 10 e))
     stands_by (unmade h m e) z = absurd (omega (arith, number_is 15 e))
@@ -203,7 +203,7 @@ module _ (bundle i kind : ℕ) (asked : Bool) (ns : List ℕ) (runs : ℕ) (firs
         (back_by (given runs first second) bs (given_slices runs first second h l) s.1)
 
     -- the message cs is made, and there is room
-    made_again : (cs : List ℕ) → i < instances bundle → message ≡ some cs → length cs ≤ length buf
+    made_again : (cs : List ℕ) → i < instances bundle → message ≡ Some cs → length cs ≤ length buf
         → (b.number ≡ 0) × (b.len ≡ length cs) × (take b.len after ≡ cs)
     unfolding build_of
     made_again cs low e room =
@@ -244,7 +244,7 @@ unfolding bytes_of
 rebuilds bundle i kind asked bs xs runs first second buf b after low bytes small m asks brief g room q =
     let again = made-again-of (speaks bundle i) bs kind xs asked bytes small m in
     let cs : List ℕ = again.message in
-    let e : bytes_of (speaks bundle i) kind asked (numbers_of xs) runs first second ≡ some cs = rw g again.made in
+    let e : bytes_of (speaks bundle i) kind asked (numbers_of xs) runs first second ≡ Some cs = rw g again.made in
     let shorter : length cs ≤ length bs = again.no_longer asks brief in
     let r = made_again bundle i kind asked (numbers_of xs) runs first second buf b after q cs low e (omega arith) in
     (r.0, omega (arith, r.1), (λ e. again.same.0 (sym r.2 ∙ e), λ s. r.2 ∙ again.same.1 s))

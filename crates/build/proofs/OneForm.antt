@@ -152,14 +152,14 @@ same_run field.Bool r t = refl
 
 module _ (f : Field) (fs : List Field) where
   number_same : (ns : List ℕ) (rs : List (List ℕ)) → ((ns : List ℕ) → made true fs ns rs ≡ made false fs ns rs)
-      → first_of ns (λ v ns. on_some (of_number f v) (λ xs. on_some (made true fs ns rs) (λ ys. some (xs ++ ys))))
-      ≡ first_of ns (λ v ns. on_some (of_number f v) (λ xs. on_some (made false fs ns rs) (λ ys. some (xs ++ ys))))
+      → first_of ns (λ v ns. on_some (of_number f v) (λ xs. on_some (made true fs ns rs) (λ ys. Some (xs ++ ys))))
+      ≡ first_of ns (λ v ns. on_some (of_number f v) (λ xs. on_some (made false fs ns rs) (λ ys. Some (xs ++ ys))))
   number_same [] rs rest = refl
   number_same (v ∷ ns) rs rest = rw (rest ns)
 
   run_same : (ns : List ℕ) (rs : List (List ℕ)) → NotList f → ((rs : List (List ℕ)) → made true fs ns rs ≡ made false fs ns rs)
-      → first_of rs (λ r rs. on_some (of_run true f r) (λ xs. on_some (made true fs ns rs) (λ ys. some (xs ++ ys))))
-      ≡ first_of rs (λ r rs. on_some (of_run false f r) (λ xs. on_some (made false fs ns rs) (λ ys. some (xs ++ ys))))
+      → first_of rs (λ r rs. on_some (of_run true f r) (λ xs. on_some (made true fs ns rs) (λ ys. Some (xs ++ ys))))
+      ≡ first_of rs (λ r rs. on_some (of_run false f r) (λ xs. on_some (made false fs ns rs) (λ ys. Some (xs ++ ys))))
   run_same ns [] t rest = refl
   run_same ns (r ∷ rs) t rest = rw (same_run f r t, rest rs)
 

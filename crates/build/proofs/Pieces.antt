@@ -1,11 +1,11 @@
 -- A message is made again of what it says: each number and run is taken, and no head of the same meaning is shorter than
 -- the one made.
 -- Assumes nothing.
+use Rattle.std.proofs.Common.{Option, Some}
 use Prim.Native.Nat.{ℕ, ◌+◌, ◌-◌, ◌≤◌, ◌<◌}
 use mathlib.Core.Path.{◌≡◌, refl, sym, ap, subst, subst⁻¹, ◌∙◌}
 use mathlib.Core.Bool.{Bool, true, false, true≢false, false≢true}
 use mathlib.Core.List.{List, [], ◌∷◌, ◌++◌}
-use mathlib.Core.Option.{Option, some}
 use native.Mathlib.Omega.{arith}
 use lib.ListN.{length, get_or, take, length-append}
 use native.Mathlib.Decide.{dec_lt}
@@ -92,7 +92,7 @@ module _ (bs : List ℕ) where
 
   -- what is made, if it is, and that it is such a piece
   abbrev pub Gives : Option (List ℕ) → ℕ → ℕ → Type 0 → Type 0 → Type 0
-  Gives o p q H S = (cs : List ℕ) × (o ≡ some cs) × Piece bs p q cs H S
+  Gives o p q H S = (cs : List ℕ) × (o ≡ Some cs) × Piece bs p q cs H S
 
   module _ (asked : Bool) where
     abbrev of_value : Field → Value → Option (List ℕ)
@@ -196,7 +196,7 @@ module _ (bs : List ℕ) where
         let l = elements_inside bs (opens_within bs (opener e) p x (opener_high e) o).1 s in
         let r : List ℕ = run bs a (q - a) in (
           headed asked e r k,
-          ap (λ (o : Option ℕ). on_some o (λ k. some (headed asked e r k))) ((counts e r k).1 (elements_alone bs a q (omega arith) l s)),
+          ap (λ (o : Option ℕ). on_some o (λ k. Some (headed asked e r k))) ((counts e r k).1 (elements_alone bs a q (omega arith) l s)),
           list_piece e x p k a q bytes o (omega arith) l c,
         )
     field_made bytes (matching.below u l) = number_made bytes u l
@@ -210,7 +210,7 @@ module _ (bs : List ℕ) where
     -- the first field takes what it says
     first_made : {f : Field} {p q : ℕ} {x : Value} → FieldAt bs f p x q → (fs : List Field) (xs : List Value)
         → made asked (f ∷ fs) (numbers_of (x ∷ xs)) (runs_of bs (x ∷ xs))
-        ≡ on_some (of_value f x) (λ cs. on_some (made asked fs (numbers_of xs) (runs_of bs xs)) (λ ys. some (cs ++ ys)))
+        ≡ on_some (of_value f x) (λ cs. on_some (made asked fs (numbers_of xs) (runs_of bs xs)) (λ ys. Some (cs ++ ys)))
     unfolding made
     first_made (matching.item i) fs xs = refl
     first_made (matching.list x o s c) fs xs = refl

@@ -1,11 +1,10 @@
 -- Arguments first and bytes then make the message that the definition makes field by field; its length is that of its heads and of all runs.
 -- Assumes nothing.
+use Rattle.std.proofs.Common.{Option, Some, None}
 use Prim.Native.Nat.{ℕ, zero, suc, ◌+◌, ◌≤◌, ◌<◌}
 use mathlib.Core.Path.{◌≡◌, refl, sym, ap, subst, ◌∙◌}
 use mathlib.Core.Bool.{Bool, true, false, true≢false, false≢true, cond, ◌&&◌}
 use mathlib.Core.List.{List, [], ◌∷◌, ◌++◌, append-nil}
-use mathlib.Core.Option.{Option, none, some}
-use Rattle.std.specs.Prelude.{Some, None}
 use native.Mathlib.Omega.{arith}
 use native.Mathlib.Numerals.{add-one}
 use lib.Dec.{eqb, ltb, leb}
@@ -32,11 +31,11 @@ use Rattle.build.specs.Made.{headed, of_number, of_run, all_used, made}
 -- ---- one field
 
 limited_piece : (limit v : ℕ) (f : ℕ → List ℕ) → ((v : ℕ) → f v ≡ shortest 0 v)
-    → cond (ltb v limit) (some (shortest 0 v)) none ≡ on_some (cond (ltb v limit) (some v) none) (λ a. some (f a))
-limited_piece limit v f e = by_test (ltb v limit) (λ t. rw t (ap some (sym (e v)))) (λ t. rw t)
+    → cond (ltb v limit) (Some (shortest 0 v)) None ≡ on_some (cond (ltb v limit) (Some v) None) (λ a. Some (f a))
+limited_piece limit v f e = by_test (ltb v limit) (λ t. rw t (ap Some (sym (e v)))) (λ t. rw t)
 
 pub number_piece : (asked : Bool) (f : Field) (v : ℕ) (run : List ℕ) → numeric f ≡ true
-    → of_number f v ≡ on_some (number_argument f v) (λ a. some (piece_of asked f a run))
+    → of_number f v ≡ on_some (number_argument f v) (λ a. Some (piece_of asked f a run))
 unfolding piece_of shortest octets
 number_piece asked field.Item v run t = absurd (false≢true t)
 number_piece asked (field.List e) v run t = absurd (false≢true t)
@@ -47,10 +46,10 @@ number_piece asked field.Bool (suc zero) run t = refl
 number_piece asked field.Bool (suc (suc v)) run t =
     rw (ne_eqb (suc (suc v)) 0 (λ e. omega arith), ne_eqb (suc (suc v)) 1 (λ e. omega arith), le-ltb (suc (suc v)) 2 (omega arith))
 
-one_piece : (asked : Bool) (run : List ℕ) (e : End) → on_end none e (λ q. cond (eqb q (length run)) (some run) none)
-    ≡ on_some (on_end none e (λ q. cond (eqb q (length run)) (some 0) none)) (λ a. some (piece_of asked field.Item a run))
+one_piece : (asked : Bool) (run : List ℕ) (e : End) → on_end None e (λ q. cond (eqb q (length run)) (Some run) None)
+    ≡ on_some (on_end None e (λ q. cond (eqb q (length run)) (Some 0) None)) (λ a. Some (piece_of asked field.Item a run))
 unfolding piece_of
-one_piece asked run (Some q) = by_test (eqb q (length run)) (λ t. rw t (ap some (sym (append-nil run)))) (λ t. rw t)
+one_piece asked run (Some q) = by_test (eqb q (length run)) (λ t. rw t (ap Some (sym (append-nil run)))) (λ t. rw t)
 one_piece asked run None = refl
 
 -- a list: its head and its run, and the break where it is of indefinite length
@@ -60,11 +59,11 @@ list_piece asked e run k =
     by_test (openly asked e) (λ t. rw t) (λ t. rw t (ap (λ (l : List ℕ). shortest (opener e) k ++ l) (sym (append-nil run))))
 
 list_pieces : (asked : Bool) (e : Element) (run : List ℕ) (o : Option ℕ)
-    → on_some o (λ k. some (headed asked e run k)) ≡ on_some o (λ a. some (piece_of asked (field.List e) a run))
-list_pieces asked e run none = refl
-list_pieces asked e run (some k) = ap some (list_piece asked e run k)
+    → on_some o (λ k. Some (headed asked e run k)) ≡ on_some o (λ a. Some (piece_of asked (field.List e) a run))
+list_pieces asked e run None = refl
+list_pieces asked e run (Some k) = ap Some (list_piece asked e run k)
 
-pub run_piece : (asked : Bool) (f : Field) (run : List ℕ) → numeric f ≡ false → of_run asked f run ≡ on_some (run_argument f run) (λ a. some (piece_of asked f a run))
+pub run_piece : (asked : Bool) (f : Field) (run : List ℕ) → numeric f ≡ false → of_run asked f run ≡ on_some (run_argument f run) (λ a. Some (piece_of asked f a run))
 run_piece asked field.Item run t = one_piece asked run (item_end run in_message 0)
 run_piece asked (field.List e) run t = list_pieces asked e run (count_of e run)
 run_piece asked (field.Below limit) run t = absurd (true≢false t)
@@ -73,25 +72,25 @@ run_piece asked field.Bool run t = absurd (true≢false t)
 -- ---- a field in front of others: its argument stays where it was set
 
 abbrev Others : Option (List ℕ) → (ℕ → Option (List ℕ)) → (List ℕ → List ℕ) → Type 0
-Others m plan body = (a : ℕ) → m ≡ on_some (plan a) (λ args. some (body args))
+Others m plan body = (a : ℕ) → m ≡ on_some (plan a) (λ args. Some (body args))
 
 in_front : (asked : Bool) (f : Field) (run : List ℕ) (i : ℕ) (o : Option ℕ) (m : Option (List ℕ)) (plan : ℕ → Option (List ℕ)) (body : List ℕ → List ℕ)
     → Others m plan body → ((a : ℕ) → Found (λ args. get_or args i 0 ≡ a) (plan a))
-    → on_some (on_some o (λ a. some (piece_of asked f a run))) (λ xs. on_some m (λ ys. some (xs ++ ys)))
-    ≡ on_some (on_some o plan) (λ args. some (piece_of asked f (get_or args i 0) run ++ body args))
-in_front asked f run i none m plan body others stays = refl
-in_front asked f run i (some a) m plan body others stays =
-    ap (λ (m : Option (List ℕ)). on_some m (λ ys. some (piece_of asked f a run ++ ys))) (others a) ∙ of (plan a) (stays a)
+    → on_some (on_some o (λ a. Some (piece_of asked f a run))) (λ xs. on_some m (λ ys. Some (xs ++ ys)))
+    ≡ on_some (on_some o plan) (λ args. Some (piece_of asked f (get_or args i 0) run ++ body args))
+in_front asked f run i None m plan body others stays = refl
+in_front asked f run i (Some a) m plan body others stays =
+    ap (λ (m : Option (List ℕ)). on_some m (λ ys. Some (piece_of asked f a run ++ ys))) (others a) ∙ of (plan a) (stays a)
   where
     of : (p : Option (List ℕ)) → Found (λ args. get_or args i 0 ≡ a) p
-        → on_some (on_some p (λ args. some (body args))) (λ ys. some (piece_of asked f a run ++ ys)) ≡ on_some p
-        (λ args. some (piece_of asked f (get_or args i 0) run ++ body args))
-    of none e = refl
-    of (some args) e = ap (λ (k : ℕ). some (piece_of asked f k run ++ body args)) (sym e)
+        → on_some (on_some p (λ args. Some (body args))) (λ ys. Some (piece_of asked f a run ++ ys)) ≡ on_some p
+        (λ args. Some (piece_of asked f (get_or args i 0) run ++ body args))
+    of None e = refl
+    of (Some args) e = ap (λ (k : ℕ). Some (piece_of asked f k run ++ body args)) (sym e)
 
 -- ---- nothing is left over
 
-used : (ns : List ℕ) (rs : List (List ℕ)) → all_used ns rs ≡ cond (eqb (length ns) 0 && eqb (length rs) 0) (some []) none
+used : (ns : List ℕ) (rs : List (List ℕ)) → all_used ns rs ≡ cond (eqb (length ns) 0 && eqb (length rs) 0) (Some []) None
 used [] [] = refl
 used [] (r ∷ rs) = rw (ne_eqb (length (r ∷ rs)) 0 (λ e. omega arith))
 used (n ∷ ns) rs = rw (ne_eqb (length (n ∷ ns)) 0 (λ e. omega arith))
@@ -144,8 +143,8 @@ run_long asked f a run rest h t is e =
     omega (arith, length-append (piece_of asked f a run) rest, piece_long asked f a run)
 
 found_map : {A : Type 0} {R S : A → Type 0} (o : Option A) → ((a : A) → R a → S a) → Found R o → Found S o
-found_map none f r = tt
-found_map (some a) f r = f a r
+found_map None f r = tt
+found_map (Some a) f r = f a r
 
 -- ---- the fields from the i-th on, from number n on and run r on
 
@@ -154,8 +153,8 @@ module _ (asked : Bool) (ns : List ℕ) (runs : ℕ) (first second : List ℕ) w
   plan fs i n r args = planned ns runs first second fs i n r args
 
   any : {A : Type 0} (o : Option A) → Found (λ a. Unit {0}) o
-  any none = tt
-  any (some a) = tt
+  any None = tt
+  any (Some a) = tt
 
   -- what was set before stays
   kept : (fs : List Field) (i n r : ℕ) (args : List ℕ) (j : ℕ) → j < i → Found (λ out. get_or out j 0 ≡ get_or args j 0) (plan fs i n r args)
@@ -184,7 +183,7 @@ module _ (asked : Bool) (ns : List ℕ) (runs : ℕ) (first second : List ℕ) w
     body fs i r args = body_of asked first second fs args i r
 
     pub plan_makes : (fs : List Field) (i n r : ℕ) (args : List ℕ) → i + length fs ≤ length args → n ≤ length ns → r ≤ runs
-        → made asked fs (drop n ns) (drop r rs) ≡ on_some (plan fs i n r args) (λ out. some (body fs i r out))
+        → made asked fs (drop n ns) (drop r rs) ≡ on_some (plan fs i n r args) (λ out. Some (body fs i r out))
     unfolding made planned body_of argument_of
     plan_makes [] i n r args h hn hr =
         used (drop n ns) (drop r rs)

@@ -1,13 +1,14 @@
 -- T9: what is made of parts reads back, with own heads as short as can be. Each field stands where it is put, so that the fields
 -- stand one after the other.
 -- Assumes nothing.
+use Rattle.std.proofs.Common.{Option, Some, None}
 use Prim.Native.Nat.{ℕ, ◌+◌, ◌-◌, ◌^◌, ◌<◌}
 use mathlib.Core.Path.{◌≡◌, refl, sym, ap, subst, ◌∙◌}
 use mathlib.Core.Bool.{Bool}
 use mathlib.Core.List.{List, [], ◌∷◌, ◌++◌, append_assoc}
-use mathlib.Core.Option.{Option, none, some}
 use native.Mathlib.Omega.{arith}
 use lib.ListN.{length, length-append}
+use mathlib.Core.Option as forms
 use Rattle.base.proofs.Conds.{cond_cases}
 use Rattle.head.specs.declared.read.Head.TheVariants.{Definite}
 use Rattle.head.specs.Write.{shortest}
@@ -22,7 +23,7 @@ use Rattle.messages.specs.Besides.Matching.{FieldsAt, no_field, a_field, Matches
 use Rattle.parts.specs.Given.{numeric}
 use Rattle.parts.specs.Counting.{on_some}
 use Rattle.parts.proofs.Counting.{Found, some_cases}
-use Rattle.build.specs.Made.{of_number, of_run, first_of, all_used, made, encoded}
+use Rattle.build.specs.Made.{on_form, of_number, of_run, first_of, all_used, made, encoded}
 use Rattle.build.specs.Besides.Theorem.{numbers_of, runs_of, Slices, FieldsLeast, OwnLeast, ReadsBack}
 use Rattle.build.proofs.Few.{Low, AllLow, Few, form_few}
 use Rattle.build.proofs.Written.{LeastAt, run_there, number_says, run_holds}
@@ -61,12 +62,12 @@ none_say asked [] (r ∷ rs) = tt
 none_say asked (n ∷ ns) rs = tt
 
 number_step : (asked : Bool) (f : Field) (fs : List Field) (v : ℕ) (ns : List ℕ) (rs : List (List ℕ)) → Low f → Found (Say asked fs ns rs) (made asked fs ns rs)
-    → Found (Say asked (f ∷ fs) (v ∷ ns) rs) (on_some (of_number f v) (λ xs. on_some (made asked fs ns rs) (λ ys. some (xs ++ ys))))
+    → Found (Say asked (f ∷ fs) (v ∷ ns) rs) (on_some (of_number f v) (λ xs. on_some (made asked fs ns rs) (λ ys. Some (xs ++ ys))))
 number_step asked f fs v ns rs low rest =
     let P : Option (List ℕ) → Type 0 = Found (Say asked (f ∷ fs) (v ∷ ns) rs) in
-    some_cases P (λ xs. on_some (made asked fs ns rs) (λ ys. some (xs ++ ys))) (of_number f v) (number_says asked f v low) tt
+    some_cases P (λ xs. on_some (made asked fs ns rs) (λ ys. Some (xs ++ ys))) (of_number f v) (number_says asked f v low) tt
     (λ cs here.
-    some_cases P (λ ys. some (cs ++ ys)) (made asked fs ns rs) rest tt
+    some_cases P (λ ys. Some (cs ++ ys)) (made asked fs ns rs) rest tt
     (λ ys say xs.
     let s = say (xs ++ cs) in (
       number v ∷ s.0,
@@ -76,12 +77,12 @@ number_step asked f fs v ns rs low rest =
     )))
 
 run_step : (asked : Bool) (f : Field) (fs : List Field) (r : List ℕ) (ns : List ℕ) (rs : List (List ℕ)) → length r < 2 ^ 64 → Found (Say asked fs ns rs) (made asked fs ns rs)
-    → Found (Say asked (f ∷ fs) ns (r ∷ rs)) (on_some (of_run asked f r) (λ xs. on_some (made asked fs ns rs) (λ ys. some (xs ++ ys))))
+    → Found (Say asked (f ∷ fs) ns (r ∷ rs)) (on_some (of_run asked f r) (λ xs. on_some (made asked fs ns rs) (λ ys. Some (xs ++ ys))))
 run_step asked f fs r ns rs small rest =
     let P : Option (List ℕ) → Type 0 = Found (Say asked (f ∷ fs) ns (r ∷ rs)) in
-    some_cases P (λ xs. on_some (made asked fs ns rs) (λ ys. some (xs ++ ys))) (of_run asked f r) (run_holds asked f r small) tt
+    some_cases P (λ xs. on_some (made asked fs ns rs) (λ ys. Some (xs ++ ys))) (of_run asked f r) (run_holds asked f r small) tt
     (λ cs here.
-    some_cases P (λ ys. some (cs ++ ys)) (made asked fs ns rs) rest tt
+    some_cases P (λ ys. Some (cs ++ ys)) (made asked fs ns rs) rest tt
     (λ ys say xs.
     let s = say (xs ++ cs) in
     let h = here xs ys in
@@ -93,13 +94,13 @@ run_step asked f fs r ns rs small rest =
     )))
 
 of_numbers : (asked : Bool) (f : Field) (fs : List Field) (ns : List ℕ) (rs : List (List ℕ)) → Low f → ((ns : List ℕ) → Found (Say asked fs ns rs) (made asked fs ns rs))
-    → Found (Say asked (f ∷ fs) ns rs) (first_of ns (λ v ns. on_some (of_number f v) (λ xs. on_some (made asked fs ns rs) (λ ys. some (xs ++ ys)))))
+    → Found (Say asked (f ∷ fs) ns rs) (first_of ns (λ v ns. on_some (of_number f v) (λ xs. on_some (made asked fs ns rs) (λ ys. Some (xs ++ ys)))))
 of_numbers asked f fs [] rs low rest = tt
 of_numbers asked f fs (v ∷ ns) rs low rest = number_step asked f fs v ns rs low (rest ns)
 
 of_runs : (asked : Bool) (f : Field) (fs : List Field) (ns : List ℕ) (rs : List (List ℕ)) → Slices rs
     → ((rs : List (List ℕ)) → Slices rs → Found (Say asked fs ns rs) (made asked fs ns rs))
-    → Found (Say asked (f ∷ fs) ns rs) (first_of rs (λ r rs. on_some (of_run asked f r) (λ xs. on_some (made asked fs ns rs) (λ ys. some (xs ++ ys)))))
+    → Found (Say asked (f ∷ fs) ns rs) (first_of rs (λ r rs. on_some (of_run asked f r) (λ xs. on_some (made asked fs ns rs) (λ ys. Some (xs ++ ys)))))
 of_runs asked f fs ns [] fit rest = tt
 of_runs asked f fs ns (r ∷ rs) (small, fit) rest = run_step asked f fs r ns rs small (rest rs fit)
 
@@ -116,7 +117,7 @@ fields_say asked (f ∷ fs) ns rs low fit =
 abbrev Back : Protocol → ℕ → Bool → List ℕ → List (List ℕ) → List ℕ → Type 0
 Back p kind asked ns rs bs = (xs : List Value) × (m : Matches p bs kind xs) × (numbers_of xs ≡ ns) × (runs_of bs xs ≡ rs) × OwnLeast asked m
 
-message_back : (p : Protocol) (kind : ℕ) (asked : Bool) (ns : List ℕ) (rs : List (List ℕ)) (fs : List Field) (ys : List ℕ) → form_of p kind ≡ some fs
+message_back : (p : Protocol) (kind : ℕ) (asked : Bool) (ns : List ℕ) (rs : List (List ℕ)) (fs : List Field) (ys : List ℕ) → form_of p kind ≡ forms.some fs
     → Say asked fs ns rs ys → Back p kind asked ns rs (shortest array (length fs + 1) ++ (shortest 0 kind ++ ys))
 message_back p kind asked ns rs fs ys form say =
     let h : List ℕ = shortest array (length fs + 1) in
@@ -150,18 +151,19 @@ message_back p kind asked ns rs fs ys form say =
       (run_there [] h (k ++ ys) (length h - 0) (omega arith), (run_there h k ys (length h + length k - length h) (omega arith), fields.1)),
     )
 
-known : {A : Type 0} (o : Option A) → Found (λ a. o ≡ some a) o
-known none = tt
-known (some a) = refl
+-- a form is known, or not
+form_cases : (P : Option (List ℕ) → Type 0) (k : List Field → Option (List ℕ)) (o : forms.Option (List Field)) → P None
+    → ((fs : List Field) → o ≡ forms.some fs → P (k fs)) → P (on_form o k)
+form_cases P k forms.none x f = x
+form_cases P k (forms.some fs) x f = f fs refl
 
 encoded_back : (p : Protocol) (kind : ℕ) (asked : Bool) (ns : List ℕ) (rs : List (List ℕ)) → Slices rs → Found (Back p kind asked ns rs) (encoded p kind asked ns rs)
 unfolding encoded
 encoded_back p kind asked ns rs fit =
     let P : Option (List ℕ) → Type 0 = Found (Back p kind asked ns rs) in
-    some_cases P (λ fs. on_some (made asked fs ns rs) (λ ys. some (shortest array (length fs + 1) ++ (shortest 0 kind ++ ys)))) (form_of p kind)
-    (known (form_of p kind)) tt
+    form_cases P (λ fs. on_some (made asked fs ns rs) (λ ys. Some (shortest array (length fs + 1) ++ (shortest 0 kind ++ ys)))) (form_of p kind) tt
     (λ fs e.
-    some_cases P (λ ys. some (shortest array (length fs + 1) ++ (shortest 0 kind ++ ys))) (made asked fs ns rs) (fields_say asked fs ns rs (form_few p kind e).limits fit) tt
+    some_cases P (λ ys. Some (shortest array (length fs + 1) ++ (shortest 0 kind ++ ys))) (made asked fs ns rs) (fields_say asked fs ns rs (form_few p kind e).limits fit) tt
     (λ ys say. message_back p kind asked ns rs fs ys e say))
 
 pub read_back : ReadsBack

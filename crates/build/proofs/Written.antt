@@ -1,10 +1,10 @@
 -- A field that is made stands where it is put, says what it was made of, and has own heads as short as can be.
 -- Assumes nothing.
+use Rattle.std.proofs.Common.{Some, None}
 use Prim.Native.Nat.{ℕ, ◌+◌, ◌-◌, ◌^◌, ◌≤◌, ◌<◌}
 use mathlib.Core.Path.{◌≡◌, refl, sym, ap, subst, subst⁻¹, ◌∙◌}
 use mathlib.Core.Bool.{Bool, true, false, false≢true, cond}
 use mathlib.Core.List.{List, [], ◌∷◌, ◌++◌, append_assoc}
-use mathlib.Core.Option.{none, some}
 use native.Mathlib.Omega.{arith}
 use lib.Dec.{eqb, ltb}
 use lib.ListN.{length, get_or, take, length-append}
@@ -87,7 +87,7 @@ Holds asked f r cs =
 
 item_holds : (asked : Bool) (r : List ℕ) → Found (Holds asked field.Item r) (one_item r)
 item_holds asked r =
-    end_cases (Found (Holds asked field.Item r)) (λ q. cond (eqb q (length r)) (some r) none) (item_end r in_message 0)
+    end_cases (Found (Holds asked field.Item r)) (λ q. cond (eqb q (length r)) (Some r) None) (item_end r in_message 0)
     (item_sound r in_message 0) tt
     (λ q i.
     cond_cases (Found (Holds asked field.Item r)) (eqb q (length r))
@@ -175,9 +175,9 @@ open_holds asked e r k lasts s xs ys =
     get_or' l n = get_or l n 0
 
 list_holds : (asked : Bool) (e : Element) (r : List ℕ) → length r < 2 ^ 64
-    → Found (Holds asked (field.List e) r) (on_some (count_of e r) (λ k. some (headed asked e r k)))
+    → Found (Holds asked (field.List e) r) (on_some (count_of e r) (λ k. Some (headed asked e r k)))
 list_holds asked e r small =
-    some_cases (Found (Holds asked (field.List e) r)) (λ k. some (headed asked e r k)) (count_of e r) (counted e r) tt
+    some_cases (Found (Holds asked (field.List e) r)) (λ k. Some (headed asked e r k)) (count_of e r) (counted e r) tt
     (λ k (s, h).
     cond_cases (Holds asked (field.List e) r) (openly asked e) (λ t. open_holds asked e r k t s) (λ t. headed_holds asked e r k t (omega arith) s))
 

@@ -4,15 +4,14 @@
 // of parts reads back as the message that says them.
 #![tactic(auto)]
 
-ghost use Rattle.std.specs.Prelude.{◌≡◌, true, ◌<◌};
-ghost use Rattle.std.proofs.Math.Option.{some};
+ghost use Rattle.std.specs.Prelude.{◌≡◌, ◌<◌};
 ghost use Rattle.messages.specs.Inside.{form_count, form_at};
-ghost use Rattle.parts.specs.Given.{all_given};
-ghost use Rattle.layout.specs.Inside.{whole_of};
 ghost use Rattle.build.specs.Building.{told, bytes_of, handed, build_of};
-ghost use Rattle.build.specs.Inside.{refusal, HeadsAndRuns, made_by};
+ghost use Rattle.build.specs.Inside.{number_of, answer, made_of};
 
-use messages::forms::{Listed, MOST_FIELDS};
+use layout::message::Message;
+use messages::forms::Listed;
+use parts::given::Given;
 use rows::Protocol;
 
 // The number; where it is 0, how long the message is.
@@ -22,57 +21,54 @@ pub struct Built {
     pub len: usize,
 }
 
-// A refusal writes nothing.
-fn refused(number: u64) -> Built
-    ensures { result ≡ refusal number }
-{
-    Built { number, len: 0 }
+// Why no message is made: the bundle is unknown, or has no such instance; the parts make none; or the buffer is shorter than it.
+#[derive(Clone, Copy)]
+enum Refusal {
+    UnknownBundle,
+    NoInstance,
+    NoMessage,
+    NoRoom,
 }
 
-// The message of these arguments, if the buffer is long enough for its heads and runs.
-fn hand(
-    row: usize,
-    kind: u64,
-    asked: bool,
-    arguments: [u64; MOST_FIELDS],
-    first: &[u8],
-    second: &[u8],
-    buf: &mut [u8],
-) -> Built
-    requires { (row < form_count) × HeadsAndRuns asked first.now second.now (form_at row).fields kind arguments }
-    ensures { told result buf.new ≡ handed buf.old (some (whole_of asked first.now second.now (form_at row).fields kind arguments)) }
-{
-    let heads = layout::heads(row, kind, asked, arguments);
-    if !layout::fits(buf.len(), heads, first.len(), second.len()) {
-        return refused(18);
-    }
-    layout::lay(buf, row, kind, asked, arguments, first, second);
-    Built {
-        number: 0,
-        len: heads + first.len() + second.len(),
+impl Refusal {
+    fn number(self) -> u64
+        ensures { result ≡ number_of self }
+    {
+        match self {
+            Refusal::UnknownBundle => 23,
+            Refusal::NoInstance => 10,
+            Refusal::NoMessage => 15,
+            Refusal::NoRoom => 18,
+        }
     }
 }
 
-// A message of the form in a row.
+// A message of the form in a row, if its parts make one and the buffer is long enough. A refusal writes nothing.
 fn build_form(
     row: usize,
     kind: u64,
     asked: bool,
-    numbers: &[u64],
-    runs: u64,
-    first: &[u8],
-    second: &[u8],
+    given: Given<'_>,
     buf: &mut [u8],
-) -> Built
-    requires { (row < form_count) × (all_given runs first.now second.now ≡ true) }
-    ensures { told result buf.new ≡ handed buf.old (made_by asked numbers.now runs first.now second.now (form_at row).fields kind) }
+) -> Result<usize, Refusal>
+    requires { row < form_count }
+    ensures { told (answer result) buf.new ≡ handed buf.old (made_of asked given.entry (form_at row).fields kind) }
 {
-    let plan = parts::judge(row, numbers, runs, first, second);
-    if !plan.made {
-        return refused(15);
+    let arguments = parts::judge(row, given).ok_or(Refusal::NoMessage)?;
+    let message = Message {
+        row,
+        kind,
+        asked,
+        arguments,
+        given,
+    };
+    match message.len() {
+        Some(len) if len <= buf.len() => {
+            message.lay(buf);
+            Ok(len)
+        }
+        _ => Err(Refusal::NoRoom),
     }
-    let arguments = plan.arguments;
-    hand(row, kind, asked, arguments, first, second, buf)
 }
 
 // A message of the protocol, by its kind.
@@ -85,17 +81,38 @@ fn build_kind(
     first: &[u8],
     second: &[u8],
     buf: &mut [u8],
-) -> Built
-    ensures { told result buf.new ≡ handed buf.old (bytes_of p kind asked numbers.now runs first.now second.now) }
+) -> Result<usize, Refusal>
+    ensures { told (answer result) buf.new ≡ handed buf.old (bytes_of p kind asked numbers.now runs first.now second.now) }
 {
-    if !parts::are_given(runs, first, second) {
-        return refused(15);
+    let given = Given::of(numbers, runs, first, second).ok_or(Refusal::NoMessage)?;
+    match messages::forms::find(p, kind) {
+        Listed::Row(row) => build_form(row, kind, asked, given, buf),
+        Listed::Unknown => Err(Refusal::NoMessage),
     }
-    let form = messages::forms::find(p, kind);
-    match form {
-        Listed::Row(row) => build_form(row, kind, asked, numbers, runs, first, second, buf),
-        Listed::Unknown => refused(15),
+}
+
+// A message of the protocol that an instance of the bundle speaks.
+fn build_spoken(
+    bundle: u64,
+    instance: u64,
+    kind: u64,
+    asked: bool,
+    numbers: &[u64],
+    runs: u64,
+    first: &[u8],
+    second: &[u8],
+    buf: &mut [u8],
+) -> Result<usize, Refusal>
+    ensures { told (answer result) buf.new ≡ build_of bundle instance kind asked numbers.now runs first.now second.now buf.old }
+{
+    if !wire::instances::known(bundle) {
+        return Err(Refusal::UnknownBundle);
     }
+    if wire::instances::count(bundle) as u64 <= instance {
+        return Err(Refusal::NoInstance);
+    }
+    let p = rows::spoken::protocol(bundle, instance as usize);
+    build_kind(p, kind, asked, numbers, runs, first, second, buf)
 }
 
 // Makes a message of the protocol that an instance of the bundle speaks, at the front of the lent buffer, from its kind, its
@@ -114,12 +131,13 @@ pub fn build(
 ) -> Built
     ensures { told result buf.new ≡ build_of bundle instance kind asked numbers.now runs first.now second.now buf.old }
 {
-    if !wire::instances::known(bundle) {
-        return refused(23);
+    match build_spoken(
+        bundle, instance, kind, asked, numbers, runs, first, second, buf,
+    ) {
+        Ok(len) => Built { number: 0, len },
+        Err(refusal) => Built {
+            number: refusal.number(),
+            len: 0,
+        },
     }
-    if wire::instances::count(bundle) as u64 <= instance {
-        return refused(10);
-    }
-    let p = rows::spoken::protocol(bundle, instance as usize);
-    build_kind(p, kind, asked, numbers, runs, first, second, buf)
 }

@@ -1,14 +1,12 @@
 -- Laws of the bytes of a message: room for them, and one field after the other.
 -- Assumes nothing.
-use Prim.Native.Nat.{ℕ, ◌+◌, ◌-◌, ◌≤◌, ◌<◌}
+use Prim.Native.Nat.{ℕ, ◌+◌, ◌<◌}
 use mathlib.Core.Path.{◌≡◌, refl, sym, ap, ◌∙◌}
 use mathlib.Core.Bool.{Bool, true, false, false≢true}
 use mathlib.Core.List.{List, [], ◌∷◌, ◌++◌}
 use native.Mathlib.Omega.{arith}
-use lib.Dec.{leb}
 use lib.ListN.{length, get_or, drop, length-append}
 use lib.Seq.{sets, take-length}
-use borrow.Author.Tests.{leb-true, leb-false, le-leb, lt-leb, eq-eqb, ne_eqb}
 use Rattle.base.proofs.Conds.{by_test}
 use Rattle.base.proofs.ListLaws.{sets_append}
 use Rattle.ring.specs.Ring.{run}
@@ -23,20 +21,6 @@ use Rattle.parts.specs.Given.{numeric}
 use Rattle.parts.specs.Inside.{run_at, run_after}
 use Rattle.parts.proofs.PartLaws.{field_next, field-none}
 use Rattle.layout.specs.Inside.{headless, major_of, open_in, head_of, tail_of, break_of, own_length, Put, piece_of, body_of, heads_of, whole_of}
-
--- ---- room for three lengths
-
-module _ (room a b c : ℕ) where
-  pub no_room_first : room < a → false ≡ leb (a + (b + c)) room
-  no_room_first h = sym (lt-leb (a + (b + c)) room (omega arith))
-
-  pub no_room_second : a ≤ room → room - a < b → false ≡ leb (a + (b + c)) room
-  no_room_second h l = sym (lt-leb (a + (b + c)) room (omega arith))
-
-  pub room_for_third : a ≤ room → b ≤ room - a → leb c (room - a - b) ≡ leb (a + (b + c)) room
-  room_for_third h l =
-      by_test (leb c (room - a - b)) (λ t. t ∙ sym (le-leb (a + (b + c)) room (omega (arith, leb-true c (room - a - b) t))))
-      (λ t. t ∙ sym (lt-leb (a + (b + c)) room (omega (arith, leb-false c (room - a - b) t))))
 
 -- ---- a head, and a break, if the field has one
 
@@ -94,12 +78,8 @@ run_all xs = take-length xs
 pub no_tail : (f : Field) (xs buf : List ℕ) (at : ℕ) → numeric f ≡ true → Put buf at (tail_of f xs) at buf
 no_tail f xs buf at t = rw t (omega arith, refl)
 
-module _ (f : Field) (first second : List ℕ) (r : ℕ) (t : numeric f ≡ false) where
-  pub tail_first : r ≡ 0 → tail_of f (run_at first second r) ≡ first
-  tail_first z = rw (t, eq-eqb r 0 z)
-
-  pub tail_second : (r ≡ 0 → ⊥) → tail_of f (run_at first second r) ≡ second
-  tail_second z = rw (t, ne_eqb r 0 z)
+pub a_tail : (f : Field) (xs : List ℕ) → numeric f ≡ false → tail_of f xs ≡ xs
+a_tail f xs t = rw t
 
 pub tail_there : (buf : List ℕ) (at : ℕ) (xs : List ℕ) {ys after : List ℕ} {q : ℕ} → ys ≡ xs → Put buf at xs q after → Put buf at ys q after
 tail_there buf at xs e (eq, ea) = (eq ∙ ap (λ (l : List ℕ). at + length l) (sym e), ea ∙ ap (sets buf at) (sym e))

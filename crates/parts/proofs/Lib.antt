@@ -1,4 +1,3 @@
 pub mod Counting
 pub mod Counted
-pub mod RunLaws
 pub mod PartLaws

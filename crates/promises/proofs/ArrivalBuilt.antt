@@ -3,7 +3,7 @@
 -- Assumes nothing.
 use mathlib.Core.Path.{◌≡◌, refl, sym, ap, ◌∙◌, subst}
 use mathlib.Core.List.{List, [], ◌∷◌, ◌++◌, append-nil, append_assoc}
-use mathlib.Core.Option.{some}
+use Rattle.std.proofs.Common.{Some}
 use Prim.Native.Nat.{ℕ, zero, suc, ◌+◌, ◌*◌, ◌≤◌}
 use native.Mathlib.Omega.{arith}
 use native.Mathlib.Numerals.{add-one}
@@ -195,7 +195,7 @@ built_arrives bundle i p bs b w j same k =
     let m : Matches q bs p.kind xs =
     subst (λ (x : Protocol). Matches x bs p.kind xs) (sym same)
     (subst (λ (ys : List ℕ). Matches (speaks bundle i) ys p.kind xs) b.front back.1) in
-    let runs : given p.runs p.one p.two ≡ some (runs_of bs xs) = back.3 ∙ ap (λ (ys : List ℕ). some (runs_of ys xs)) b.front in
+    let runs : given p.runs p.one p.two ≡ Some (runs_of bs xs) = back.3 ∙ ap (λ (ys : List ℕ). Some (runs_of ys xs)) b.front in
     let small : Few p.kind m.fields = form_few q p.kind m.form in
     let few : length (numbers_of xs) ≤ 3 = omega (arith, numbers_few xs, values_many m.matched, small.fields) in
     let two : length (runs_of bs xs) ≤ 2 = omega (arith, runs_counted bs m.matched, small.runs) in
@@ -210,5 +210,5 @@ built_arrives bundle i p bs b w j same k =
       drops = drops_it w j bs said k.next k.asked k.awaited k.held q-item says row;
       kind = told_kind xs (begun p.kind);
       numbers = told_numbers xs (begun p.kind) (omega arith) ∙ back.2;
-      runs = ap some (told_runs bs xs (begun p.kind) (omega arith)) ∙ sym runs;
+      runs = ap Some (told_runs bs xs (begun p.kind) (omega arith)) ∙ sym runs;
     }

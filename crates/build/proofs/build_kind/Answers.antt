@@ -1,41 +1,28 @@
--- `build::build_kind` meets its contract: each way out is one of the laws of a kind.
-use mathlib.Core.Path.{sym, ap, subst, ◌∙◌}
-use Rattle.messages.specs.Inside.{Finds}
+-- `build::build_kind` meets its contract: the parts are given as they should be and there is such a form, or not.
+use Rattle.std.proofs.Common.{ap, ◌∙◌}
 use Rattle.build.specs.Building.{handed}
-use Rattle.build.proofs.BuildLaws.{kind_not_given, kind_unknown, kind_known}
+use Rattle.build.proofs.BuildLaws.{no_message, kind_not_given, kind_unknown, kind_known}
 use Rattle.build.proofs.build_kind.Goals as goal
 
-pub returns-then-not-are_given : goal.returns-then-not-are_given
-returns-then-not-are_given c =
+pub returns-in_err-given : goal.returns-in_err-given
+returns-in_err-given c =
     let a = c.args in
+    let none = c.in_err-given.ensures in
     rw (
-      c.refused.ensures,
-      kind_not_given a.p a.kind a.asked a.numbers.now a.runs a.first.now a.second.now
-          (sym c.are_given.ensures ∙ c.if-not-are_given.true),
-    )
-
-pub build_form-requires : goal.build_form-requires
-build_form-requires c =
-    let a = c.args in (
-      (subst (Finds a.p a.kind) c.in-Row.is c.find-form.ensures).0,
-      sym c.are_given.ensures ∙ c.if-not-are_given.false,
+      no_message _ _ _ c.from_residual.ensures.1 none.value none.ok_part,
+      kind_not_given a.p a.kind a.asked a.numbers.now a.runs a.first.now a.second.now (let e = none.ok_part in rw e at c.of.ensures),
     )
 
 pub returns-in-Row : goal.returns-in-Row
 returns-in-Row c =
     let a = c.args in
+    let e = c.in_ok-given.ensures.ok_part in
     c.build_form.ensures
     ∙ ap (handed a.buf.now)
-    (kind_known a.p a.kind a.asked a.numbers.now a.runs a.first.now a.second.now
-    (sym c.are_given.ensures ∙ c.if-not-are_given.false)
-    c.find-form.ensures _ c.in-Row.is)
+    (kind_known a.p a.kind a.asked a.numbers.now a.runs a.first.now a.second.now c.in_ok-given.given (rw e at c.of.ensures) c.find.ensures c.in-Row.is)
 
 pub returns-in-Unknown : goal.returns-in-Unknown
 returns-in-Unknown c =
     let a = c.args in
-    rw (
-      c.refused-in-Unknown.ensures,
-      kind_unknown a.p a.kind a.asked a.numbers.now a.runs a.first.now a.second.now
-          (sym c.are_given.ensures ∙ c.if-not-are_given.false)
-          c.find-form.ensures c.in-Unknown.is,
-    )
+    let e = c.in_ok-given.ensures.ok_part in
+    rw (kind_unknown a.p a.kind a.asked a.numbers.now a.runs a.first.now a.second.now c.in_ok-given.given (rw e at c.of.ensures) c.find.ensures c.in-Unknown.is)

@@ -1,6 +1,6 @@
 -- Round trips (T9), as statements; the proofs are in proofs/.
-use Rattle.std.specs.Prelude.{ℕ, ◌-◌, ◌≤◌, ◌<◌, ◌^◌, ◌≡◌, Bool, true, false, ◌↔◌, List, [], ◌∷◌, length}
-use Rattle.std.proofs.Math.Option.{some}
+use Rattle.std.specs.Prelude.{ℕ, ◌-◌, ◌≤◌, ◌<◌, ◌^◌, ◌≡◌, Bool, true, false, ◌↔◌, List, [], ◌∷◌, length, Some}
+use Rattle.std.proofs.Math.Option as forms
 use Rattle.base.specs.Numbers.{Bytes}
 use Rattle.ring.specs.Ring.{run}
 use Rattle.head.specs.Write.{shortest}
@@ -78,7 +78,7 @@ OwnLeast {bs = bs} {kind = kind} asked m =
 -- build writes them: its list is of indefinite length if and only if that was asked for.
 abbrev pub ReadsBack : Type 0
 ReadsBack =
-    (p : Protocol) (kind : ℕ) (asked : Bool) (ns : List ℕ) (rs : List (List ℕ)) (bs : List ℕ) → Slices rs → encoded p kind asked ns rs ≡ some bs
+    (p : Protocol) (kind : ℕ) (asked : Bool) (ns : List ℕ) (rs : List (List ℕ)) (bs : List ℕ) → Slices rs → encoded p kind asked ns rs ≡ Some bs
     → (xs : List Value) × (m : Matches p bs kind xs) × (numbers_of xs ≡ ns) × (runs_of bs xs ≡ rs) × OwnLeast asked m
 
 -- Of indefinite length.
@@ -134,7 +134,7 @@ NoLongMap m = FieldsShort m.matched
 -- has, but for a long map of indefinite length.
 pub record Rebuilt (p : Protocol) (bs : List ℕ) (kind : ℕ) (xs : List Value) (asked : Bool) (given : Matches p bs kind xs) : Type 0 where
   pub message : List ℕ
-  pub made : encoded p kind asked (numbers_of xs) (runs_of bs xs) ≡ some message
+  pub made : encoded p kind asked (numbers_of xs) (runs_of bs xs) ≡ Some message
   pub no_longer : Has asked given → NoLongMap given → length message ≤ length bs
   pub same : (message ≡ bs) ↔ OwnLeast asked given
   pub values : List Value
@@ -167,5 +167,5 @@ NoList (f ∷ fs) = NotList f × NoList fs
 
 abbrev pub Ignored : Type 0
 Ignored =
-    (p : Protocol) (kind : ℕ) (fs : List Field) (ns : List ℕ) (rs : List (List ℕ)) → form_of p kind ≡ some fs → NoList fs
+    (p : Protocol) (kind : ℕ) (fs : List Field) (ns : List ℕ) (rs : List (List ℕ)) → form_of p kind ≡ forms.some fs → NoList fs
     → encoded p kind true ns rs ≡ encoded p kind false ns rs

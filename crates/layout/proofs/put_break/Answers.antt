@@ -17,5 +17,5 @@ returns-then-is_open c =
     tail_there a.buf.now a.at _ (a_break a.asked a.f 0 a.buf.now a.at (sym c.is_open.ensures ∙ c.if-is_open.true))
     c.put_byte.ensures
 
-pub returns : goal.returns
-returns c = let a = c.args in no_break a.asked a.f 0 a.buf.now a.at (sym c.is_open.ensures ∙ c.if-is_open.false)
+pub returns-else-is_open : goal.returns-else-is_open
+returns-else-is_open c = let a = c.args in no_break a.asked a.f 0 a.buf.now a.at (sym c.is_open.ensures ∙ c.if-is_open.false)

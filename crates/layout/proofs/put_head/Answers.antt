@@ -34,8 +34,8 @@ write_head-requires c =
     (sym c.is_open.ensures ∙ c.if-is_open.false) in
     (c.major.ensures.1, omega (arith, c.requires, ap length e, shortest_length (major_of a.f) a.argument))
 
-pub returns : goal.returns
-returns c =
+pub returns-else-is_open : goal.returns-else-is_open
+returns-else-is_open c =
     let a = c.args in
     tail_there a.buf.now a.at _
     (short_head a.asked a.f a.argument a.buf.now a.at (sym c.is_headless.ensures ∙ c.if-is_headless.false)

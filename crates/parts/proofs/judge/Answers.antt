@@ -1,52 +1,43 @@
 -- `parts::judge` meets its contract: the fields left, from these numbers and runs on, always come to what all of them come to.
-use mathlib.Core.Path.{refl, ◌∙◌}
-use native.Mathlib.Omega.{arith}
+use Rattle.std.proofs.Common.{◌≡◌, ◌+◌, ◌≤◌, rules, arith, sym, ◌∙◌}
 use Rattle.messages.specs.Inside.{form_at}
-use Rattle.parts.proofs.PartLaws.{plan_on, plan_stop, plan_end}
-use borrow.Author.Rules.{rules}
+use Rattle.parts.specs.Inside.{number_after, run_after}
+use Rattle.parts.proofs.PartLaws.{plan_on, plan_stop, plan_end, plan_over}
 use Rattle.parts.proofs.judge.Goals as goal
+use Rattle.parts.proofs.judge.Goals.{then-is_number, else-is_number}
 
-pub loop-i-init : goal.loop-i-init
-loop-i-init c = (omega arith, omega arith, omega arith, refl, refl)
-
-pub field_at-f-requires : goal.field_at-f-requires
-field_at-f-requires c = (c.requires, omega (arith, c.fields-count.ensures.0))
-
-pub returns-in_default : goal.returns-in_default
-returns-in_default c =
-    let a = c.args in
+pub returns-in_err-arguments : goal.returns-in_err-arguments
+returns-in_err-arguments c =
     let l = c.loop-i in
-    c.unmade.ensures
-    ∙ plan_stop a.numbers.now a.runs a.first.now a.second.now (form_at a.row).fields l.i l.n l.r l.arguments
-    (omega (arith, c.fields-count.ensures.0)) _
-    c.field_at-f.ensures c.of_field-a.ensures c.in_default.is
-    ∙ l.invariant.4
-
-pub after_number-n-requires : goal.after_number-n-requires
-after_number-n-requires c = omega (arith, c.fields-count.ensures.1)
-
-pub after_run-r-requires : goal.after_run-r-requires
-after_run-r-requires c = omega (arith, c.fields-count.ensures.1)
+    c.from_residual.ensures
+    ∙ plan_stop c.args.given (form_at c.args.row).fields l.i l.n l.r l.arguments (omega arith) c.field_at-f.ensures c.argument.ensures c.in_err-arguments.was
+    ∙ l.invariant.3
 
 pub loop-i-preserved : goal.loop-i-preserved
 loop-i-preserved c =
-    let a = c.args in
-    let l = c.loop-i in (
-      omega arith,
-      omega (arith, c.after_number-n.ensures.1),
-      omega (arith, c.after_run-r.ensures.1),
+    let l = c.loop-i in
+    let m = c.if-is_number in
+    let f = c.field_at-f.result in
+    let on : (m.n ≡ number_after f l.n) × (m.r ≡ run_after f l.r) × (m.n ≤ l.i + 1) × (m.r ≤ l.i + 1) =
+    elim m.branch [
+      | then-is_number w ↦ rw (sym c.is_number.ensures ∙ w.if-is_number.true) (w.n-is, w.r-is, omega arith, omega arith)
+      | else-is_number w ↦ rw (sym c.is_number.ensures ∙ w.if-is_number.false) (w.n-is, w.r-is, omega arith, omega arith)
+    ] in (
+      on.2,
+      on.3,
       search rules,
-      plan_on a.numbers.now a.runs a.first.now a.second.now (form_at a.row).fields l.i l.n l.r l.arguments
-          (omega (arith, c.fields-count.ensures.0)) _
-          c.field_at-f.ensures c.of_field-a.ensures
-          c.in-Is.is c.after_number-n.ensures.0 c.after_run-r.ensures.0
-          ∙ l.invariant.4,
+      plan_on c.args.given (form_at c.args.row).fields l.i l.n l.r l.arguments (omega arith) c.field_at-f.ensures c.argument.ensures c.in_ok-arguments.was on.0 on.1
+          ∙ l.invariant.3,
     )
 
-pub returns : goal.returns
-returns c =
+pub returns-then-r-given : goal.returns-then-r-given
+returns-then-r-given c =
     let l = c.loop-i in
-    let a = c.args in
-    plan_end a.numbers.now a.runs a.first.now a.second.now (form_at a.row).fields l.i l.n l.r l.arguments
-    (omega (arith, c.fields-count.ensures.0)) c.and.ensures c.all_used.ensures
-    ∙ l.invariant.4
+    plan_end c.args.given (form_at c.args.row).fields l.i l.n l.r l.arguments (omega arith) (omega arith) (omega arith)
+    ∙ l.invariant.3
+
+pub returns-else-n-given : goal.returns-else-n-given
+returns-else-n-given c =
+    let l = c.loop-i in
+    plan_over c.args.given (form_at c.args.row).fields l.i l.n l.r l.arguments (omega arith) (λ en er. search rules)
+    ∙ l.invariant.3

@@ -1,7 +1,6 @@
 -- T9 (c): what one end builds and puts is what the other end is shown and drops, in whatever segments it was sent and in whatever runs it was fed.
-use Rattle.std.specs.Prelude.{ℕ, zero, suc, ◌+◌, ◌*◌, ◌^◌, ◌≤◌, ◌<◌, ◌≡◌, Bool, length, get_or, take}
+use Rattle.std.specs.Prelude.{ℕ, zero, suc, ◌+◌, ◌*◌, ◌^◌, ◌≤◌, ◌<◌, ◌≡◌, Bool, length, get_or, take, Some}
 use mathlib.Core.List.{List, [], ◌∷◌, ◌++◌, flat_map, flatten}
-use Rattle.std.proofs.Math.Option.{some}
 use Rattle.ring.specs.Ring as ring
 use Rattle.wire.specs.Instances.{instances}
 use Rattle.wire.specs.Besides.Instances.{other_of, pair_of}
@@ -137,7 +136,7 @@ pub record ArrivesAs (p : Parts) (bs : List ℕ) (w : World) (i : ℕ) : Type 0 
   pub drops : (step w (calls.drop i)).answer ≡ (0, said_of bs message)
   pub kind : message.kind ≡ p.kind
   pub numbers : numbers_in message ≡ p.numbers
-  pub runs : some (runs_in bs message) ≡ given p.runs p.one p.two
+  pub runs : Some (runs_in bs message) ≡ given p.runs p.one p.two
 
 -- what is built for an instance is shown and dropped on one that speaks the same protocol
 abbrev pub BuiltArrives : Type 0
