@@ -7,6 +7,7 @@
 use script::{Word, numbers, runs};
 
 // How many places there are for what the words of a line say.
+// Kept: a row of numbers by place, since nothing is allocated, and a list of a line lies in the row as a slice.
 pub const WORDS: usize = 24;
 
 // No lent buffer is longer, and no store.
