@@ -5,11 +5,8 @@
 // program would act on it. What is printed is run and compared.
 #![tactic(auto)]
 
-ghost use Rattle.io.specs.Counts.{IsPrefixLen};
-
-use base::smaller;
 use front::{Connection, INSTANCES, Party, Settings, Side};
-use output::Pen;
+use output::{WriteFailed, Writer};
 use std::io::Stdout;
 
 // Every capacity, in bytes. A store is as long as its nine capacities together, and scratch as long as one.
@@ -32,61 +29,30 @@ const PROPOSE: u64 = 0;
 // Room for a line.
 const LINE: usize = 64;
 
-// What goes from step to step: the record, and whether every line so far could be written.
-#[derive(Clone, Copy)]
-struct Step {
-    connection: Connection,
-    written: bool,
-}
-
-// A line of a word and numbers, unless one before it could not be written.
-fn say(stdout: Stdout, written: bool, word: &[u8], numbers: &[u64]) -> bool {
+// A line of a word and numbers.
+fn say(stdout: Stdout, word: &[u8], numbers: &[u64]) -> Result<(), WriteFailed> {
     let mut space = [0u8; LINE];
-    let out: &mut [u8] = &mut space;
-    let p = output::words(
-        out,
-        Pen {
-            stdout,
-            at: 0,
-            written,
-        },
-        word,
-    );
-    let q = output::numbers(out, p, numbers);
-    output::end(out, q)
+    let mut out = Writer::new(stdout, &mut space);
+    out.words(word)?;
+    out.numbers(numbers)?;
+    out.end()
 }
 
-// The same of bytes in hex.
-fn show(stdout: Stdout, written: bool, bytes: &[u8]) -> bool {
+// A line of bytes in hex.
+fn show(stdout: Stdout, bytes: &[u8]) -> Result<(), WriteFailed> {
     let mut space = [0u8; LINE];
-    let out: &mut [u8] = &mut space;
-    let p = output::hex(
-        out,
-        Pen {
-            stdout,
-            at: 0,
-            written,
-        },
-        bytes,
-    );
-    output::end(out, p)
-}
-
-// How many bytes of a buffer: so many, and all where that is more.
-fn among(n: usize, buf: &[u8]) -> usize
-    ensures { IsPrefixLen result buf.now }
-{
-    smaller(n, buf.len())
+    let mut out = Writer::new(stdout, &mut space);
+    out.hex(bytes)?;
+    out.end()
 }
 
 // Node to node (bundle 0), as the one that dialled.
 fn settings() -> Settings {
-    let party = Party {
-        bundle: 0,
-        side: Side::Dialler,
-    };
     Settings {
-        party,
+        party: Party {
+            bundle: 0,
+            side: Side::Dialler,
+        },
         limit: LIMIT,
         receive: [CAPACITY; INSTANCES],
         send: [CAPACITY; INSTANCES],
@@ -95,7 +61,7 @@ fn settings() -> Settings {
 
 // Proposes version 7 with parameters 0. Behind the kind, build is given: whether a list is to be of indefinite length (Propose
 // has no list); no numbers; one run of bytes, the map's key and value; and an empty second run.
-fn propose(stdout: Stdout, c: Connection, send: &mut [u8]) -> Step {
+fn propose(stdout: Stdout, c: Connection, send: &mut [u8]) -> Result<Connection, WriteFailed> {
     let mut message = [0; ROOM];
     let built = front::build(
         0,
@@ -108,99 +74,68 @@ fn propose(stdout: Stdout, c: Connection, send: &mut [u8]) -> Step {
         b"",
         &mut message,
     );
-    let written = say(stdout, true, b"build", &[built.number, built.len as u64]);
-    let n = among(built.len, &message);
-    let queued = front::put(c, send, HANDSHAKE, &message[..n]);
-    let connection = queued.connection;
-    Step {
-        connection,
-        written: say(stdout, written, b"put", &[queued.number]),
-    }
+    say(stdout, b"build", &[built.number, built.len as u64])?;
+    let queued = front::put(c, send, HANDSHAKE, &message[..built.len.min(ROOM)]);
+    say(stdout, b"put", &[queued.number])?;
+    Ok(queued.connection)
 }
 
 // What is to be sent, as one segment. The time in its header is the caller's, here 5.
-fn send_out(stdout: Stdout, s: Step, send: &[u8]) -> Step {
+fn send_out(stdout: Stdout, c: Connection, send: &[u8]) -> Result<Connection, WriteFailed> {
     let mut segment = [0; ROOM];
-    let made = front::next_segment(s.connection, send, 5, &mut segment);
-    let written = say(stdout, s.written, b"next", &[made.number, made.len as u64]);
-    let n = among(made.len, &segment);
-    let connection = made.connection;
-    Step {
-        connection,
-        written: show(stdout, written, &segment[..n]),
-    }
+    let made = front::next_segment(c, send, 5, &mut segment);
+    say(stdout, b"next", &[made.number, made.len as u64])?;
+    show(stdout, &segment[..made.len.min(ROOM)])?;
+    Ok(made.connection)
 }
 
 // The other end's answer: Accept of version 7, with parameters 0.
-fn hear(stdout: Stdout, s: Step, receive: &mut [u8]) -> Step {
+fn hear(stdout: Stdout, c: Connection, receive: &mut [u8]) -> Result<Connection, WriteFailed> {
     let fed = front::feed(
-        s.connection,
+        c,
         receive,
         b"\x00\x00\x00\x09\x80\x00\x00\x04\x83\x01\x07\x00",
     );
-    let connection = fed.connection;
-    Step {
-        connection,
-        written: say(stdout, s.written, b"feed", &[fed.number, fed.used as u64]),
-    }
+    say(stdout, b"feed", &[fed.number, fed.used as u64])?;
+    Ok(fed.connection)
 }
 
 // What it says, looked at where it lies. Here a program would decide whether it wants it.
-fn consider(stdout: Stdout, s: Step, receive: &[u8]) -> Step {
+fn consider(stdout: Stdout, c: Connection, receive: &[u8]) -> Result<Connection, WriteFailed> {
     let mut scratch = [0; SCRATCH];
-    let looked = front::look(s.connection, receive, HANDSHAKE, &mut scratch);
+    let looked = front::look(c, receive, HANDSHAKE, &mut scratch);
     let shown = looked.shown;
     let what = shown.message;
-    let numbers = what.numbers;
-    let mut written = say(
-        stdout,
-        s.written,
-        b"look",
-        &[shown.number, shown.len as u64],
-    );
-    written = say(
-        stdout,
-        written,
-        b"kind and version",
-        &[what.kind, numbers[0]],
-    );
-    let place = looked.place;
-    let message = front::part(receive, &scratch, place, shown.len);
-    let connection = looked.connection;
-    Step {
-        connection,
-        written: show(stdout, written, message),
-    }
+    say(stdout, b"look", &[shown.number, shown.len as u64])?;
+    say(stdout, b"kind and version", &[what.kind, what.numbers[0]])?;
+    let message = front::part(receive, &scratch, looked.place, shown.len);
+    show(stdout, message)?;
+    Ok(looked.connection)
 }
 
 // The message is done with: its bytes are freed, and Handshake has ended.
-fn let_go(stdout: Stdout, s: Step, receive: &[u8]) -> Step {
-    let dropped = front::drop(s.connection, receive, HANDSHAKE);
+fn let_go(stdout: Stdout, c: Connection, receive: &[u8]) -> Result<Connection, WriteFailed> {
+    let dropped = front::drop(c, receive, HANDSHAKE);
     let shown = dropped.shown;
-    let connection = dropped.connection;
-    Step {
-        connection,
-        written: say(
-            stdout,
-            s.written,
-            b"drop",
-            &[shown.number, shown.len as u64],
-        ),
-    }
+    say(stdout, b"drop", &[shown.number, shown.len as u64])?;
+    Ok(dropped.connection)
+}
+
+// The whole connection, as far as its lines can be written.
+fn connect(stdout: Stdout) -> Result<(), WriteFailed> {
+    let mut receive = [0; STORE];
+    let mut send = [0; STORE];
+    let opened = front::open(settings(), &receive, &send).connection;
+    let proposed = propose(stdout, opened, &mut send)?;
+    let sent = send_out(stdout, proposed, &send)?;
+    let heard = hear(stdout, sent, &mut receive)?;
+    let considered = consider(stdout, heard, &receive)?;
+    let accepted = let_go(stdout, considered, &receive)?;
+    say(stdout, b"status", &[front::status(accepted).number])
 }
 
 fn main(rt: HostRuntime) {
-    let stdout = rt.stdout();
-    let mut receive = [0; STORE];
-    let mut send = [0; STORE];
-    let opened = front::open(settings(), &receive, &send);
-    let proposed = propose(stdout, opened.connection, &mut send);
-    let sent = send_out(stdout, proposed, &send);
-    let heard = hear(stdout, sent, &mut receive);
-    let considered = consider(stdout, heard, &receive);
-    let accepted = let_go(stdout, considered, &receive);
-    let report = front::status(accepted.connection);
-    if !say(stdout, accepted.written, b"status", &[report.number]) {
+    if connect(rt.stdout()).is_err() {
         output::stop(rt.stderr(), b"example: cannot write to standard output\n");
     }
 }

@@ -17,9 +17,9 @@ mod built;
 ghost use Rattle.std.specs.Prelude.{◌≤◌, length};
 
 use calls::{Kind, Row, WORDS};
-use input::Lines;
+use input::Stop;
 use messages::{MOST_PLACES, Message, Reading};
-use output::Pen;
+use output::{WriteFailed, Writer};
 use rows::Protocol;
 use script::Word;
 use std::io::Stdout;
@@ -33,14 +33,14 @@ const SPACE: usize = 4096;
 // How much of an answer is written at once.
 const OUT: usize = 256;
 
-// What a line asks for.
+// The cases, and the kinds of their words.
 #[derive(Clone, Copy)]
 enum Case {
     Read,
     Build,
 }
 
-const CASES: [Row<'_, Case>; 2] = [
+const CASES: [Row<'static, Case>; 2] = [
     Row {
         name: b"read",
         kinds: &[Kind::Numbers, Kind::Run],
@@ -61,188 +61,110 @@ const CASES: [Row<'_, Case>; 2] = [
 
 fn main(rt: HostRuntime) {
     let mut space = [0; SPACE];
-    run(rt, &mut space);
-}
-
-// Runs the script to its end, line by line.
-//
-// A proved loop has to end, and nothing says that the input does. So the loop counts its turns down, from a number that
-// no run uses up.
-fn run(rt: HostRuntime, space: &mut [u8; SPACE]) {
-    let mut lines = input::begin();
-    let mut turns = u64::MAX;
-    while 0 < turns {
-        turns -= 1;
-        if !step(rt.stdout(), space, lines) {
-            unwritten(rt);
-            return;
+    let stdout = rt.stdout();
+    match input::each_line(
+        rt.stdin(),
+        &mut space,
+        LINE,
+        |line, long| answer(stdout, line, long),
+    ) {
+        Ok(()) => {}
+        Err(Stop::Unread) => {
+            output::stop(rt.stderr(), b"form_cases: cannot read standard input\n")
         }
-        lines = input::step(rt.stdin(), space, LINE, lines);
-        if lines.over {
-            ended(rt, lines.failed);
-            return;
-        }
+        Err(Stop::Unwritten) => output::stop(
+            rt.stderr(),
+            b"form_cases: cannot write to standard output\n",
+        ),
     }
 }
 
-// Why nothing more is run: an answer could not be written, or the input has ended, or could not be read.
-fn unwritten(rt: HostRuntime) {
-    output::stop(
-        rt.stderr(),
-        b"form_cases: cannot write to standard output\n",
-    );
-}
-
-fn ended(rt: HostRuntime, failed: bool) {
-    if failed {
-        output::stop(rt.stderr(), b"form_cases: cannot read standard input\n");
-    }
-}
-
-// Runs the line at the front, if it is whole, and answers whether its answer was written.
-fn step(stdout: Stdout, space: &mut [u8], l: Lines) -> bool {
-    if !input::whole(l) {
-        return true;
-    }
-    if l.long {
+// A case, a remark, or what is neither.
+fn answer(stdout: Stdout, line: &mut [u8], long: bool) -> Result<(), WriteFailed> {
+    if long {
         return bad(stdout);
     }
-    let w = input::line(space, l);
-    let from = w.from;
-    let to = w.to;
-    line(stdout, &mut space[from..to])
-}
-
-fn line(stdout: Stdout, line: &mut [u8]) -> bool {
     let mut words = [0; WORDS];
     match calls::said(&CASES, line, &mut words) {
-        Some(Case::Read) => read(stdout, line, words),
-        Some(Case::Build) => built::build(stdout, line, words),
-        None => other(stdout, line),
+        Some(Case::Read) => read(stdout, line, &words),
+        Some(Case::Build) => built::build(stdout, line, &words),
+        None => {
+            if Word::first(line).is(line, b"#") {
+                return Ok(());
+            }
+            bad(stdout)
+        }
     }
-}
-
-// A remark, or no case.
-fn other(stdout: Stdout, line: &[u8]) -> bool {
-    if Word::first(line).is(line, b"#") {
-        return true;
-    }
-    bad(stdout)
 }
 
 // A line that is no case.
-fn bad(stdout: Stdout) -> bool {
-    output::line(stdout, b"bad line")
+fn bad(stdout: Stdout) -> Result<(), WriteFailed> {
+    output::say(stdout, b"bad line")
 }
 
 // read B,I,FROM RUN
-fn read(stdout: Stdout, line: &[u8], words: [u64; WORDS]) -> bool {
+fn read(stdout: Stdout, line: &[u8], words: &[u64; WORDS]) -> Result<(), WriteFailed> {
     if words[0] != 3 {
         return bad(stdout);
     }
     let mut space = [0u8; OUT];
-    let out: &mut [u8] = &mut space;
-    let bytes = calls::bytes(line, &words, 5);
-    let p = spoken(
-        out,
-        output::begin(stdout),
-        words[1],
-        words[2],
-        bytes,
-        words[3],
-    );
-    output::end(out, p)
+    let mut out = Writer::new(stdout, &mut space);
+    let bytes = calls::bytes(line, words, 5);
+    spoken(&mut out, words[1], words[2], bytes, words[3])?;
+    out.end()
 }
 
 // All bytes of a slice, as a ring from a place on, in the protocol that an instance of a bundle speaks.
-fn spoken(out: &mut [u8], p: Pen, bundle: u64, i: u64, bytes: &[u8], from: u64) -> Pen {
+fn spoken(
+    out: &mut Writer,
+    bundle: u64,
+    i: u64,
+    bytes: &[u8],
+    from: u64,
+) -> Result<(), WriteFailed> {
     if wire::instances::count(bundle) as u64 <= i {
-        return output::words(out, p, b"bad line");
+        return out.words(b"bad line");
     }
     if (bytes.len() as u64) < from {
-        return output::words(out, p, b"bad line");
+        return out.words(b"bad line");
     }
-    show(
-        out,
-        p,
-        rows::spoken::protocol(bundle, i as usize),
-        bytes,
-        from as usize,
-    )
+    let p = rows::spoken::protocol(bundle, i as usize);
+    show(out, p, bytes, from as usize)
 }
 
-fn show(out: &mut [u8], pen: Pen, p: Protocol, bytes: &[u8], from: usize) -> Pen
+fn show(out: &mut Writer, p: Protocol, bytes: &[u8], from: usize) -> Result<(), WriteFailed>
     requires { from ≤ length bytes.now }
 {
     let n = bytes.len();
-    let v = cbor::measure(bytes, from, n);
-    let Ok(q) = v else {
-        return output::words(out, pen, b"15 one");
-    };
-    if q != n {
-        return output::words(out, pen, b"15 one");
+    if cbor::measure(bytes, from, n) != Ok(n) {
+        return out.words(b"15 one");
     }
     let a = messages::read(p, bytes, from, n);
-    let reading = a.reading;
-    let message = a.message;
-    answer(out, pen, reading, message)
-}
-
-// What reading comes to.
-fn answer(out: &mut [u8], p: Pen, reading: Reading, m: Message) -> Pen {
-    match reading {
-        Reading::Read => print(out, p, m),
-        Reading::NotArray => output::words(out, p, b"15 array"),
-        Reading::UnknownKind => output::words(out, p, b"15 kind"),
-        Reading::WrongCount => output::words(out, p, b"15 count"),
-        Reading::WrongField(i) => field(out, p, i),
+    match a.reading {
+        Reading::Read => print(out, a.message),
+        Reading::NotArray => out.words(b"15 array"),
+        Reading::UnknownKind => out.words(b"15 kind"),
+        Reading::WrongCount => out.words(b"15 count"),
+        Reading::WrongField(i) => {
+            out.words(b"15 field")?;
+            out.number(i)
+        }
     }
 }
 
-// The element at this place of the array is wrong.
-fn field(out: &mut [u8], p: Pen, i: u64) -> Pen {
-    let q = output::words(out, p, b"15 field");
-    output::number(out, q, i)
-}
-
-// What a message says.
-fn print(out: &mut [u8], p: Pen, m: Message) -> Pen {
-    let mut q = output::byte(out, p, b'0');
-    q = output::number(out, q, m.kind);
-    q = output::byte(out, q, b';');
-    let numbers = m.numbers;
-    q = first(out, q, &numbers, m.count);
-    q = output::byte(out, q, b';');
-    places(out, q, m)
-}
-
-// The first n of some numbers, each behind a blank.
-fn first(out: &mut [u8], p: Pen, numbers: &[u64], n: usize) -> Pen {
-    if numbers.len() < n {
-        return p;
+// What a message says: its kind, its numbers, and the start and the length of each of its places.
+fn print(out: &mut Writer, m: Message) -> Result<(), WriteFailed> {
+    out.byte(b'0')?;
+    out.number(m.kind)?;
+    out.byte(b';')?;
+    if let Some(numbers) = m.numbers.get(..m.count) {
+        out.numbers(numbers)?;
     }
-    output::numbers(out, p, &numbers[0..n])
-}
-
-// Each place behind a blank.
-fn places(out: &mut [u8], p: Pen, m: Message) -> Pen {
-    let places = m.places;
-    let parts = m.parts;
-    let mut q = p;
-    let mut i: usize = 0;
-    while i < MOST_PLACES {
-        q = place(out, q, i < parts, places[i * 2], places[i * 2 + 1]);
-        i += 1;
+    out.byte(b';')?;
+    for i in 0..m.parts.min(MOST_PLACES) {
+        out.number(m.places[i * 2] as u64)?;
+        out.byte(b'+')?;
+        out.decimal(m.places[i * 2 + 1] as u64)?;
     }
-    q
-}
-
-// Start and length of a place that there is.
-fn place(out: &mut [u8], p: Pen, there: bool, start: usize, len: usize) -> Pen {
-    if !there {
-        return p;
-    }
-    let mut q = output::number(out, p, start as u64);
-    q = output::byte(out, q, b'+');
-    output::decimal(out, q, len as u64)
+    Ok(())
 }

@@ -3,7 +3,7 @@
 
 mod lines;
 
-ghost use Rattle.std.specs.Prelude.{◌≡◌, ◌≤◌, length, IfOk, Err};
+ghost use Rattle.std.specs.Prelude.{◌≡◌, ◌≤◌, length, Bool, IfOk, Err};
 ghost use Rattle.io.specs.Counts.{IsPrefixLen};
 
 pub use lines::{Lines, begin, line, step, whole};
@@ -159,23 +159,29 @@ impl Reader<'_> {
 }
 
 // Hands each line to `answer` in turn, up to the end of the input, or as far as `answer` says that what it wrote was written.
+// Of a line that is too long it is told so, and given no byte.
 //
 // A proved loop has to end, and nothing says that the input does. So the loop has more turns than any run uses up.
-pub fn each_line<E: Drop, F: FnMut(Result<&mut [u8], TooLong>) -> Result<(), E>>(
+// Kept: a line and whether it is too long, since a closure that takes a `Result` of a `&mut` gets no proof through a bound.
+pub fn each_line<E: Drop, F: FnMut(&mut [u8], bool) -> Result<(), E>>(
     stdin: Stdin,
     space: &mut [u8],
     most: usize,
     mut answer: F,
 ) -> Result<(), Stop>
     requires { F.IsAlwaysCallable answer }
-    ensures { result ≡ Err Stop.Unwritten → (f : F) × (x : _) × (e : E) × (g : F) × F.step f x (Err e) g }
+    ensures { result ≡ Err Stop.Unwritten → (f : F) × (x : _) × (long : Bool) × (e : E) × (y : _) × (g : F) × F.step f x long (Err e) y g }
 {
     let mut reader = Reader::new(stdin, space, most);
     for _ in 0..u64::MAX {
         if !reader.advance()? {
             break;
         }
-        if answer(reader.line()).is_err() {
+        let answered = match reader.line() {
+            Ok(line) => answer(line, false),
+            Err(TooLong) => answer(&mut [], true),
+        };
+        if answered.is_err() {
             return Err(Stop::Unwritten);
         }
     }
