@@ -1,12 +1,9 @@
 // Standard input, in runs or line by line. A read that fails is told apart from the end of the input.
 #![tactic(auto)]
 
-mod lines;
-
 ghost use Rattle.std.specs.Prelude.{◌≡◌, ◌≤◌, length, Bool, IfOk, Err};
 ghost use Rattle.io.specs.Counts.{IsPrefixLen};
 
-pub use lines::{Lines, begin, line, step, whole};
 use script::Word;
 use std::io::{Read, Stdin};
 

@@ -4,11 +4,8 @@
 // first. What a number and a byte look like is proved in `text`; what is printed of them is run and compared.
 #![tactic(auto)]
 
-mod pen;
-
 ghost use Rattle.std.specs.Prelude.{◌≡◌, ◌+◌, ◌≤◌, length, OnOk};
 
-pub use pen::{Pen, begin, byte, decimal, end, hex, line, list, number, numbers, run, words};
 use std::io::{Stderr, Stdout};
 use text::DIGITS;
 
