@@ -3,7 +3,7 @@
 use Prim.Native.Nat.{ℕ, ◌+◌, ◌<◌}
 use mathlib.Core.Path.{◌≡◌, refl, sym, ap, ◌∙◌}
 use mathlib.Core.Bool.{Bool, true, false, false≢true}
-use mathlib.Core.List.{List, [], ◌∷◌, ◌++◌}
+use mathlib.Core.List.{List, [], ◌++◌}
 use native.Mathlib.Omega.{arith}
 use lib.ListN.{length, get_or, drop, length-append}
 use lib.Seq.{sets, take-length}
@@ -13,11 +13,9 @@ use Rattle.ring.specs.Ring.{run}
 use Rattle.head.specs.Inside.{length_of}
 use Rattle.head.specs.Write.{shortest}
 use Rattle.head.proofs.WriteLaws.{shortest_length}
-use Rattle.elements.specs.declared.Element.TheVariants as element
 use Rattle.elements.specs.declared.Field.{Field}
 use Rattle.elements.specs.declared.Field.TheVariants as field
-use Rattle.elements.specs.Matching.{array, indefinite, Break}
-use Rattle.parts.specs.Given.{numeric}
+use Rattle.elements.specs.Matching.{array}
 use Rattle.parts.specs.Inside.{run_at, run_after}
 use Rattle.parts.proofs.PartLaws.{field_next, field-none}
 use Rattle.layout.specs.Inside.{headless, major_of, open_in, head_of, tail_of, break_of, own_length, Put, piece_of, body_of, heads_of, whole_of}
@@ -31,38 +29,15 @@ headless_not_open asked (field.List e) t = absurd (false≢true t)
 headless_not_open asked (field.Below limit) t = refl
 headless_not_open asked field.Bool t = refl
 
--- what is written so is an array
-pub open_array : (asked : Bool) (f : Field) → open_in asked f ≡ true → indefinite (major_of f) ≡ 0x9f
-open_array asked field.Item t = absurd (false≢true t)
-open_array asked (field.List element.Item) t = refl
-open_array asked (field.List element.Pair) t = refl
-open_array asked (field.List element.Version) t = absurd (false≢true t)
-open_array asked (field.Below limit) t = absurd (false≢true t)
-open_array asked field.Bool t = absurd (false≢true t)
-
 module _ (asked : Bool) (f : Field) (a : ℕ) where
   pub own_long : length (head_of asked f a) + length (break_of asked f) ≡ own_length asked f a
   own_long =
       by_test (headless f) (λ t. rw (t, headless_not_open asked f t))
       (λ t. by_test (open_in asked f) (λ u. rw (t, u)) (λ u. rw (t, u) (omega (arith, shortest_length (major_of f) a))))
 
-  -- put at a place of the buffer: no head; the byte; the shortest head
-  module _ (buf : List ℕ) (at : ℕ) where
-    pub no_head : headless f ≡ true → Put buf at (head_of asked f a) at buf
-    no_head t = rw t (omega arith, refl)
-
-    module _ (t : headless f ≡ false) where
-      pub open_head : open_in asked f ≡ true → head_of asked f a ≡ 0x9f ∷ []
-      open_head u = rw (t, u) (ap (λ (b : ℕ). b ∷ []) (open_array asked f u))
-
-      pub short_head : open_in asked f ≡ false → head_of asked f a ≡ shortest (major_of f) a
-      short_head u = rw (t, u)
-
-    pub no_break : open_in asked f ≡ false → Put buf at (break_of asked f) at buf
-    no_break u = rw u (omega arith, refl)
-
-    pub a_break : open_in asked f ≡ true → break_of asked f ≡ Break ∷ []
-    a_break u = rw u
+  -- the shortest head
+  pub short_head : headless f ≡ false → open_in asked f ≡ false → head_of asked f a ≡ shortest (major_of f) a
+  short_head t u = rw (t, u)
 
 -- the shortest head, by its length
 pub head_there : (buf : List ℕ) (at v : ℕ) {m k q : ℕ} {after : List ℕ} → m ≡ k → q ≡ at + length_of v → after ≡ sets buf at (shortest m v)
@@ -74,12 +49,6 @@ head_there buf at v {m} {k} em eq ea =
 
 pub run_all : (xs : List ℕ) → run xs 0 (length xs) ≡ xs
 run_all xs = take-length xs
-
-pub no_tail : (f : Field) (xs buf : List ℕ) (at : ℕ) → numeric f ≡ true → Put buf at (tail_of f xs) at buf
-no_tail f xs buf at t = rw t (omega arith, refl)
-
-pub a_tail : (f : Field) (xs : List ℕ) → numeric f ≡ false → tail_of f xs ≡ xs
-a_tail f xs t = rw t
 
 pub tail_there : (buf : List ℕ) (at : ℕ) (xs : List ℕ) {ys after : List ℕ} {q : ℕ} → ys ≡ xs → Put buf at xs q after → Put buf at ys q after
 tail_there buf at xs e (eq, ea) = (eq ∙ ap (λ (l : List ℕ). at + length l) (sym e), ea ∙ ap (sets buf at) (sym e))
@@ -138,9 +107,6 @@ module _ (asked : Bool) (fs : List Field) (args : List ℕ) (i : ℕ) where
 
 -- what is left to be put, behind what was put
 module _ (buf : List ℕ) (at : ℕ) (piece rest : List ℕ) {all : List ℕ} (e : all ≡ piece ++ rest) where
-  pub put_long : length all ≡ length piece + length rest
-  put_long = ap length e ∙ length-append piece rest
-
   pub put_on : {q : ℕ} {after : List ℕ} → q ≡ at + length piece → after ≡ sets buf at piece → sets after q rest ≡ sets buf at all
   put_on {q} {after} eq ea =
       ap (λ (l : List ℕ). sets l q rest) ea

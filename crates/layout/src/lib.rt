@@ -125,6 +125,7 @@ fn put_tail(buf: &mut [u8], at: usize, f: Field, run: &[u8]) -> usize
 }
 
 // A field: its head, its run, and the break.
+#[tactic(auto, using(crate::proofs::LayoutLaws::piece_parts))]
 fn put_field(buf: &mut [u8], at: usize, asked: bool, f: Field, argument: u64, run: &[u8]) -> usize
     requires { at + length (piece_of asked f argument run.now) ≤ length buf.old }
     ensures { Put buf.old at (piece_of asked f argument run.now) result buf.new }

@@ -38,6 +38,7 @@ fn of_number(f: Field, v: u64) -> Option<u64>
 }
 
 // The argument of a field: it is given by number n, or by run r.
+#[tactic(auto, unfolding(crate::specs::Inside::argument_of))]
 fn argument(f: Field, given: Given<'_>, n: usize, r: usize) -> Option<u64>
     ensures { result ≡ argument_in given.entry f n r }
 {
