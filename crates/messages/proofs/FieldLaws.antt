@@ -9,7 +9,7 @@ use borrow.Author.Tests.{eq-eqb, ne_eqb, eqb-true}
 use native.Mathlib.Omega.{arith}
 use native.Mathlib.Decide.{ℕ_discrete, dec_lt}
 use native.Mathlib.Numerals.{add-one}
-use Rattle.std.specs.Prelude.{Option, Some, None, Ok}
+use Rattle.std.specs.Prelude.{Option, Some, None, Result, Ok, Err}
 use lib.Dec.{eqb}
 use lib.ListN.{length, get_or, set, drop}
 use lib.Seq.{drop-cons, drop-length}
@@ -17,8 +17,6 @@ use Rattle.item.specs.Grammar.{One, Items, Reads, item}
 use Rattle.item.specs.Verdict.{verdict}
 use Rattle.item.proofs.Theorem.{one_end}
 use Rattle.rows.specs.declared.Protocol.{Protocol}
-use Rattle.messages.specs.declared.forms.Listed.{Listed}
-use Rattle.messages.specs.declared.forms.Listed.TheVariants.{Row, Unknown}
 use Rattle.elements.specs.declared.Extent.{Extent}
 use Rattle.elements.specs.declared.Extent.TheVariants.{Counted, Open, Rest}
 use Rattle.messages.specs.Forms.{form_of}
@@ -27,29 +25,17 @@ use Rattle.elements.specs.declared.Field.{Field}
 use Rattle.elements.specs.declared.Field.TheVariants as field
 use Rattle.elements.specs.declared.Part.{Part}
 use Rattle.elements.specs.declared.Part.TheVariants as part
-use Rattle.messages.specs.declared.Reading.TheVariants.{NotArray, UnknownKind, WrongCount, WrongField}
 use Rattle.messages.specs.declared.Message.{Message}
-use Rattle.messages.specs.declared.Answer.{Answer}
+use Rattle.messages.specs.declared.Unread.{Unread}
+use Rattle.messages.specs.declared.Unread.TheVariants.{NotArray, UnknownKind, WrongCount, WrongField}
 use Rattle.elements.specs.Besides.Matching.{ItemAt, ItemsAt, UnsignedAt, Opens, FieldAt}
 use Rattle.elements.specs.Matching.{Break, array, in_message}
 use Rattle.messages.specs.Matching.{begun, with_number, with_place}
 use Rattle.elements.specs.Reading.{on_pair, unsigned_at, opens_at, item_end, part_of}
-use Rattle.messages.specs.Reading.{failed, read, with_part, fields_of, counted, numbered_of, count_from, message_of}
+use Rattle.messages.specs.Reading.{read, with_part, fields_of, counted, numbered_of, count_from, message_of}
 use Rattle.elements.proofs.ElementLaws.{Pairwise, unsigned_sound, opens_sound, forward, item_found, item_then, none_at, ahead, no_items, first_item, number_item, item_array, array_elements, item_no_break, Parts, part_sound, field_item}
 use Rattle.elements.proofs.Steps.{pair_then, pair_not}
 use Rattle.messages.proofs.Theorem.{whole_item, open_count}
-
--- a message with a number more, or a place more
-pub number_said : (m : Message) (v : ℕ) {l : List ℕ} → l ≡ set m.numbers m.count v
-    → record { kind = m.kind; numbers = l; count = m.count + 1; places = m.places; parts = m.parts } ≡ with_number m v
-number_said m v e =
-    ap (λ (l : List ℕ). record { kind = m.kind; numbers = l; count = m.count + 1; places = m.places; parts = m.parts }) e
-
-pub place_said : (m : Message) (a s : ℕ) {k l : List ℕ} → k ≡ set m.places (m.parts * 2) a → l ≡ set k (m.parts * 2 + 1) s
-    → record { kind = m.kind; numbers = m.numbers; count = m.count; places = l; parts = m.parts + 1 } ≡ with_place m a s
-place_said m a s e f =
-    ap (λ (l : List ℕ). record { kind = m.kind; numbers = m.numbers; count = m.count; places = l; parts = m.parts + 1 })
-    (f ∙ ap (λ (k : List ℕ). set k (m.parts * 2 + 1) s) e)
 
 -- a field more than a message so far has room for three at least
 pub with_count : (m : Message) (w : Part) (i : ℕ) → m.count ≤ i → m.parts ≤ i → ((with_part m w).count ≤ i + 1) × ((with_part m w).parts ≤ i + 1)
@@ -61,7 +47,7 @@ module _ (bs : List ℕ) where
 
   left_more : (fs : List Field) (i p : ℕ) (m : Message) → i < length fs
       → fields_of bs (drop i fs) (i + 1) p m
-      ≡ on_pair (failed (WrongField (i + 1))) (part_of bs (get_or fs i field.Item) p) (λ x q. fields_of bs (drop (i + 1) fs) (i + 1 + 1) q (with_part m x))
+      ≡ on_pair (Err (WrongField (i + 1))) (part_of bs (get_or fs i field.Item) p) (λ x q. fields_of bs (drop (i + 1) fs) (i + 1 + 1) q (with_part m x))
   unfolding fields_of
   left_more fs i p m h =
       ap (λ (l : List Field). fields_of bs l (i + 1) p m)
@@ -74,12 +60,12 @@ module _ (bs : List ℕ) where
 
     pub one_more : {x : Part} {q : ℕ} → w ≡ Some (x, q) → fields_of bs (drop (i + 1) fs) (i + 1 + 1) q (with_part m x) ≡ fields_of bs (drop i fs) (i + 1) p m
     one_more at =
-        pair_then (failed (WrongField (i + 1))) (λ x q. fields_of bs (drop (i + 1) fs) (i + 1 + 1) q (with_part m x)) same at refl
+        pair_then (Err (WrongField (i + 1))) (λ x q. fields_of bs (drop (i + 1) fs) (i + 1 + 1) q (with_part m x)) same at refl
         ∙ sym (left_more fs i p m h)
 
-    pub one_wrong : w ≡ None → failed (WrongField (i + 1)) ≡ fields_of bs (drop i fs) (i + 1) p m
+    pub one_wrong : w ≡ None → Err (WrongField (i + 1)) ≡ fields_of bs (drop i fs) (i + 1) p m
     one_wrong not =
-        pair_not (failed (WrongField (i + 1))) (λ x q. fields_of bs (drop (i + 1) fs) (i + 1 + 1) q (with_part m x)) same not
+        pair_not (Err (WrongField (i + 1))) (λ x q. fields_of bs (drop (i + 1) fs) (i + 1 + 1) q (with_part m x)) same not
         ∙ sym (left_more fs i p m h)
 
   pub none_left : (fs : List Field) (i p : ℕ) (m : Message) → i ≡ length fs → read m ≡ fields_of bs (drop i fs) (i + 1) p m
@@ -209,37 +195,9 @@ module _ (bs : List ℕ) where
     last_known {n} long e f =
         last_told x g (ap (last_end x (c + 1)) long ∙ ap (λ (k : ℕ). last_end x (k + 1) n) (sym is) ∙ sym e ∙ f)
 
-  pub message_array : (p : Protocol) {x : Extent} {a : ℕ} {n : Option (Extent × ℕ)} {r : Answer} → verdict bs ≡ Ok (length bs) → n ≡ opens_at bs array 0
-      → n ≡ Some (x, a) → r ≡ numbered_of p bs (count_from bs x a) a → r ≡ message_of p bs
-  unfolding message_of
-  message_array p w e f g =
-      pair_then (failed NotArray) (λ x a. numbered_of p bs (count_from bs x a) a) e f g ∙ sym (rw (w, eq-eqb (length bs) (length bs) refl))
-
-  pub message_none : (p : Protocol) {n : Option (Extent × ℕ)} → verdict bs ≡ Ok (length bs) → n ≡ opens_at bs array 0 → n ≡ None
-      → failed NotArray ≡ message_of p bs
-  unfolding message_of
-  message_none p w e f =
-      pair_not (failed NotArray) (λ x a. numbered_of p bs (count_from bs x a) a) e f ∙ sym (rw (w, eq-eqb (length bs) (length bs) refl))
-
-  pub kind_named : (p : Protocol) (k a : ℕ) {kind b : ℕ} {n : Option (ℕ × ℕ)} {r : Answer} → n ≡ unsigned_at bs a → n ≡ Some (kind, b)
-      → r ≡ counted bs k kind b (form_of p kind) → r ≡ numbered_of p bs k a
-  unfolding numbered_of
-  kind_named p k a e f g = pair_then (failed NotArray) (λ kind b. counted bs k kind b (form_of p kind)) e f g
-
-  pub kind_none : (p : Protocol) (k a : ℕ) {n : Option (ℕ × ℕ)} → n ≡ unsigned_at bs a → n ≡ None → failed NotArray ≡ numbered_of p bs k a
-  unfolding numbered_of
-  kind_none p k a e f = pair_not (failed NotArray) (λ kind b. counted bs k kind b (form_of p kind)) e f
-
-  pub form_known : (p : Protocol) (k kind b : ℕ) {row : ℕ} {w : Listed} {r : Answer} → Finds p kind w → w ≡ Row row
-      → r ≡ counted bs k kind b (some (form_at row).fields) → r ≡ counted bs k kind b (form_of p kind)
-  form_known p k kind b h e g = g ∙ ap (counted bs k kind b) (sym (subst (Finds p kind) e h).1)
-
-  pub form_unknown : (p : Protocol) (k kind b : ℕ) {w : Listed} → Finds p kind w → w ≡ Unknown → failed UnknownKind ≡ counted bs k kind b (form_of p kind)
-  form_unknown p k kind b h e = ap (counted bs k kind b) (sym (subst (Finds p kind) e h))
-
   module _ (fs : List Field) (k kind b : ℕ) {t : Bool} (test : t ≡ eqb k (length fs + 1)) where
-    pub count_right : {r : Answer} → t ≡ true → r ≡ fields_of bs fs 1 b (begun kind) → r ≡ counted bs k kind b (some fs)
+    pub count_right : {r : Result Message Unread} → t ≡ true → r ≡ fields_of bs fs 1 b (begun kind) → r ≡ counted bs k kind b (some fs)
     count_right e g = g ∙ sym (rw (sym test ∙ e))
 
-    pub count_wrong : t ≡ false → failed WrongCount ≡ counted bs k kind b (some fs)
+    pub count_wrong : t ≡ false → Err WrongCount ≡ counted bs k kind b (some fs)
     count_wrong e = sym (rw (sym test ∙ e))

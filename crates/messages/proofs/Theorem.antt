@@ -7,7 +7,7 @@ use mathlib.Core.Bool.{true}
 use mathlib.Core.List.{List, [], ◌∷◌}
 use mathlib.Core.Option as maybe
 use mathlib.Core.Option.{none, some}
-use Rattle.std.specs.Prelude.{Option, Some, None, Ok, Err}
+use Rattle.std.specs.Prelude.{Option, Some, None, Result, Ok, Err}
 use Rattle.std.proofs.lemmas.Option.{some_pair_parts}
 use native.Mathlib.Omega.{arith}
 use lib.Dec.{eqb}
@@ -28,17 +28,16 @@ use Rattle.elements.specs.declared.Extent.TheVariants.{Counted, Open, Rest}
 use Rattle.elements.specs.declared.Field.{Field}
 use Rattle.elements.specs.declared.Part.{Part}
 use Rattle.elements.specs.declared.Part.TheVariants as part
-use Rattle.messages.specs.declared.Reading.{Reading}
-use Rattle.messages.specs.declared.Reading.TheVariants.{Read, NotArray, UnknownKind, WrongCount, WrongField}
 use Rattle.messages.specs.declared.Message.{Message}
-use Rattle.messages.specs.declared.Answer.{Answer}
+use Rattle.messages.specs.declared.Unread.{Unread}
+use Rattle.messages.specs.declared.Unread.TheVariants.{NotArray, UnknownKind, WrongCount, WrongField}
 use Rattle.messages.specs.Forms.{form_of}
 use Rattle.elements.specs.Besides.Matching.{Value, number, place, ItemAt, ItemsAt, UnsignedAt, Opens, Closes, FieldAt}
 use Rattle.elements.specs.Matching.{Break, past, array, in_message}
 use Rattle.messages.specs.Besides.Matching.{FieldsAt, no_field, a_field, Matches, saying, said_all, message_from}
 use Rattle.messages.specs.Matching.{begun, with_number, with_place}
 use Rattle.elements.specs.Reading.{on_pair, unsigned_at, opens_at, elements_of, part_of}
-use Rattle.messages.specs.Reading.{failed, read, with_part, fields_of, counted, wholly, numbered_of, count_from, message_of}
+use Rattle.messages.specs.Reading.{read, said_in, with_part, fields_of, counted, wholly, numbered_of, count_from, message_of}
 use Rattle.messages.specs.Besides.Theorem.{Says, ReadsForms, OneMatch, MessageIsItem}
 use Rattle.elements.proofs.ElementLaws.{pair_cases, unsigned_sound, opens_sound, unsigned_found, opens_found, opens_within, number_item, array_elements, items_elements, elements_found, list_item, none_at, item_then, Parts, part_sound, got, part_found, field_item}
 
@@ -49,9 +48,13 @@ module _ (bs : List ℕ) where
 
   -- ---- the fields
 
+  -- what is not read says nothing
+  unread : {why : Unread} {n : Message} → ◌≡◌ {A = Result Message Unread} (Err why) (read n) → ⊥
+  unread e = let y : ◌≡◌ {A = ℕ} 0 1 = cc in omega arith
+
   -- on from what a field says
-  abbrev further : Option (Part × ℕ) → List Field → ℕ → Message → Answer
-  further w fs i m = on_pair (failed (WrongField i)) w (λ x q. fields_of bs fs (i + 1) q (with_part m x))
+  abbrev further : Option (Part × ℕ) → List Field → ℕ → Message → Result Message Unread
+  further w fs i m = on_pair (Err (WrongField i)) w (λ x q. fields_of bs fs (i + 1) q (with_part m x))
 
   further_got : (x : Value) (q : ℕ) (fs : List Field) (i : ℕ) (m : Message) → further (got bs x q) fs i m ≡ fields_of bs fs (i + 1) q (saying m x)
   further_got (number v) q fs i m = refl
@@ -74,11 +77,11 @@ module _ (bs : List ℕ) where
       let r = go q (with_number m v) e in (number v ∷ r.0, r.1, a_field s r.2, r.3)
   field_sound f fs i p m n (Some (part.Place a l, q)) s go e =
       let r = go q (with_place m a l) e in (place a l ∷ r.0, r.1, a_field s r.2, r.3)
-  field_sound f fs i p m n None s go e = absurd (let z : WrongField i ≡ Read = ap (λ (a : Answer). a.reading) e in let y : ◌≡◌ {A = ℕ} 0 1 = cc in omega arith)
+  field_sound f fs i p m n None s go e = absurd (unread e)
 
   fields_sound : (fs : List Field) (i p : ℕ) (m n : Message) → fields_of bs fs i p m ≡ read n → Found fs p m n
   unfolding fields_of said_all
-  fields_sound [] i p m n e = ([], p, no_field, ap (λ (a : Answer). a.message) (sym e))
+  fields_sound [] i p m n e = ([], p, no_field, ap said_in (sym e))
   fields_sound (f ∷ fs) i p m n e =
       field_sound f fs i p m n (part_of bs f p) (part_sound bs f p) (λ q o g. fields_sound fs (i + 1) q o n g) e
 
@@ -121,9 +124,6 @@ module _ (bs : List ℕ) where
   count_is Open o s c = open_count (opens_within bs array 0 Open (omega arith) o).1 s c
   count_is Rest o s c = absurd o
 
-  failing : {r : Reading} {n : Message} → failed r ≡ read n → r ≡ Read
-  failing e = ap (λ (a : Answer). a.reading) e
-
   module _ (p : Protocol) where
     pub matches_item : {kind : ℕ} {xs : List Value} → Matches p bs kind xs → ItemAt bs nesting 0 (length bs)
     matches_item m =
@@ -135,11 +135,11 @@ module _ (bs : List ℕ) where
 
     counted_sound : (x : Extent) (kind a b : ℕ) (n : Message) (w : maybe.Option (List Field)) → form_of p kind ≡ w → ItemAt bs nesting 0 (length bs)
         → Opens bs array 0 x a → UnsignedAt bs a kind b → counted bs (count_from bs x a) kind b w ≡ read n → Says p bs n
-    counted_sound x kind a b n none f i o u = λ e. absurd (let z : UnknownKind ≡ Read = failing e in let y : ◌≡◌ {A = ℕ} 0 1 = cc in omega arith)
+    counted_sound x kind a b n none f i o u = λ e. absurd (unread e)
     counted_sound x kind a b n (some fs) f i o u =
-        cond_cases (λ (y : Answer). y ≡ read n → Says p bs n) (eqb (count_from bs x a) (length fs + 1))
+        cond_cases (λ (y : Result Message Unread). y ≡ read n → Says p bs n) (eqb (count_from bs x a) (length fs + 1))
         (λ t e. of (eqb-true (count_from bs x a) (length fs + 1) t) (fields_sound fs 1 b (begun kind) n e))
-        (λ _ e. absurd (let z : WrongCount ≡ Read = failing e in let y : ◌≡◌ {A = ℕ} 0 1 = cc in omega arith))
+        (λ _ e. absurd (unread e))
       where
         of : count_from bs x a ≡ length fs + 1 → Found fs b (begun kind) n → Says p bs n
         of c (xs, q, r, e) =
@@ -167,8 +167,8 @@ module _ (bs : List ℕ) where
     sound : (n : Message) → message_of p bs ≡ read n → Says p bs n
     unfolding message_of numbered_of
     sound n =
-        let P : Answer → Type 0 = λ x. x ≡ read n → Says p bs n in
-        let not-array : P (failed NotArray) = λ e. absurd (let z : NotArray ≡ Read = failing e in let y : ◌≡◌ {A = ℕ} 0 1 = cc in omega arith) in
+        let P : Result Message Unread → Type 0 = λ x. x ≡ read n → Says p bs n in
+        let not-array : P (Err NotArray) = λ e. absurd (unread e) in
         cond_cases P (wholly (verdict bs) (length bs))
         (λ t.
         let i : ItemAt bs nesting 0 (length bs) = whole_item (wholly_true (verdict bs) (length bs) t) in

@@ -12,8 +12,6 @@ use Rattle.elements.specs.declared.Extent.TheVariants.{Counted, Open, Rest}
 use Rattle.elements.specs.Besides.Matching.{ItemsAt}
 use Rattle.elements.specs.Matching.{versions, words, array, in_message}
 use Rattle.elements.specs.Reading.{unsigned_at, opens_at}
-use Rattle.messages.specs.declared.forms.Listed.{Listed}
-use Rattle.messages.specs.declared.forms.Listed.TheVariants.{Row, Unknown}
 use Rattle.messages.specs.Forms.{Form, form, item, list, pairs, map, w, version, failure, bool, forms, form_of}
 use Rattle.messages.specs.Reading.{count_from}
 
@@ -64,9 +62,9 @@ abbrev pub mark_in : ℕ → ℕ → ℕ
 mark_in n j = cond (eqb j 0) (n % 256 / 16) (cond (eqb j 1) (n % 4096 / 256) (n / 4096))
 
 -- what a search of the table finds
-abbrev pub Finds : Protocol → ℕ → Listed → Type 0
-Finds p kind (Row i) = (i < form_count) × (form_of p kind ≡ some (form_at i).fields)
-Finds p kind Unknown = form_of p kind ≡ none
+abbrev pub Finds : Protocol → ℕ → Option ℕ → Type 0
+Finds p kind (Some i) = (i < form_count) × (form_of p kind ≡ some (form_at i).fields)
+Finds p kind None = form_of p kind ≡ none
 
 -- the bytes are one item, an array of this extent, whose first element is the kind, from this place up to the next
 abbrev pub Begins : List ℕ → Extent → ℕ → ℕ → ℕ → Type 0

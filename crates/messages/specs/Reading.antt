@@ -1,5 +1,5 @@
 -- What reading a message answers, in phases.
-use Rattle.std.specs.Prelude.{ℕ, ◌+◌, Bool, true, false, cond, List, [], ◌∷◌, eqb, length, get_or, Ok, Err}
+use Rattle.std.specs.Prelude.{ℕ, ◌+◌, Bool, true, false, cond, List, [], ◌∷◌, eqb, length, get_or, Result, Ok, Err}
 use Rattle.std.proofs.Math.Option.{Option, none, some}
 use Rattle.item.specs.Verdict.{verdict, Verdict}
 use Rattle.rows.specs.declared.Protocol.{Protocol}
@@ -10,20 +10,21 @@ use Rattle.elements.specs.declared.Extent.TheVariants.{Counted, Open, Rest}
 use Rattle.elements.specs.declared.Field.{Field}
 use Rattle.elements.specs.declared.Part.{Part}
 use Rattle.elements.specs.declared.Part.TheVariants as part
-use Rattle.messages.specs.declared.Reading.{Reading}
-use Rattle.messages.specs.declared.Reading.TheVariants.{Read, NotArray, UnknownKind, WrongCount, WrongField}
 use Rattle.messages.specs.declared.Message.{Message}
-use Rattle.messages.specs.declared.Answer.{Answer}
+use Rattle.messages.specs.declared.Unread.{Unread}
+use Rattle.messages.specs.declared.Unread.TheVariants.{NotArray, UnknownKind, WrongCount, WrongField}
 use Rattle.messages.specs.Forms.{form_of}
 use Rattle.elements.specs.Matching.{array, in_message}
 use Rattle.elements.specs.Reading.{on_pair, unsigned_at, opens_at, elements_of, part_of}
 use Rattle.messages.specs.Matching.{begun, with_number, with_place}
 
-abbrev pub failed : Reading → Answer
-failed r = record { reading = r; message = begun 0 }
+abbrev pub read : Message → Result Message Unread
+read m = Ok m
 
-abbrev pub read : Message → Answer
-read m = record { reading = Read; message = m }
+-- What is said, and where the bytes are no message, nothing.
+abbrev pub said_in : Result Message Unread → Message
+said_in (Ok m) = m
+said_in (Err why) = begun 0
 
 -- The message so far with what a field says.
 abbrev pub with_part : Message → Part → Message
@@ -31,18 +32,18 @@ with_part m (part.Number v) = with_number m v
 with_part m (part.Place a l) = with_place m a l
 
 -- The fields from left to right, the first of them, element i, at place p.
-unfoldable pub fields_of : List ℕ → List Field → ℕ → ℕ → Message → Answer
+unfoldable pub fields_of : List ℕ → List Field → ℕ → ℕ → Message → Result Message Unread
 fields_of bs [] i p m = read m
-fields_of bs (f ∷ fs) i p m = on_pair (failed (WrongField i)) (part_of bs f p) (λ x q. fields_of bs fs (i + 1) q (with_part m x))
+fields_of bs (f ∷ fs) i p m = on_pair (Err (WrongField i)) (part_of bs f p) (λ x q. fields_of bs fs (i + 1) q (with_part m x))
 
 -- The count of elements, the kind's own included.
-abbrev pub counted : List ℕ → ℕ → ℕ → ℕ → Option (List Field) → Answer
-counted bs n kind p none = failed UnknownKind
-counted bs n kind p (some fs) = cond (eqb n (length fs + 1)) (fields_of bs fs 1 p (begun kind)) (failed WrongCount)
+abbrev pub counted : List ℕ → ℕ → ℕ → ℕ → Option (List Field) → Result Message Unread
+counted bs n kind p none = Err UnknownKind
+counted bs n kind p (some fs) = cond (eqb n (length fs + 1)) (fields_of bs fs 1 p (begun kind)) (Err WrongCount)
 
 -- The kind, which opens an array of n elements.
-unfoldable pub numbered_of : Protocol → List ℕ → ℕ → ℕ → Answer
-numbered_of p bs n a = on_pair (failed NotArray) (unsigned_at bs a) (λ kind b. counted bs n kind b (form_of p kind))
+unfoldable pub numbered_of : Protocol → List ℕ → ℕ → ℕ → Result Message Unread
+numbered_of p bs n a = on_pair (Err NotArray) (unsigned_at bs a) (λ kind b. counted bs n kind b (form_of p kind))
 
 -- How many elements the array has, the first of them at place a: as many as its head says, or as stand in front of its break.
 abbrev pub count_from : List ℕ → Extent → ℕ → ℕ
@@ -57,19 +58,11 @@ wholly (Err e) n = false
 
 -- What reading answers: exactly one item; an array that an unsigned number opens; of a kind that the protocol has; with
 -- as many elements as the form; and these are the form's.
-unfoldable pub message_of : Protocol → List ℕ → Answer
+unfoldable pub message_of : Protocol → List ℕ → Result Message Unread
 message_of p bs =
     cond (wholly (verdict bs) (length bs))
-    (on_pair (failed NotArray) (opens_at bs array 0) (λ x a. numbered_of p bs (count_from bs x a) a))
-    (failed NotArray)
-
--- The bytes are a message.
-abbrev pub is_read : Reading → Bool
-is_read Read = true
-is_read NotArray = false
-is_read UnknownKind = false
-is_read WrongCount = false
-is_read (WrongField i) = false
+    (on_pair (Err NotArray) (opens_at bs array 0) (λ x a. numbered_of p bs (count_from bs x a) a))
+    (Err NotArray)
 
 -- RequestTxIds counts as two messages by its bool: the flag by which the rows tell them apart.
 unfoldable pub flag_of : Protocol → Message → ℕ

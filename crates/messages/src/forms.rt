@@ -10,13 +10,6 @@ ghost use Rattle.messages.specs.Inside.{form_count, form_at, most_fields, kind_i
 use elements::{Element, FAILURE_LIMIT, Field, VERSION_LIMIT, WORD_LIMIT};
 use rows::{PROTOCOLS, Protocol, number_of};
 
-// A row of the table, or none.
-#[derive(Clone, Copy)]
-pub enum Listed {
-    Row(usize),
-    Unknown,
-}
-
 // The fields by number; 0 is none.
 const ITEM: u16 = 1;
 
@@ -118,7 +111,7 @@ fn count(p: Protocol) -> usize
 fn kind_in(form: u16) -> u64
     ensures { result ≡ kind_in form }
 {
-    (form % FIRST) as u64
+    u64::from(form % FIRST)
 }
 
 // How many fields it has: it is below the unit of the next.
@@ -151,19 +144,17 @@ fn mark_in(form: u16, j: usize) -> u16
 }
 
 // The row of a kind. The table is made anew wherever it is named: so once, before the search.
-pub fn find(p: Protocol, kind: u64) -> Listed
+pub fn find(p: Protocol, kind: u64) -> Option<usize>
     ensures { Finds p kind result }
 {
     let table = FORMS;
-    let mut i = first(p);
-    let end = i + count(p);
-    while i < end {
+    let start = first(p);
+    for i in start..start + count(p) {
         if kind_in(table[i]) == kind {
-            return Listed::Row(i);
+            return Some(i);
         }
-        i += 1;
     }
-    Listed::Unknown
+    None
 }
 
 // How many fields row i has.

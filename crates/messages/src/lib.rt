@@ -7,30 +7,24 @@
 
 pub mod forms;
 
-ghost use Rattle.std.specs.Prelude.{◌≡◌, cond, ℕ, ◌≤◌, ◌<◌, eqb, length, get_or, set, Some, None, Ok};
+ghost use Rattle.std.specs.Prelude.{◌≡◌, ℕ, ◌≤◌, ◌<◌, length, Some, Ok};
 ghost use Rattle.std.proofs.Math.Option.{some};
-ghost use Rattle.ring.specs.Inside.{around};
 ghost use Rattle.ring.specs.View.{seen};
 ghost use Rattle.item.specs.Verdict.{verdict};
 ghost use Rattle.elements.specs.Besides.Matching.{ItemsAt};
-ghost use Rattle.elements.specs.Matching.{array, in_message};
-ghost use Rattle.elements.specs.Reading.{opens_at};
+ghost use Rattle.elements.specs.Matching.{in_message};
 ghost use Rattle.messages.specs.Matching.{begun, with_number, with_place};
-ghost use Rattle.messages.specs.Reading.{failed, with_part, fields_of, counted, numbered_of, count_from, message_of, is_read, flag_of};
-ghost use Rattle.messages.specs.Forms.{form_of};
+ghost use Rattle.messages.specs.Reading.{with_part, fields_of, counted, count_from, message_of, flag_of};
 ghost use Rattle.messages.specs.Inside.{form_count, form_at, Begins, Stopped, last_end, has_count};
 
 use elements::{Element, Extent, IN_MESSAGE, Part};
-use forms::Listed;
 use head::ARRAY;
 use ring::view::View;
 use rows::Protocol;
 
-// What reading comes to.
-#[derive(Clone, Copy)]
-pub enum Reading {
-    // the bytes are a message
-    Read,
+// Why bytes are no message.
+#[derive(Clone, Copy, PartialEq, Eq)]
+pub enum Unread {
     // they are no array that an unsigned number opens
     NotArray,
     // no message of the protocol has this number
@@ -57,40 +51,12 @@ pub struct Message {
     pub parts: usize,
 }
 
-// What reading answers: the case, and the message where it is one.
-#[derive(Clone, Copy)]
-pub struct Answer {
-    pub reading: Reading,
-    pub message: Message,
-}
-
-// What reading the fields answers, and where it stopped: how many fields are left, a wrong one included, and the place.
+// What reading the fields comes to, and where it stopped: how many fields are left, a wrong one included, and the place.
 #[derive(Clone, Copy)]
 struct Stop {
-    answer: Answer,
+    message: Result<Message, Unread>,
     left: u64,
     at: usize,
-}
-
-// The numbers, and the places, with one set. No form has more of them than there is room for.
-fn set_number(a: [u64; MOST_NUMBERS], i: usize, v: u64) -> [u64; MOST_NUMBERS]
-    ensures { result ≡ set a i v }
-{
-    let mut b = a;
-    if i < MOST_NUMBERS {
-        b[i] = v;
-    }
-    b
-}
-
-fn set_place(a: [usize; 2 * MOST_PLACES], i: usize, v: usize) -> [usize; 2 * MOST_PLACES]
-    ensures { result ≡ set a i v }
-{
-    let mut b = a;
-    if i < 2 * MOST_PLACES {
-        b[i] = v;
-    }
-    b
 }
 
 // A message of which nothing but its kind is known.
@@ -99,66 +65,43 @@ pub fn begin(kind: u64) -> Message
 {
     Message {
         kind,
-        numbers: [0u64; MOST_NUMBERS],
+        numbers: [0; MOST_NUMBERS],
         count: 0,
-        places: [0usize; 2 * MOST_PLACES],
+        places: [0; 2 * MOST_PLACES],
         parts: 0,
     }
 }
 
-// What is no message.
-fn fail(reading: Reading) -> Answer
-    ensures { result ≡ failed reading }
-{
-    Answer {
-        reading,
-        message: begin(0),
+impl Message {
+    // One number more is said, or one item, list or map.
+    fn say_number(&mut self, v: u64)
+        requires { self.old.count < 3 }
+        ensures { self.new ≡ with_number self.old v }
+    {
+        self.numbers[self.count] = v;
+        self.count += 1;
     }
-}
 
-// The message so far with one number more, and with one item, list or map more.
-fn with_number(m: Message, v: u64) -> Message
-    requires { m.count < 3 }
-    ensures { result ≡ with_number m v }
-{
-    let old = m.numbers;
-    let numbers = set_number(old, m.count, v);
-    let places = m.places;
-    Message {
-        kind: m.kind,
-        numbers,
-        count: m.count + 1,
-        places,
-        parts: m.parts,
+    fn say_place(&mut self, start: usize, size: usize)
+        requires { self.old.parts < 3 }
+        ensures { self.new ≡ with_place self.old start size }
+    {
+        if self.parts < MOST_PLACES {
+            self.places[self.parts * 2] = start;
+            self.places[self.parts * 2 + 1] = size;
+        }
+        self.parts += 1;
     }
-}
 
-fn with_place(m: Message, start: usize, size: usize) -> Message
-    requires { m.parts < 3 }
-    ensures { result ≡ with_place m start size }
-{
-    let i = m.parts * 2;
-    let old = m.places;
-    let started = set_place(old, i, start);
-    let places = set_place(started, i + 1, size);
-    let numbers = m.numbers;
-    Message {
-        kind: m.kind,
-        numbers,
-        count: m.count,
-        places,
-        parts: m.parts + 1,
-    }
-}
-
-// The message so far with what a field says.
-fn with_part(m: Message, part: Part) -> Message
-    requires { (m.count < 3) × (m.parts < 3) }
-    ensures { result ≡ with_part m part }
-{
-    match part {
-        Part::Number(v) => with_number(m, v),
-        Part::Place(start, size) => with_place(m, start, size),
+    // What a field says is said.
+    fn say(&mut self, part: Part)
+        requires { (self.old.count < 3) × (self.old.parts < 3) }
+        ensures { self.new ≡ with_part self.old part }
+    {
+        match part {
+            Part::Number(v) => self.say_number(v),
+            Part::Place(start, size) => self.say_place(start, size),
+        }
     }
 }
 
@@ -167,7 +110,7 @@ fn with_part(m: Message, part: Part) -> Message
 fn fields(v: View<'_>, row: usize, kind: u64, first: usize, end: Option<usize>) -> Stop
     requires in_bounds { (row < form_count) × (first ≤ v.len) }
     requires by_index { (q : ℕ) → end ≡ Some q → ItemsAt (seen v) in_message (length (form_at row).fields) first q }
-    ensures { (result.answer ≡ fields_of (seen v.entry) (form_at row).fields 1 first (begun kind)) × Stopped (seen v.entry) (length (form_at row).fields) first result.left result.at }
+    ensures { (result.message ≡ fields_of (seen v.entry) (form_at row).fields 1 first (begun kind)) × Stopped (seen v.entry) (length (form_at row).fields) first result.left result.at }
 {
     let count = forms::fields(row);
     let mut message = begin(kind);
@@ -176,19 +119,16 @@ fn fields(v: View<'_>, row: usize, kind: u64, first: usize, end: Option<usize>) 
         let known = if i + 1 == count { end } else { None };
         let Some((part, q)) = elements::part_at(v, forms::field_at(row, i), at, known) else {
             return Stop {
-                answer: fail(Reading::WrongField(i as u64 + 1)),
+                message: Err(Unread::WrongField(i as u64 + 1)),
                 left: (count - i) as u64,
                 at,
             };
         };
-        message = with_part(message, part);
+        message.say(part);
         at = q;
     }
     Stop {
-        answer: Answer {
-            reading: Reading::Read,
-            message,
-        },
+        message: Ok(message),
         left: 0,
         at,
     }
@@ -226,7 +166,14 @@ fn has_count(v: View<'_>, x: Extent, count: u64, left: u64, at: usize) -> bool
 }
 
 // The fields of the form in a row, and whether the array has as many elements as it.
-fn filled(v: View<'_>, row: usize, x: Extent, first: usize, kind: u64, next: usize) -> Answer
+fn filled(
+    v: View<'_>,
+    row: usize,
+    x: Extent,
+    first: usize,
+    kind: u64,
+    next: usize,
+) -> Result<Message, Unread>
     requires in_bounds { row < form_count }
     requires begins { Begins (seen v) x first kind next }
     ensures { result ≡ counted (seen v.entry) (count_from (seen v.entry) x first) kind next (some (form_at row).fields) }
@@ -234,86 +181,31 @@ fn filled(v: View<'_>, row: usize, x: Extent, first: usize, kind: u64, next: usi
     let count = forms::fields(row) as u64 + 1;
     let stop = fields(v, row, kind, next, last_end(x, count, v.len));
     if has_count(v, x, count, stop.left, stop.at) {
-        return stop.answer;
+        stop.message
+    } else {
+        Err(Unread::WrongCount)
     }
-    fail(Reading::WrongCount)
 }
 
-// The form of the kind.
-fn formed(p: Protocol, v: View<'_>, x: Extent, first: usize, kind: u64, next: usize) -> Answer
-    requires begins { Begins (seen v) x first kind next }
-    ensures { result ≡ counted (seen v.entry) (count_from (seen v.entry) x first) kind next (form_of p kind) }
+// Reads the bytes of a view, which are exactly one item within the nesting.
+#[tactic(auto, unfolding(crate::specs::Reading::message_of, crate::specs::Reading::numbered_of))]
+pub fn read(p: Protocol, v: View<'_>) -> Result<Message, Unread>
+    requires { verdict (seen v) ≡ Ok v.len }
+    ensures { result ≡ message_of p (seen v.entry) }
 {
-    let form = forms::find(p, kind);
-    match form {
-        Listed::Row(row) => filled(v, row, x, first, kind, next),
-        Listed::Unknown => fail(Reading::UnknownKind),
-    }
+    let (x, first) = elements::opens_at(v, ARRAY, 0).ok_or(Unread::NotArray)?;
+    let (kind, next) = elements::unsigned_at(v, first).ok_or(Unread::NotArray)?;
+    let row = forms::find(p, kind).ok_or(Unread::UnknownKind)?;
+    filled(v, row, x, first, kind, next)
 }
 
-// The kind, which opens the array of this extent, its first element at a place.
-fn opened(p: Protocol, v: View<'_>, x: Extent, first: usize) -> Answer
-    requires whole { verdict (seen v) ≡ Ok v.len }
-    requires array_value { opens_at (seen v) array 0 ≡ Some (x, first) }
-    ensures { result ≡ numbered_of p (seen v.entry) (count_from (seen v.entry) x first) first }
-{
-    match elements::unsigned_at(v, first) {
-        Some((kind, next)) => formed(p, v, x, first, kind, next),
-        None => fail(Reading::NotArray),
-    }
-}
-
-// Reads the n bytes from the place `from` on of a slice seen as a ring, which are exactly one item within the nesting.
-pub fn read(p: Protocol, s: &[u8], from: usize, n: usize) -> Answer
-    requires { (from ≤ length s.now) × (n ≤ length s.now) × (verdict (around s.now from n) ≡ Ok n) }
-    ensures { result ≡ message_of p (around s.now from n) }
-{
-    let v = View {
-        bytes: s,
-        from,
-        len: n,
-    };
-    match elements::opens_at(v, ARRAY, 0) {
-        Some((x, first)) => opened(p, v, x, first),
-        None => fail(Reading::NotArray),
-    }
-}
-
-// Whether the bytes are a message.
-pub fn is_read(reading: Reading) -> bool
-    ensures { result ≡ is_read reading }
-{
-    match reading {
-        Reading::Read => true,
-        Reading::NotArray => false,
-        Reading::UnknownKind => false,
-        Reading::WrongCount => false,
-        Reading::WrongField(_) => false,
-    }
-}
-
-// The flag by which the rows tell RequestTxIds with true from RequestTxIds with false.
+// The flag by which the rows tell RequestTxIds, whose kind is 0, with true from RequestTxIds with false.
+#[tactic(auto, unfolding(crate::specs::Reading::flag_of))]
 pub fn flag(p: Protocol, m: Message) -> u64
     ensures { result ≡ flag_of p m }
 {
     match p {
-        Protocol::Handshake => 0,
-        Protocol::ChainSync => 0,
-        Protocol::BlockFetch => 0,
-        Protocol::TxSubmission => blocking(m),
-        Protocol::KeepAlive => 0,
-        Protocol::LocalTxSubmission => 0,
-        Protocol::LocalStateQuery => 0,
+        Protocol::TxSubmission if m.kind == 0 => m.numbers[0],
+        _ => 0,
     }
-}
-
-// The bool of RequestTxIds, whose kind is 0.
-fn blocking(m: Message) -> u64
-    ensures { result ≡ cond (eqb m.kind 0) (get_or m.numbers 0 0) 0 }
-{
-    let numbers = m.numbers;
-    if m.kind == 0 {
-        return numbers[0];
-    }
-    0
 }

@@ -53,14 +53,13 @@ returns-in_default c =
     let bs = seen a.v in
     let fs = (form_at a.row).fields in
     let z : l.i ≡ length fs - (count.result - l.i) = omega (arith, count.ensures.0) in (
-      c.fail.ensures
-          ∙ one_wrong bs fs l.i l.at l.message (omega (arith, count.ensures.0)) c.field_at.ensures c.part_at.ensures c.in_default.is
+      one_wrong bs fs l.i l.at l.message (omega (arith, count.ensures.0)) c.field_at.ensures c.part_at.ensures c.in_default.is
           ∙ l.invariant.gives,
       (omega (arith, count.ensures.0), subst (λ (k : ℕ). ItemsAt bs in_message k a.first l.at) z l.invariant.passed),
     )
 
-pub with_part-message-requires : goal.with_part-message-requires
-with_part-message-requires c =
+pub say-requires : goal.say-requires
+say-requires c =
     let l = c.loop-i in
     let few : l.i < 3 = omega (arith, c.fields-count.ensures.1) in
     (omega (arith, l.invariant.numbers), omega (arith, l.invariant.places))
@@ -72,7 +71,7 @@ loop-i-preserved c =
     let bs = seen a.v in
     let fs = (form_at a.row).fields in
     let q = c.in-Some.q in
-    let said = c.with_part-message.ensures in
+    let said = c.say.ensures in
     let few = with_count l.message c.in-Some.part l.i l.invariant.numbers l.invariant.places in
     let here = part_item bs c.field_at.result l.at c.part_at.ensures c.in-Some.is in
     let z : suc l.i ≡ l.i + 1 = omega arith in

@@ -30,13 +30,10 @@ returns-then-has_count c =
     (count_told bs a.x c.fields.ensures.0 s.requires.begins c.has_count.ensures stop.ensures.1)
     c.if-has_count.true stop.ensures.0
 
-pub returns : goal.returns
-returns c =
-    let s = c in
-    let a = s.args in
+pub returns-else-has_count : goal.returns-else-has_count
+returns-else-has_count c =
+    let a = c.args in
     let bs = seen a.v in
-    let stop = c.fields-stop in
-    c.fail.ensures
-    ∙ count_wrong bs (form_at a.row).fields (count_from bs a.x a.first) a.kind a.next
-    (count_told bs a.x c.fields.ensures.0 s.requires.begins c.has_count.ensures stop.ensures.1)
+    count_wrong bs (form_at a.row).fields (count_from bs a.x a.first) a.kind a.next
+    (count_told bs a.x c.fields.ensures.0 c.requires.begins c.has_count.ensures c.fields-stop.ensures.1)
     c.if-has_count.false
