@@ -18,8 +18,6 @@ use Rattle.head.specs.Write.{shortest}
 use Rattle.rows.specs.declared.Protocol.{Protocol}
 use Rattle.rows.specs.Spoken.{speaks}
 use Rattle.elements.specs.declared.Field.{Field}
-use Rattle.messages.specs.declared.forms.Listed.{Listed}
-use Rattle.messages.specs.declared.forms.Listed.TheVariants.{Row, Unknown}
 use Rattle.messages.specs.Inside.{form_at, Finds}
 use Rattle.elements.specs.Matching.{array}
 use Rattle.messages.proofs.FormLaws.{at_most}
@@ -114,15 +112,15 @@ module _ (p : Protocol) (kind : ℕ) (asked : Bool) (ns : List ℕ) (runs : ℕ)
   complete : (g : Given) → Holds g ns runs first second → all_given runs first second ≡ true
   complete g holds = let c = g.complete in rw (← holds.1, ← holds.2, ← holds.3) c
 
-  module _ (g : Given) (holds : Holds g ns runs first second) {w : Listed} (found : Finds p kind w) where
-    pub kind_unknown : w ≡ Unknown → message ≡ None
+  module _ (g : Given) (holds : Holds g ns runs first second) {w : Option ℕ} (found : Finds p kind w) where
+    pub kind_unknown : w ≡ None → message ≡ None
     unfolding bytes_of given encoded
     kind_unknown e = rw (complete g holds, subst (Finds p kind) e found)
 
-    pub kind_known : {row : ℕ} → w ≡ Row row → made_of asked g (form_at row).fields kind ≡ message
+    pub kind_known : {row : ℕ} → w ≡ Some row → made_of asked g (form_at row).fields kind ≡ message
     unfolding bytes_of given encoded
     kind_known {row} e =
-        let row-found : Finds p kind (Row row) = subst (Finds p kind) e found in
+        let row-found : Finds p kind (Some row) = subst (Finds p kind) e found in
         rw (holds.0, holds.1, holds.2, holds.3)
         (sym
         (rw (complete g holds, row-found.1)

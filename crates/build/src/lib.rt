@@ -10,7 +10,6 @@ ghost use Rattle.build.specs.Building.{told, bytes_of, handed, build_of};
 ghost use Rattle.build.specs.Inside.{number_of, answer, made_of};
 
 use layout::message::Message;
-use messages::forms::Listed;
 use parts::given::Given;
 use rows::Protocol;
 
@@ -86,8 +85,8 @@ fn build_kind(
 {
     let given = Given::of(numbers, runs, first, second).ok_or(Refusal::NoMessage)?;
     match messages::forms::find(p, kind) {
-        Listed::Row(row) => build_form(row, kind, asked, given, buf),
-        Listed::Unknown => Err(Refusal::NoMessage),
+        Some(row) => build_form(row, kind, asked, given, buf),
+        None => Err(Refusal::NoMessage),
     }
 }
 

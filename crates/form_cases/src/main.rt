@@ -18,8 +18,9 @@ ghost use Rattle.std.specs.Prelude.{◌≤◌, length};
 
 use calls::{Kind, Row, WORDS};
 use input::Stop;
-use messages::{MOST_PLACES, Message, Reading};
+use messages::{MOST_PLACES, Message, Unread};
 use output::{WriteFailed, Writer};
+use ring::view::View;
 use rows::Protocol;
 use script::Word;
 use std::io::Stdout;
@@ -139,13 +140,17 @@ fn show(out: &mut Writer, p: Protocol, bytes: &[u8], from: usize) -> Result<(), 
     if cbor::measure(bytes, from, n) != Ok(n) {
         return out.words(b"15 one");
     }
-    let a = messages::read(p, bytes, from, n);
-    match a.reading {
-        Reading::Read => print(out, a.message),
-        Reading::NotArray => out.words(b"15 array"),
-        Reading::UnknownKind => out.words(b"15 kind"),
-        Reading::WrongCount => out.words(b"15 count"),
-        Reading::WrongField(i) => {
+    let view = View {
+        bytes,
+        from,
+        len: n,
+    };
+    match messages::read(p, view) {
+        Ok(message) => print(out, message),
+        Err(Unread::NotArray) => out.words(b"15 array"),
+        Err(Unread::UnknownKind) => out.words(b"15 kind"),
+        Err(Unread::WrongCount) => out.words(b"15 count"),
+        Err(Unread::WrongField(i)) => {
             out.words(b"15 field")?;
             out.number(i)
         }

@@ -50,7 +50,7 @@ module _ (v : View) where
   unheard_so (waiting w e o) = awaited_so w (Err Incomplete) e ∙ rw o
   unheard_so (closed w e o) = awaited_so w (Err Incomplete) e ∙ rw o
   unheard_so (are_bad {at = at} w e) = awaited_so w (Err (Bad at)) e
-  unheard_so (not_a_message {n = n} {r = r} w e q none) = judged_as w n e (judging.not_read r q none)
+  unheard_so (not_a_message {n = n} {why = r} w e q none) = judged_as w n e (judging.not_read r q none)
   unheard_so (no_row {n = n} {m = m} w e s x) = judged_as w n e (judging.not_led m s x)
 
   -- the first n bytes are n, if they are an item

@@ -8,7 +8,7 @@ use native.Mathlib.Omega.{arith}
 use lib.Dec.{eqb}
 use lib.ListN.{length, take}
 use lib.Seq.{take-take, length-take-le}
-use Rattle.std.specs.Prelude.{Ok}
+use Rattle.std.specs.Prelude.{Ok, Result, Err}
 use Rattle.ring.specs.Inside.{around}
 use Rattle.ring.proofs.Around.{around_length, around_take}
 use Rattle.wire.specs.declared.instances.Party.{Party}
@@ -21,10 +21,9 @@ use Rattle.std.specs.Prelude.{Option, Some, None}
 use Rattle.rows.specs.Rows.{next_of, agency_of}
 use Rattle.rows.specs.Spoken.{speaks}
 use Rattle.messages.specs.declared.Message.{Message}
-use Rattle.messages.specs.declared.Answer.{Answer}
-use Rattle.messages.specs.declared.Reading.{Reading}
-use Rattle.messages.specs.declared.Reading.TheVariants.{Read, NotArray, UnknownKind, WrongCount, WrongField}
-use Rattle.messages.specs.Reading.{message_of, is_read, read, flag_of, wholly}
+use Rattle.messages.specs.declared.Unread.{Unread}
+use Rattle.messages.specs.declared.Unread.TheVariants.{NotArray}
+use Rattle.messages.specs.Reading.{message_of, read, flag_of, wholly}
 use Rattle.messages.specs.Besides.Theorem.{Says}
 use Rattle.messages.proofs.Theorem.{reads_forms}
 use Rattle.judging.specs.declared.Outcome.TheVariants.{NoMessage, NoRow}
@@ -64,15 +63,15 @@ whole_alone xs from n m l e =
 
 module _ (p : Protocol) (state : ℕ) (bs : List ℕ) where
   -- no message
-  pub judged_wrong : (a : Answer) → a ≡ message_of p bs → is_read a.reading ≡ false → unjudged (NoMessage a.reading) ≡ judged_of p state bs
+  pub judged_wrong : (why : Unread) → Err why ≡ message_of p bs → unjudged (NoMessage why) ≡ judged_of p state bs
   unfolding judged_of
-  judged_wrong a e h = rw (← e, h)
+  judged_wrong why e = rw (← e)
 
   -- a message, with its row or without
-  pub judged_read : (a : Answer) (n f : ℕ) (next : Option ℕ) → a ≡ message_of p bs → is_read a.reading ≡ true → n ≡ length bs → f ≡ flag_of p a.message
-      → next ≡ next_of p state a.message.kind f → by_row n a.message next ≡ judged_of p state bs
+  pub judged_read : (m : Message) (n f : ℕ) (next : Option ℕ) → Ok m ≡ message_of p bs → n ≡ length bs → f ≡ flag_of p m
+      → next ≡ next_of p state m.kind f → by_row n m next ≡ judged_of p state bs
   unfolding judged_of
-  judged_read a n f next e h l g q = rw (← e, h, ← g, ← q, ← l)
+  judged_read m n f next e l g q = rw (← e, ← g, ← q, ← l)
 
   -- not exactly one item
   pub judged_not_one : wholly (verdict bs) (length bs) ≡ false → unjudged (NoMessage NotArray) ≡ judged_of p state bs
@@ -83,44 +82,43 @@ module _ (p : Protocol) (state : ℕ) (bs : List ℕ) where
 
   -- no message, and why; one without a row; or a message, and where its row leads
   pub data Judges : Judged → Type 0 where
-    not_read : (r : Reading) → (message_of p bs).reading ≡ r → ((m : Message) → Says p bs m → ⊥) → Judges (unjudged (NoMessage r))
+    not_read : (why : Unread) → message_of p bs ≡ Err why → ((m : Message) → Says p bs m → ⊥) → Judges (unjudged (NoMessage why))
     not_led : (m : Message) → Says p bs m → next_of p state m.kind (flag_of p m) ≡ None → Judges (unjudged NoRow)
     message : (m : Message) (to : ℕ) → Says p bs m → next_of p state m.kind (flag_of p m) ≡ Some to → Judges (led (length bs) m to)
 
   -- bytes that were not read say nothing
-  unread : {r : Reading} → (message_of p bs).reading ≡ r → is_read r ≡ false → (m : Message) → Says p bs m → ⊥
-  unread e z m s = true≢false (sym (ap (λ (x : Answer). is_read x.reading) ((reads_forms p bs m).1 s)) ∙ ap is_read e ∙ z)
+  unread : {why : Unread} → message_of p bs ≡ Err why → (m : Message) → Says p bs m → ⊥
+  unread {why} e m s =
+      let z : ◌≡◌ {A = Result Message Unread} (Err why) (Ok m) = sym e ∙ (reads_forms p bs m).1 s in
+      let y : ◌≡◌ {A = ℕ} 0 1 = cc in
+      omega arith
 
   pub judges : Judges (judged_of p state bs)
   unfolding judged_of
-  judges = of (message_of p bs).reading (message_of p bs).message refl
+  judges = of (message_of p bs) refl
     where
       row : (m : Message) (x : Option ℕ) → Says p bs m → next_of p state m.kind (flag_of p m) ≡ x → Judges (by_row (length bs) m x)
       row m (Some to) s q = message m to s q
       row m None s q = not_led m s q
 
-      none : (r : Reading) (m : Message) → message_of p bs ≡ record { reading = r; message = m } → is_read r ≡ false → Judges (unjudged (NoMessage r))
-      none r m e z = let q = ap (λ (x : Answer). x.reading) e in not_read r q (unread q z)
-
-      of : (r : Reading) (m : Message) → message_of p bs ≡ record { reading = r; message = m }
-          → Judges (by_reading p state (length bs) (record { reading = r; message = m }))
-      of Read m e = row m (next_of p state m.kind (flag_of p m)) ((reads_forms p bs m).0 e) refl
-      of NotArray m e = none NotArray m e refl
-      of UnknownKind m e = none UnknownKind m e refl
-      of WrongCount m e = none WrongCount m e refl
-      of (WrongField i) m e = none (WrongField i) m e refl
+      of : (r : Result Message Unread) → message_of p bs ≡ r → Judges (by_reading p state (length bs) r)
+      of (Ok m) e = row m (next_of p state m.kind (flag_of p m)) ((reads_forms p bs m).0 e) refl
+      of (Err why) e = not_read why e (unread e)
 
   -- and each of them exactly then
   by_row_lem : (m : Message) (x : Option ℕ) → Says p bs m → next_of p state m.kind (flag_of p m) ≡ x → judged_of p state bs ≡ by_row (length bs) m x
   by_row_lem m x s q =
-      sym (judged_read (read m) (length bs) (flag_of p m) x (sym ((reads_forms p bs m).1 s)) refl refl refl (sym q))
+      sym (judged_read m (length bs) (flag_of p m) x (sym ((reads_forms p bs m).1 s)) refl refl (sym q))
 
   pub judged_so : {j : Judged} → Judges j → judged_of p state bs ≡ j
   judged_so (not_led m s q) = by_row_lem m None s q
   judged_so (message m to s q) = by_row_lem m (Some to) s q
-  judged_so (not_read r e none) = of judges
+  judged_so (not_read why e none) = of judges
     where
-      of : {j : Judged} → Judges j → j ≡ unjudged (NoMessage r)
-      of (not_read q f n) = ap (λ (x : Reading). unjudged (NoMessage x)) (sym f ∙ e)
+      of : {j : Judged} → Judges j → j ≡ unjudged (NoMessage why)
+      of (not_read q f n) =
+          let z : ◌≡◌ {A = Result Message Unread} (Err q) (Err why) = sym f ∙ e in
+          let y : q ≡ why = cc in
+          ap (λ (x : Unread). unjudged (NoMessage x)) y
       of (not_led m s q) = absurd (none m s)
       of (message m to s q) = absurd (none m s)

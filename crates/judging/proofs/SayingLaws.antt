@@ -27,7 +27,7 @@ module _ (v : View) where
   unsaid_so (closed o) = rw o
   unsaid_so (no_accept o b) = rw (o, b)
   unsaid_so (not_our_turn o b u) = rw (o, b, u)
-  unsaid_so (not_a_message {r = r} t e none) = judged_as t (judging.not_read r e none)
+  unsaid_so (not_a_message {why = r} t e none) = judged_as t (judging.not_read r e none)
   unsaid_so (no_row {m = m} t s x) = judged_as t (judging.not_led m s x)
 
   said_so : {j : Judged} → Utters v j → said v ≡ j

@@ -1,6 +1,6 @@
 -- What look, drop and put ask, of one instance (document 01, "Messages and transitions" and "Numbers and their order", where look and drop are take;
 -- document 02, K1, K3 and K4). They apply it to the view that the record gives of the instance.
-use Rattle.std.specs.Prelude.{ℕ, Bool, false, cond, not, ◌&&◌, ◌||◌, List, eqb, length, get_or, set, take, Ok, Err}
+use Rattle.std.specs.Prelude.{ℕ, Bool, false, cond, not, ◌&&◌, ◌||◌, List, eqb, length, get_or, set, take, Ok, Err, Result}
 use Rattle.wire.specs.declared.instances.Party.{Party}
 use Rattle.wire.specs.Instances.{handshake, role_of, initiates}
 use Rattle.item.specs.declared.NotWhole.TheVariants.{Bad, Incomplete}
@@ -12,9 +12,9 @@ use Rattle.std.specs.Prelude.{Option, Some, None}
 use Rattle.rows.specs.Rows.{next_of, agency_of, done_of}
 use Rattle.rows.specs.Spoken.{speaks}
 use Rattle.messages.specs.declared.Message.{Message}
-use Rattle.messages.specs.declared.Answer.{Answer}
+use Rattle.messages.specs.declared.Unread.{Unread}
 use Rattle.messages.specs.Matching.{begun}
-use Rattle.messages.specs.Reading.{message_of, is_read, flag_of}
+use Rattle.messages.specs.Reading.{message_of, flag_of}
 use Rattle.connection.specs.declared.Talk.{Talk}
 use Rattle.connection.specs.declared.Connection.{Connection}
 use Rattle.connection.specs.Closings.{is_open, bytes_bad, no_message, no_row, after_done}
@@ -123,11 +123,10 @@ abbrev pub by_row : ℕ → Message → Option ℕ → Judged
 by_row n m (Some next) = led n m next
 by_row n m None = unjudged NoRow
 
--- what was read, by its reading
-abbrev pub by_reading : Protocol → ℕ → ℕ → Answer → Judged
-by_reading p state n a =
-    cond (is_read a.reading) (by_row n a.message (next_of p state a.message.kind (flag_of p a.message)))
-    (unjudged (NoMessage a.reading))
+-- what was read, or why nothing was
+abbrev pub by_reading : Protocol → ℕ → ℕ → Result Message Unread → Judged
+by_reading p state n (Ok m) = by_row n m (next_of p state m.kind (flag_of p m))
+by_reading p state n (Err why) = unjudged (NoMessage why)
 
 -- what bytes are in a state of the protocol: no message; one without a row; or the message that they are, and where it leads
 unfoldable pub judged_of : Protocol → ℕ → List ℕ → Judged

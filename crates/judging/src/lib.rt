@@ -15,7 +15,8 @@ ghost use Rattle.judging.specs.Judging.{outcome_number, outcome_offset, holds, u
 
 use connection::closings::{AFTER_DONE, BYTES_BAD, NO_MESSAGE, NO_ROW};
 use item::NotWhole;
-use messages::{Message, Reading};
+use messages::{Message, Unread};
+use ring::view::View;
 use rows::{Agency, Protocol};
 use wire::instances::{HANDSHAKE, Party};
 
@@ -33,7 +34,7 @@ pub enum Outcome {
     // at this place, counted from the first byte, is the first after which no item is possible
     BytesBad(usize),
     // no message of the protocol, and why; of put's bytes also such as are not exactly one item
-    NoMessage(Reading),
+    NoMessage(Unread),
     // a message that has no row in the present state
     NoRow,
     // the protocol has ended, and bytes are held
@@ -181,14 +182,18 @@ fn judge(p: Protocol, state: u64, s: &[u8], from: usize, n: usize) -> Judged
     requires { (from ≤ length s.now) × (n ≤ length s.now) × (verdict (around s.now from n) ≡ Ok n) }
     ensures { result ≡ judged_of p state (around s.now from n) }
 {
-    let answer = messages::read(p, s, from, n);
-    let reading = answer.reading;
-    let message = answer.message;
-    if !messages::is_read(reading) {
-        return unjudged(Outcome::NoMessage(reading));
+    let v = View {
+        bytes: s,
+        from,
+        len: n,
+    };
+    match messages::read(p, v) {
+        Ok(message) => {
+            let next = rows::find(p, state, message.kind, messages::flag(p, message));
+            by_row(n, message, next)
+        }
+        Err(why) => unjudged(Outcome::NoMessage(why)),
     }
-    let next = rows::find(p, state, message.kind, messages::flag(p, message));
-    by_row(n, message, next)
 }
 
 // An item that is not whole yet will not be, once the connection is closed.
@@ -255,9 +260,9 @@ pub fn heard(
 
 // Bytes that are not exactly one item are no message.
 fn no_message() -> Judged
-    ensures { result ≡ unjudged (Outcome.NoMessage Reading.NotArray) }
+    ensures { result ≡ unjudged (Outcome.NoMessage Unread.NotArray) }
 {
-    unjudged(Outcome::NoMessage(Reading::NotArray))
+    unjudged(Outcome::NoMessage(Unread::NotArray))
 }
 
 // The slice, whose first n bytes are an item.

@@ -31,7 +31,7 @@ use Rattle.rows.specs.Rows.{place_in, next_in, agency_in}
 use Rattle.rows.specs.Spoken.{speaks}
 use Rattle.messages.specs.Forms.{form_in}
 use Rattle.elements.specs.Reading.{unsigned_at, opens_at, item_end, key_at, version_at, element_at, walk, part_of}
-use Rattle.messages.specs.Reading.{fields_of, numbered_of, message_of, flag_of}
+use Rattle.messages.specs.Reading.{said_in, fields_of, numbered_of, message_of, flag_of}
 use Rattle.build.specs.Made as build
 use Rattle.build.specs.Building.{given, bytes_of, build_of}
 use Rattle.ready.specs.Ready.{word_of, count_of, lowest_from, seek}
@@ -194,7 +194,7 @@ facts b =
       barred = barred view;
       done = at_done view;
       ours = ours_now view;
-      row = leads_to view (message_of (speaks b 1) message).message;
+      row = leads_to view (said_in (message_of (speaks b 1) message));
       built = r.answer.number;
       front = lists.take r.answer.len r.buffer;
       waits = waits w 1;

@@ -12,7 +12,7 @@ use lib.Dec.{eqb, leb, ltb}
 use lib.ListN as lists
 use lib.ListN.{length, get_or}
 use lib.Seq.{drop_at}
-use Rattle.std.specs.Prelude.{Ok, Err}
+use Rattle.std.specs.Prelude.{Result, Ok, Err}
 use Rattle.base.proofs.Conds.{by_test, cond_cases}
 use Rattle.ring.specs.Ring.{base_of}
 use Rattle.wire.specs.declared.instances.Party.{Party}
@@ -24,7 +24,8 @@ use Rattle.item.specs.Verdict.{verdict, Verdict}
 use Rattle.rows.specs.declared.Protocol.{Protocol}
 use Rattle.std.specs.Prelude.{Option}
 use Rattle.rows.specs.Spoken.{speaks}
-use Rattle.messages.specs.declared.Answer as messages
+use Rattle.messages.specs.declared.Message.{Message}
+use Rattle.messages.specs.declared.Unread.{Unread}
 use Rattle.connection.specs.declared.Settings.{Settings}
 use Rattle.connection.specs.declared.Connection.{Connection}
 use Rattle.connection.specs.declared.Gate.{Gate}
@@ -205,7 +206,7 @@ module _ (w : World) (i : ℕ) where
 
 led_is : {us : Party} {i state to : ℕ} {a : Act} → Moves us i state a to → (by_reading (speaks us.bundle i) state 0 (read_in (speaks us.bundle i) a)).next ≡ to
 led_is {us} {i} {state} k =
-    ap (λ (x : messages.Answer). (by_reading (speaks us.bundle i) state 0 x).next) k.reads ∙ ap (λ (x : Option ℕ). (by_row 0 k.message x).next) k.row
+    ap (λ (x : Result Message Unread). (by_reading (speaks us.bundle i) state 0 x).next) k.reads ∙ ap (λ (x : Option ℕ). (by_row 0 k.message x).next) k.row
 
 state_is : {us : Party} {i from to : ℕ} {done : List Act} → Walks us i from done to → to ≡ state_after us i from done
 unfolding state_after

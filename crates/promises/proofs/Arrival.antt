@@ -18,7 +18,7 @@ use Rattle.wire.specs.Besides.Instances.{other_of, pair_of}
 use Rattle.wire.proofs.InstanceLaws.{of_instances, one_way}
 use Rattle.rows.specs.declared.Protocol.{Protocol}
 use Rattle.rows.specs.Spoken.{spoken, speaks}
-use Rattle.messages.specs.Reading.{message_of}
+use Rattle.messages.specs.Reading.{message_of, said_in}
 use Rattle.judging.specs.Besides.Judging.{leads_to}
 use Rattle.hearing.specs.Hearing.{seen}
 use Rattle.promises.specs.Effects.{gave, acts, segments}
@@ -115,5 +115,5 @@ journey a b way i p bs d =
           sym (take-append-le (length bs) held rest (omega (arith, d.come))) ∙ ap (take (length bs)) (sym same) ∙ take_at bs more (length bs) refl;
       next = d.next;
       row =
-          ap (λ (q : Protocol). leads_to (seen (world_of b).connection (world_of b).receive (pair_of bundle i)) (message_of q bs).message) speaks-so ∙ d.row;
+          ap (λ (q : Protocol). leads_to (seen (world_of b).connection (world_of b).receive (pair_of bundle i)) (said_in (message_of q bs))) speaks-so ∙ d.row;
     })

@@ -9,7 +9,7 @@ use native.Mathlib.Omega.{arith}
 use native.Mathlib.Numerals.{add-one}
 use lib.ListN.{length, get_or, set, take, length-set, length-take}
 use lib.Seq.{sets, take-suc-set, get_or-set_same, get_or-set_other}
-use Rattle.std.specs.Prelude.{Ok}
+use Rattle.std.specs.Prelude.{Result, Ok}
 use Rattle.ring.specs.Ring as ring
 use Rattle.item.specs.Grammar.{Item, nesting}
 use Rattle.item.proofs.Theorem.{exactly}
@@ -17,12 +17,12 @@ use Rattle.rows.specs.declared.Protocol.{Protocol}
 use Rattle.std.specs.Prelude.{Some}
 use Rattle.rows.specs.Spoken.{speaks}
 use Rattle.messages.specs.declared.Message.{Message}
-use Rattle.messages.specs.declared.Answer.{Answer}
+use Rattle.messages.specs.declared.Unread.{Unread}
 use Rattle.elements.specs.declared.Field.{Field}
 use Rattle.elements.specs.Besides.Matching.{Value, number, place}
 use Rattle.messages.specs.Besides.Matching.{FieldsAt, no_field, a_field, Matches, said_all, message_from}
 use Rattle.messages.specs.Matching.{begun, with_number, with_place}
-use Rattle.messages.specs.Reading.{message_of, read}
+use Rattle.messages.specs.Reading.{message_of, read, said_in}
 use Rattle.messages.specs.Besides.Theorem.{Says}
 use Rattle.messages.proofs.Theorem.{reads_forms, message_is_item}
 use Rattle.build.specs.Besides.Theorem.{numbers_of, runs_of}
@@ -202,7 +202,7 @@ built_arrives bundle i p bs b w j same k =
     let says : Says q bs (message_from p.kind xs) = (p.kind, xs, m, refl) in
     let reads : message_of q bs ≡ read (message_from p.kind xs) = (reads_forms q bs (message_from p.kind xs)).1 says in
     let q-item : Item nesting bs = message_is_item q bs p.kind xs m in
-    let row = ap (λ (a : Answer). leads_to (seen w.connection w.receive j) a.message) (sym reads) ∙ k.row in
+    let row = ap (λ (r : Result Message Unread). leads_to (seen w.connection w.receive j) (said_in r)) (sym reads) ∙ k.row in
     let said : Message = message_from p.kind xs in
     record {
       message = said;

@@ -18,7 +18,7 @@ use Rattle.rows.specs.declared.Protocol.TheVariants.{Handshake}
 use Rattle.rows.specs.Rows.{done_of}
 use Rattle.rows.specs.Spoken.{speaks}
 use Rattle.messages.specs.declared.Message.{Message}
-use Rattle.messages.specs.Reading.{read, flag_of}
+use Rattle.messages.specs.Reading.{read, said_in, flag_of}
 use Rattle.connection.specs.declared.Settings.{Settings}
 use Rattle.range.proofs.RangeLaws.{ranged}
 use Rattle.judging.proofs.Moving.{leads_low, first_speaks}
@@ -37,7 +37,7 @@ walk-next : {us : Party} {i from state to : ℕ} {before : List Act} {a : Act} �
 walk-next rests k = moves k rests
 walk-next (moves j more) k = moves j (walk-next more k)
 
-ends_next : (before : List Act) (a : Act) → ends_in_accept (before ++ (a ∷ [])) ≡ eqb (read_in Handshake a).message.kind 1
+ends_next : (before : List Act) (a : Act) → ends_in_accept (before ++ (a ∷ [])) ≡ eqb (said_in (read_in Handshake a)).kind 1
 unfolding ends_in_accept
 ends_next [] a = refl
 ends_next (b ∷ []) a = refl

@@ -1,9 +1,9 @@
 -- What a call did, read off the call and its answer; and what calls did, one after the other.
-use Rattle.std.specs.Prelude.{ℕ, cond, eqb, take}
+use Rattle.std.specs.Prelude.{ℕ, cond, eqb, take, Result}
 use mathlib.Core.List.{List, [], ◌∷◌, flat_map}
 use Rattle.rows.specs.declared.Protocol.{Protocol}
 use Rattle.messages.specs.declared.Message.{Message}
-use Rattle.messages.specs.declared.Answer as messages
+use Rattle.messages.specs.declared.Unread.{Unread}
 use Rattle.messages.specs.Reading.{message_of, read}
 use Rattle.connection.specs.Closings.{heard_fault}
 use Rattle.promises.specs.Calls as calls
@@ -15,7 +15,7 @@ pub data Act : Type 0 where
   got : (len : ℕ) (message : Message) → Act
 
 -- what is read of its message: of a put's bytes, and as a drop answered
-abbrev pub read_in : Protocol → Act → messages.Answer
+abbrev pub read_in : Protocol → Act → Result Message Unread
 read_in p (gave xs) = message_of p xs
 read_in p (got len m) = read m
 

@@ -17,7 +17,7 @@ use Rattle.rows.specs.declared.Protocol.TheVariants.{Handshake}
 use Rattle.rows.specs.Rows.{next_of, agency_of}
 use Rattle.rows.specs.Spoken.{speaks}
 use Rattle.messages.specs.declared.Message.{Message}
-use Rattle.messages.specs.Reading.{message_of, read, flag_of}
+use Rattle.messages.specs.Reading.{message_of, read, said_in, flag_of}
 use Rattle.connection.specs.declared.Settings.{Settings}
 use Rattle.telling.specs.declared.Report.{Report}
 use Rattle.connection.specs.Closings.{closing_of}
@@ -156,7 +156,7 @@ pub data Walks (us : Party) (i : ℕ) : ℕ → List Act → ℕ → Type 0 wher
 -- the last act is message 1
 unfoldable pub ends_in_accept : List Act → Bool
 ends_in_accept [] = false
-ends_in_accept (a ∷ []) = eqb (read_in Handshake a).message.kind 1
+ends_in_accept (a ∷ []) = eqb (said_in (read_in Handshake a)).kind 1
 ends_in_accept (a ∷ b ∷ more) = ends_in_accept (b ∷ more)
 
 -- The state of each instance is where its own accepted puts and its drops lead from the first state, and Accept is marked exactly if Handshake ended in it.

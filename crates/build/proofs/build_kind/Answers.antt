@@ -13,16 +13,16 @@ returns-in_err-given c =
       kind_not_given a.p a.kind a.asked a.numbers.now a.runs a.first.now a.second.now (let e = none.ok_part in rw e at c.of.ensures),
     )
 
-pub returns-in-Row : goal.returns-in-Row
-returns-in-Row c =
+pub returns-in-Some : goal.returns-in-Some
+returns-in-Some c =
     let a = c.args in
     let e = c.in_ok-given.ensures.ok_part in
     c.build_form.ensures
     ∙ ap (handed a.buf.now)
-    (kind_known a.p a.kind a.asked a.numbers.now a.runs a.first.now a.second.now c.in_ok-given.given (rw e at c.of.ensures) c.find.ensures c.in-Row.is)
+    (kind_known a.p a.kind a.asked a.numbers.now a.runs a.first.now a.second.now c.in_ok-given.given (rw e at c.of.ensures) c.find.ensures c.in-Some.is)
 
-pub returns-in-Unknown : goal.returns-in-Unknown
-returns-in-Unknown c =
+pub returns-in-None : goal.returns-in-None
+returns-in-None c =
     let a = c.args in
     let e = c.in_ok-given.ensures.ok_part in
-    rw (kind_unknown a.p a.kind a.asked a.numbers.now a.runs a.first.now a.second.now c.in_ok-given.given (rw e at c.of.ensures) c.find.ensures c.in-Unknown.is)
+    rw (kind_unknown a.p a.kind a.asked a.numbers.now a.runs a.first.now a.second.now c.in_ok-given.given (rw e at c.of.ensures) c.find.ensures c.in-None.is)

@@ -5,7 +5,7 @@ use Rattle.item.specs.Verdict.{verdict}
 use Rattle.std.specs.Prelude.{Some, None}
 use Rattle.rows.specs.Rows.{done_of}
 use Rattle.messages.specs.declared.Message.{Message}
-use Rattle.messages.specs.declared.Reading.{Reading}
+use Rattle.messages.specs.declared.Unread.{Unread}
 use Rattle.messages.specs.Reading.{message_of}
 use Rattle.messages.specs.Besides.Theorem.{Says}
 use Rattle.judging.specs.declared.Outcome.{Outcome}
@@ -39,8 +39,8 @@ pub data Unheard (v : View) : Outcome → Type 0 where
   waiting : Awaited v → verdict v.bytes ≡ Err Incomplete → v.closed ≡ false → Unheard v Waiting
   closed : Awaited v → verdict v.bytes ≡ Err Incomplete → v.closed ≡ true → Unheard v Closed
   are_bad : {at : ℕ} → Awaited v → verdict v.bytes ≡ Err (Bad at) → Unheard v (BytesBad at)
-  not_a_message : {n : ℕ} {r : Reading} → Awaited v → verdict v.bytes ≡ Ok n → (message_of (spoken v) (take n v.bytes)).reading ≡ r
-      → ((m : Message) → Says (spoken v) (take n v.bytes) m → ⊥) → Unheard v (NoMessage r)
+  not_a_message : {n : ℕ} {why : Unread} → Awaited v → verdict v.bytes ≡ Ok n → message_of (spoken v) (take n v.bytes) ≡ Err why
+      → ((m : Message) → Says (spoken v) (take n v.bytes) m → ⊥) → Unheard v (NoMessage why)
   no_row : {n : ℕ} {m : Message} → Awaited v → verdict v.bytes ≡ Ok n → Says (spoken v) (take n v.bytes) m → leads_to v m ≡ None → Unheard v NoRow
 
 -- a refusal or notice, or a message

@@ -1,8 +1,8 @@
 -- T2 for what put asks of a view: which outcome is told, exactly when (document 01, "Numbers and their order").
-use Rattle.std.specs.Prelude.{ℕ, ◌≡◌, true, false, ◌↔◌, length}
+use Rattle.std.specs.Prelude.{ℕ, ◌≡◌, true, false, ◌↔◌, length, Err}
 use Rattle.std.specs.Prelude.{Some, None}
 use Rattle.messages.specs.declared.Message.{Message}
-use Rattle.messages.specs.declared.Reading.{Reading}
+use Rattle.messages.specs.declared.Unread.{Unread}
 use Rattle.messages.specs.Reading.{message_of}
 use Rattle.messages.specs.Besides.Theorem.{Says}
 use Rattle.judging.specs.declared.Outcome.{Outcome}
@@ -30,8 +30,8 @@ pub data Unsaid (v : View) : Outcome → Type 0 where
   no_accept : v.closed ≡ false → barred v ≡ true → Unsaid v NoAccept
   -- not our agency, or Done
   not_our_turn : v.closed ≡ false → barred v ≡ false → ours_now v ≡ false → Unsaid v NotOurTurn
-  not_a_message : {r : Reading} → OurTurn v → (message_of (spoken v) v.bytes).reading ≡ r → ((m : Message) → Says (spoken v) v.bytes m → ⊥)
-      → Unsaid v (NoMessage r)
+  not_a_message : {why : Unread} → OurTurn v → message_of (spoken v) v.bytes ≡ Err why → ((m : Message) → Says (spoken v) v.bytes m → ⊥)
+      → Unsaid v (NoMessage why)
   no_row : {m : Message} → OurTurn v → Says (spoken v) v.bytes m → leads_to v m ≡ None → Unsaid v NoRow
 
 -- a refusal, or a message

@@ -7,7 +7,7 @@ use Rattle.wire.specs.Besides.Instances.{other_of, pair_of}
 use Rattle.std.specs.Prelude.{Some}
 use Rattle.rows.specs.Spoken.{speaks}
 use Rattle.messages.specs.declared.Message.{Message}
-use Rattle.messages.specs.Reading.{message_of}
+use Rattle.messages.specs.Reading.{message_of, said_in}
 use Rattle.build.specs.Building.{Told, given, build_of}
 use Rattle.connection.specs.declared.Settings.{Settings}
 use Rattle.range.specs.Besides.Ranges.{InReceive}
@@ -105,7 +105,7 @@ pub record Awaits (w : World) (i : ℕ) (bs : List ℕ) : Type 0 where
   pub awaited : Awaited (seen w.connection w.receive i)
   pub held : take (length bs) (holding w i) ≡ bs
   pub next : ℕ
-  pub row : leads_to (seen w.connection w.receive i) (message_of (speaks w.connection.settings.party.bundle i) bs).message ≡ Some next
+  pub row : leads_to (seen w.connection w.receive i) (said_in (message_of (speaks w.connection.settings.party.bundle i) bs)) ≡ Some next
 
 -- the numbers that a message says, and the bytes at its places, of which each is a start and a length
 abbrev pub numbers_in : Message → List ℕ
@@ -161,7 +161,7 @@ pub record Due (a b : End) (way : List ℕ) (i : ℕ) (p : Parts) (bs : List ℕ
   pub asked : InReceive (world_of b).connection (world_of b).receive (facing a i)
   pub awaited : Awaited (seen (world_of b).connection (world_of b).receive (facing a i))
   pub next : ℕ
-  pub row : leads_to (seen (world_of b).connection (world_of b).receive (facing a i)) (message_of (speaks a.settings.party.bundle i) bs).message ≡ Some next
+  pub row : leads_to (seen (world_of b).connection (world_of b).receive (facing a i)) (said_in (message_of (speaks a.settings.party.bundle i) bs)) ≡ Some next
 
 -- then this is what look shows and drop frees
 abbrev pub Journey : Type 0

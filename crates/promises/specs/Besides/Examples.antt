@@ -1,5 +1,5 @@
 -- P1 to P12 (document 01, "Checked examples"): one table, and what each of its entries says.
-use Rattle.std.specs.Prelude.{ℕ, zero, suc, ◌*◌, ◌≡◌, false, cond, List, [], ◌∷◌, ◌++◌, eqb, take, drop, replicate, set, Ok, Err}
+use Rattle.std.specs.Prelude.{ℕ, zero, suc, ◌*◌, ◌≡◌, false, cond, List, [], ◌∷◌, ◌++◌, eqb, take, drop, replicate, set, Ok, Err, is_ok}
 use Rattle.wire.specs.declared.segment.Segment.{Segment}
 use Rattle.wire.specs.declared.instances.Side.{Side}
 use Rattle.wire.specs.declared.instances.Side.TheVariants.{Dialler, Accepter}
@@ -12,7 +12,7 @@ use Rattle.rows.specs.declared.Protocol.{Protocol}
 use Rattle.rows.specs.declared.Protocol.TheVariants.{ChainSync, KeepAlive}
 use Rattle.rows.specs.Spoken.{speaks}
 use Rattle.messages.specs.declared.Message.{Message}
-use Rattle.messages.specs.Reading.{message_of, read, is_read}
+use Rattle.messages.specs.Reading.{message_of, read}
 use Rattle.ready.specs.declared.Ready.{Ready}
 use Rattle.connection.specs.declared.Connection.{Connection}
 use Rattle.connection.specs.declared.Gate.TheVariants.{Open}
@@ -79,7 +79,7 @@ Holds (carries bs s i p m) =
     × (speaks 0 i ≡ p)
     × (message_of p (drop header_length bs) ≡ read m)
 Holds (says p bs m) = message_of p bs ≡ read m
-Holds (says_nothing p bs) = is_read (message_of p bs).reading ≡ false
+Holds (says_nothing p bs) = is_ok (message_of p bs) ≡ false
 Holds (judged bs v) = verdict bs ≡ v
 Holds (answered n k) =
     (feed_of (holding (set none 8 13) none) store (encoded (record { time = 0; mode = 0; protocol = 8; len = n }))).answer.number ≡ k
