@@ -59,5 +59,5 @@ pub fn leave(
         × (counts.new ≡ counts_less counts.old i n) }
 {
     starts[i] = (starts[i] + n) % caps[i];
-    counts[i] = counts[i] - n;
+    counts[i] -= n;
 }

@@ -8,6 +8,7 @@ use wire::instances::{count, of_side};
 
 // The faults: of feed, unknown protocol, wrong mode, overflow; of look and drop, bytes bad, not a message of the protocol, no row in
 // the present state, bytes held after Done.
+// Kept: a closing's number may be any, as the record comes from a caller, and `gate_ok` (document 01, in range) refuses the others: so a number.
 pub const UNKNOWN_PROTOCOL: u64 = 11;
 
 pub const WRONG_MODE: u64 = 12;
@@ -36,10 +37,7 @@ pub fn close(gate: Gate, why: Closing) -> Gate
 pub fn is_open(gate: Gate) -> bool
     ensures { result ≡ is_open gate }
 {
-    match gate {
-        Gate::Open => true,
-        Gate::Closed(_) => false,
-    }
+    matches!(gate, Gate::Open)
 }
 
 // The refusal number that a closing names.
@@ -53,11 +51,11 @@ pub fn number_of(x: Closing) -> u64
 }
 
 // Whether a number is a fault of what was heard, by look or drop.
+#[tactic(auto, unfolding(crate::specs::Closings::among))]
 pub fn heard_fault(n: u64) -> bool
     ensures { result ≡ heard_fault n }
 {
-    let later = base::or(n == NO_ROW, n == AFTER_DONE);
-    base::or(n == BYTES_BAD, base::or(n == NO_MESSAGE, later))
+    matches!(n, BYTES_BAD | NO_MESSAGE | NO_ROW | AFTER_DONE)
 }
 
 // A closing with its instance: 12 is of one in which our role is our side's, 13 and those of look and drop may be anyone's.
@@ -67,8 +65,7 @@ fn named(bundle: u64, n: u64, i: u64) -> bool
     if count(bundle) as u64 <= i {
         return false;
     }
-    let wrong = base::and(n == WRONG_MODE, of_side(bundle, i as usize));
-    base::or(wrong, base::or(n == OVERFLOW, heard_fault(n)))
+    n == WRONG_MODE && of_side(bundle, i as usize) || n == OVERFLOW || heard_fault(n)
 }
 
 // A closing that a fault leaves.

@@ -9,7 +9,6 @@ use wire::segment::Header;
 
 pub mod areas;
 pub mod closings;
-pub mod parts;
 
 // Set at open: which end we are, the payload limit S, and the capacities by instance. Arrays by instance have room for
 // the largest bundle.
@@ -48,6 +47,7 @@ pub struct Talk {
 }
 
 // Why a connection was closed: the refusal number alone, or the number and its instance.
+// Kept: document 01 names this form, an enum with or without instance.
 #[derive(Clone, Copy)]
 pub enum Closing {
     Bare(u64),
@@ -55,6 +55,7 @@ pub enum Closing {
 }
 
 // Whether the connection takes input and sends.
+// Kept: document 01 names this form, an enum Open or Closed in the record.
 #[derive(Clone, Copy)]
 pub enum Gate {
     Open,

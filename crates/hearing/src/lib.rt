@@ -13,7 +13,6 @@ ghost use Rattle.hearing.specs.Inside.{Held};
 ghost use Rattle.hearing.specs.Hearing.{seen, hear_of, shown_by, shut};
 
 use connection::closings::{close, heard_fault, is_open};
-use connection::parts::with_gate;
 use connection::{Closing, Connection};
 use judging::{Judged, Outcome, number_of, offset_of, unjudged};
 use messages::Message;
@@ -47,7 +46,10 @@ pub fn shut(c: Connection, instance: u64, number: u64) -> Connection
     ensures { result ≡ shut c instance number }
 {
     if heard_fault(number) {
-        return with_gate(c, close(c.gate, Closing::Of(number, instance)));
+        return Connection {
+            gate: close(c.gate, Closing::Of(number, instance)),
+            ..c
+        };
     }
     c
 }

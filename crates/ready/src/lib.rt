@@ -27,6 +27,7 @@ fn bit(n: u64) -> u64
 }
 
 // The ready word of the first n waiting counts: those of a bundle of n instances.
+// Kept: document 01 names arrays of counts by value, here and in `ready_of`.
 pub fn word(waiting: [u64; INSTANCES], n: usize) -> u64
     requires { n ≤ most }
     ensures { (result ≡ word_of (take n waiting)) × (result < 2 ^ most) × (length (take n waiting) ≡ n) }

@@ -29,6 +29,7 @@ pub struct Header {
     pub count: usize,
 }
 
+// Kept: document 01 names methods by value, each of which hands the record on.
 impl Header {
     // No byte yet.
     pub fn empty() -> Header
