@@ -17,13 +17,14 @@ use Rattle.points.specs.declared.Point.{Point}
 use Rattle.points.specs.declared.Place.{Place}
 use Rattle.points.specs.declared.Place.TheVariants.{Origin, Block}
 use Rattle.points.specs.declared.NotAPoint as points
-use Rattle.points.specs.Points.{point_of, point_told}
+use Rattle.points.specs.Points.{point_of}
+use Rattle.points.specs.Besides.Standing.{point_told}
 use Rattle.std.specs.Prelude.{Result, Ok, Err}
 use Rattle.point_log.specs.declared.Refusal.{Refusal}
 use Rattle.point_log.specs.declared.Refusal.TheVariants.{NotLogged}
-use Rattle.point_log.specs.Log.{empty, slots_of, same, number, left, count_to, back_of, Told}
+use Rattle.point_log.specs.Log.{empty, slots_of, same, count_to, back_of, Told}
 use Rattle.point_log.specs.Inside.{Rising}
-use Rattle.point_log.specs.Besides.Numbers.{slot_at, WhenBack, back_out, back_none, not_logged, to_origin, to_block}
+use Rattle.point_log.specs.Besides.Numbers.{number, left, slot_at, WhenBack, back_out, back_none, not_logged, to_origin, to_block}
 use Rattle.point_log.specs.Besides.History.{Call, adds, backs, appended, up_to_point, cut_back, says, Log, answer, after, after_all, history, content, fresh, History}
 use Rattle.point_log.proofs.RecordLaws.{slots_at, slots_set}
 use Rattle.point_log.proofs.NumberLaws.{same_is, is_same, count_is, counted, refused_not, spelled, back_by, back_when, back_goes, kept_back, Leaves, stays, grows, add_leaves}

@@ -22,8 +22,8 @@ use Rattle.std.specs.Prelude.{Result, Ok, Err}
 use Rattle.points.specs.declared.NotAPoint as points
 use Rattle.point_log.specs.declared.Refusal.{Refusal}
 use Rattle.point_log.specs.declared.Refusal.TheVariants.{OutOfRange, NotAPoint, NotAbove, NotLogged, Full}
-use Rattle.point_log.specs.Log.{empty, slots_of, same_hash, same, number_of, number, left, in_range, upto_of, at, find_of, count_to, back_to, back_of, Told, told, above, fit_to, fit_of, put_of, add_of}
-use Rattle.point_log.specs.Besides.Numbers.{Spells, NoPoint, slot_at, InRange, Logged, WhenFind, find_outside, find_inside, WhenBack, back_out, back_none, not_logged, to_origin, to_block, WhenAdd, add_out, add_none, the_origin, not_above, full, added, Finds, LeavesAdd, AllCalls}
+use Rattle.point_log.specs.Log.{empty, slots_of, same_hash, same, number_of, in_range, upto_of, at, find_of, count_to, back_to, back_of, Told, told, above, fit_to, fit_of, put_of, add_of}
+use Rattle.point_log.specs.Besides.Numbers.{number, left, Spells, NoPoint, slot_at, InRange, Logged, WhenFind, find_outside, find_inside, WhenBack, back_out, back_none, not_logged, to_origin, to_block, WhenAdd, add_out, add_none, the_origin, not_above, full, added, Finds, LeavesAdd, AllCalls}
 use Rattle.point_log.proofs.SearchLaws.{rising, rises, upto_within, upto_below, upto_above}
 
 -- ---- the range

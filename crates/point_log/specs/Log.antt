@@ -13,28 +13,15 @@ use Rattle.point_log.specs.declared.Refusal.{Refusal}
 use Rattle.point_log.specs.declared.Refusal.TheVariants.{OutOfRange, NotAPoint, NotAbove, NotLogged, Full}
 use Rattle.point_log.specs.declared.Found.{Found}
 
--- ---- numbers: 0 for an answer, and the number of a refusal
+-- ---- refusals
 
+-- the number of a refusal
 abbrev pub number_of : Refusal → ℕ
 number_of OutOfRange = 23
 number_of NotAPoint = 29
 number_of NotAbove = 30
 number_of NotLogged = 31
 number_of Full = 32
-
-abbrev pub number : {A : Type 0} → Result A Refusal → ℕ
-number (Ok a) = 0
-number (Err e) = number_of e
-
--- how many of n records are in use after back or add: a refusal leaves them
-abbrev pub left : ℕ → Result ℕ Refusal → ℕ
-left n (Ok k) = k
-left n (Err e) = n
-
--- what find found: a refusal finds nothing, and nothing is the origin
-abbrev pub sought : Result Found Refusal → Found
-sought (Ok f) = f
-sought (Err e) = record { upto = 0; place = Origin }
 
 -- ---- records
 

@@ -25,7 +25,7 @@ pub trait Rows {
         ensures { result ≡ get_or (records self.now) i empty };
 }
 
-// A slice of records has its own.
+// A slice of records is rows.
 impl<'a> Rows for &'a [Point] {
     ghost records = { λ run. run.now };
 
@@ -42,7 +42,7 @@ impl<'a> Rows for &'a [Point] {
     }
 }
 
-// Whether the slots of the first n records rise.
+// Whether the slots of the first n records rise. Of a log in range all are compared, so the loop has no early end and no branch.
 fn rises<R: Rows>(rows: &R, n: usize) -> bool
     requires { n ≤ length (R.records rows.now) }
     ensures { result ≡ rises_to (slots_of (R.records rows.now)) n }

@@ -20,8 +20,8 @@ use Rattle.points.specs.declared.NotAPoint.{NotAPoint}
 use Rattle.points.specs.declared.Opening.{Opening}
 use Rattle.points.specs.declared.Opening.TheVariants.{Counted, Endless}
 use Rattle.std.specs.Prelude.{Option, Some, None, Result, Ok, Err}
-use Rattle.points.specs.Points.{unsigned, bytes, array, leads, opening, ending, on_some, hash_at, point, tip_with, hashed, hash_behind, block_at, broken, point_by, point_at, with_number, pair_at, tip_by, tip_at, refused, whole, point_of, tip_of, point_told, tip_told}
-use Rattle.points.specs.Besides.Standing.{ArrayAt, definite, indefinite, PointAt, origin, block, TipAt, tip, WhenPoint, a_point, no_point, WhenTip, a_tip, no_tip, ReadsAll}
+use Rattle.points.specs.Points.{unsigned, bytes, array, leads, opening, ending, on_some, hash_at, point, tip_with, hashed, hash_behind, block_at, broken, point_by, point_at, with_number, pair_at, tip_by, tip_at, refused, whole, point_of, tip_of}
+use Rattle.points.specs.Besides.Standing.{ArrayAt, definite, indefinite, PointAt, origin, block, TipAt, tip, WhenPoint, a_point, no_point, WhenTip, a_tip, no_tip, point_told, tip_told, ReadsAll}
 
 -- ---- heads
 

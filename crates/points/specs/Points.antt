@@ -133,20 +133,6 @@ point_of bs = whole (length bs) (point_at bs 0)
 unfoldable pub tip_of : List ℕ → Result Tip NotAPoint
 tip_of bs = whole (length bs) (tip_at bs 0)
 
--- ---- numbers: 0 for what is read, with the place and a tip's block number; 29 for what is not, with the origin and 0
-
+-- its number
 abbrev pub number_of : NotAPoint → ℕ
 number_of e = 29
-
-pub record Read : Type 0 where
-  pub number : ℕ
-  pub place : Place
-  pub block : ℕ
-
-abbrev pub point_told : Result Place NotAPoint → Read
-point_told (Ok place) = record { number = 0; place = place; block = 0 }
-point_told (Err e) = record { number = number_of e; place = Origin; block = 0 }
-
-abbrev pub tip_told : Result Tip NotAPoint → Read
-tip_told (Ok t) = record { number = 0; place = t.place; block = t.block }
-tip_told (Err e) = record { number = number_of e; place = Origin; block = 0 }

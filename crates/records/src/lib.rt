@@ -1,5 +1,5 @@
 // The point log over a slice of records. The first `count` records are in use; their slots rise strictly, and the origin is always
-// understood before the first. A slice of records has its own rows, so `point_log::rows` has each call; what is put is put here.
+// understood before the first. A slice of records is rows, so `point_log::rows` has each call; a point that fits is put here.
 #![tactic(auto)]
 
 ghost use Rattle.std.specs.Prelude.{◌≡◌};

@@ -7,7 +7,8 @@ use Prim.Native.Nat.{ℕ}
 use Rattle.points.specs.declared.Point.{Point}
 use Rattle.std.specs.Prelude.{Result}
 use Rattle.point_log.specs.declared.Refusal.{Refusal}
-use Rattle.point_log.specs.Log.{number, left, add_of}
+use Rattle.point_log.specs.Log.{add_of}
+use Rattle.point_log.specs.Besides.Numbers.{number, left}
 use Rattle.slices.specs.Parallel.{match, records, add_in}
 use Rattle.point_log.specs.Besides.History.{Call, adds, backs, Log, answer, after, after_all}
 use Rattle.slices.specs.Besides.History.{Slices, log_of, answer_in, after_in, after_all_in, answers_in, answers, Alike}

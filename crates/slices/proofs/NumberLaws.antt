@@ -8,7 +8,8 @@ use Prim.Native.Nat.{ℕ, ◌*◌}
 use lib.ListN.{length}
 use borrow.Author.Tests.{eq-eqb, eqb-true}
 use Rattle.base.proofs.Conds.{by_test}
-use Rattle.point_log.specs.Log.{slots_of, number, left, add_of}
+use Rattle.point_log.specs.Log.{slots_of, add_of}
+use Rattle.point_log.specs.Besides.Numbers.{number, left}
 use Rattle.slices.specs.Parallel.{match, records, hashes_of, find_in, back_in, add_in}
 use Rattle.slices.specs.Besides.Numbers.{AllCallsIn}
 use Rattle.slices.proofs.RecordLaws.{slots_records, hashes_records, together, hashes_length}

@@ -1,11 +1,11 @@
 -- Laws of records that lie in parallel slices.
 -- Assumes nothing.
 use mathlib.Core.Path.{◌≡◌, refl, sym, ap, ◌∙◌}
-use mathlib.Core.List.{List, [], ◌∷◌, ◌++◌}
-use Prim.Native.Nat.{ℕ, zero, suc, ◌+◌, ◌*◌, ◌<◌}
+use mathlib.Core.List.{List, [], ◌∷◌, ◌++◌, append_assoc}
+use Prim.Native.Nat.{ℕ, zero, suc, ◌+◌, ◌*◌, ◌<◌, ◌≤◌}
 use native.Mathlib.Omega.{arith}
-use lib.ListN.{length, get_or, set, drop}
-use lib.Seq.{sets, get_or-drop}
+use lib.ListN.{length, get_or, set, take, drop}
+use lib.Seq.{sets, sets-eq, get_or-drop, drop-drop}
 use Rattle.points.specs.declared.Hash.{Hash}
 use Rattle.points.specs.declared.Point.{Point}
 use Rattle.point_log.specs.Log.{empty, slots_of}
@@ -64,13 +64,11 @@ record_at (x ∷ s) h (suc i) l =
 
 -- ---- a record stored
 
--- four words stored one by one
-pub stored : (h : List ℕ) (at a b c d : ℕ) → set (set (set (set h at a) (at + 1) b) (at + 2) c) (at + 3) d ≡ sets h at (a ∷ b ∷ c ∷ d ∷ [])
-stored h at a b c d =
-    let e : at + 1 ≡ suc at = omega arith in
-    let f : at + 2 ≡ suc (suc at) = omega arith in
-    let g : at + 3 ≡ suc (suc (suc at)) = omega arith in
-    rw (e, f, g)
+-- words stored behind one another
+pub stored : (h : List ℕ) (at : ℕ) (vs : List ℕ) → at + length vs ≤ length h → take at h ++ (vs ++ drop (length vs) (drop at h)) ≡ sets h at vs
+stored h at vs l =
+    ap (λ (r : List ℕ). take at h ++ (vs ++ r)) (drop-drop (length vs) at h) ∙ sym (append_assoc (take at h) vs (drop (at + length vs) h))
+    ∙ sym (sets-eq vs h at l)
 
 sets_cons : (x : ℕ) (l : List ℕ) (i : ℕ) (vs : List ℕ) → sets (x ∷ l) (suc i) vs ≡ x ∷ sets l i vs
 sets_cons x l i [] = refl

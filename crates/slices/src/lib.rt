@@ -3,7 +3,7 @@
 //
 // `add` and `back` are given a point's item, for a RollForward and of a RollBackward; `find` is given a slot. A refused call
 // changes nothing, and a record behind the count is written by nothing but an add. Two slices that match are rows, so
-// `point_log::rows` has each call; what is put is put here.
+// `point_log::rows` has each call; a point that fits is put here.
 #![tactic(auto)]
 
 ghost use Rattle.std.specs.Prelude.{◌≡◌, ◌*◌, ◌<◌, true, false, IfOk, IfErr, OnOk, length, set};
@@ -93,13 +93,10 @@ fn put(slots: &mut [u64], hashes: &mut [u64], i: usize, p: Point)
     ensures slots { slots.new ≡ set slots.old i p.slot }
     ensures hashes { hashes.new ≡ sets hashes.old (i * 4) (words p.hash) }
 {
-    let hash = p.hash;
+    let Hash { a, b, c, d } = p.hash;
     let at = i * WORDS;
     slots[i] = p.slot;
-    hashes[at] = hash.a;
-    hashes[at + 1] = hash.b;
-    hashes[at + 2] = hash.c;
-    hashes[at + 3] = hash.d;
+    hashes[at..at + WORDS].copy_from_slice(&[a, b, c, d]);
 }
 
 // Adds a point: it is the last record, and there is one more.

@@ -3,9 +3,11 @@ use Rattle.std.specs.Prelude.{ℕ, ◌≤◌, ◌≡◌, cond, List, [], ◌∷�
 use Rattle.points.specs.declared.Point.{Point}
 use Rattle.points.specs.declared.Place.{Place}
 use Rattle.points.specs.declared.Place.TheVariants.{Origin, Block}
-use Rattle.points.specs.Points.{point_of, point_told}
-use Rattle.point_log.specs.Log.{slots_of, same, number, left, back_of, add_of}
+use Rattle.points.specs.Points.{point_of}
+use Rattle.points.specs.Besides.Standing.{point_told}
+use Rattle.point_log.specs.Log.{slots_of, same, back_of, add_of}
 use Rattle.point_log.specs.Inside.{Rising}
+use Rattle.point_log.specs.Besides.Numbers.{number, left}
 
 -- a call, with the item that it is given
 pub data Call : Type 0 where

@@ -7,7 +7,26 @@ use Rattle.points.specs.Besides.Standing.{PointAt}
 use Rattle.point_log.specs.declared.Refusal.{Refusal}
 use Rattle.point_log.specs.declared.Refusal.TheVariants.{OutOfRange}
 use Rattle.point_log.specs.declared.Found.{Found}
-use Rattle.point_log.specs.Log.{empty, slots_of, place_at, number, left, sought, find_of, back_of, Told, told, add_of}
+use Rattle.point_log.specs.Log.{empty, slots_of, place_at, number_of, find_of, back_of, Told, told, add_of}
+
+-- ---- an answer in numbers
+
+-- 0 where it is none of the refusals
+abbrev pub number : {A : Type 0} → Result A Refusal → ℕ
+number (Ok a) = 0
+number (Err e) = number_of e
+
+-- how many of n records are in use after back or add: a refusal leaves them
+abbrev pub left : ℕ → Result ℕ Refusal → ℕ
+left n (Ok k) = k
+left n (Err e) = n
+
+-- what find found: a refusal finds nothing, and that is the origin
+abbrev pub sought : Result Found Refusal → Found
+sought (Ok f) = f
+sought (Err e) = record { upto = 0; place = Origin }
+
+-- ---- what an item has, and a log
 
 -- the item is exactly this point, or no point
 abbrev pub Spells : List ℕ → Place → Type 0

@@ -1,11 +1,13 @@
 -- When a reading answers 0 and when 29 (T2), by what stands at a place. It says over again what `Points` defines, as a relation: a head is one of definite length, an array
 -- one of either form.
-use Rattle.std.specs.Prelude.{ℕ, ◌+◌, ◌-◌, ◌≤◌, ◌≡◌, List, ◌↔◌, length, Ok, Err}
+use Rattle.std.specs.Prelude.{ℕ, ◌+◌, ◌-◌, ◌≤◌, ◌≡◌, List, ◌↔◌, length, Result, Ok, Err}
 use Rattle.head.specs.Read.{head_at}
 use Rattle.head.specs.declared.read.Head.TheVariants.{Definite, Indefinite, Break}
 use Rattle.points.specs.declared.Place.{Place}
 use Rattle.points.specs.declared.Place.TheVariants.{Origin, Block}
-use Rattle.points.specs.Points.{unsigned, bytes, array, hash_at, point, tip_with, refused, point_of, tip_of, point_told, tip_told}
+use Rattle.points.specs.declared.Tip.{Tip}
+use Rattle.points.specs.declared.NotAPoint.{NotAPoint}
+use Rattle.points.specs.Points.{unsigned, bytes, array, hash_at, point, tip_with, refused, point_of, tip_of, number_of}
 
 -- From place p up to place q stands an array of k elements, which lie from place a up to place b.
 pub data ArrayAt (bs : List ℕ) (k : ℕ) : ℕ → ℕ → ℕ → ℕ → Type 0 where
@@ -21,6 +23,20 @@ pub data PointAt (bs : List ℕ) : ℕ → Place → ℕ → Type 0 where
 -- From place p up to place q stands a tip: [point, block number].
 pub data TipAt (bs : List ℕ) : ℕ → Place → ℕ → ℕ → Type 0 where
   tip : {p a b n c q : ℕ} {place : Place} → ArrayAt bs 2 p a c q → PointAt bs a place b → head_at bs b ≡ Definite unsigned n c → TipAt bs p place n q
+
+-- A reading in numbers: 0 for what is read, with the place and a tip's block number; 29 for what is not, with the origin and 0.
+pub record Read : Type 0 where
+  pub number : ℕ
+  pub place : Place
+  pub block : ℕ
+
+abbrev pub point_told : Result Place NotAPoint → Read
+point_told (Ok place) = record { number = 0; place = place; block = 0 }
+point_told (Err e) = record { number = number_of e; place = Origin; block = 0 }
+
+abbrev pub tip_told : Result Tip NotAPoint → Read
+tip_told (Ok t) = record { number = 0; place = t.place; block = t.block }
+tip_told (Err e) = record { number = number_of e; place = Origin; block = 0 }
 
 -- T2: 0 if the bytes are exactly one point, or tip, and 29 if they are not
 pub data WhenPoint (bs : List ℕ) : ℕ → Type 0 where

@@ -1,6 +1,6 @@
 -- A log in parallel slices is the same log, at every call.
 use Rattle.std.specs.Prelude.{ℕ, ◌≡◌, true, List, [], ◌∷◌}
-use Rattle.point_log.specs.Log.{number, left}
+use Rattle.point_log.specs.Besides.Numbers.{number, left}
 use Rattle.slices.specs.Parallel.{match, records, back_in, add_in}
 use Rattle.point_log.specs.Besides.History.{Call, adds, backs, Log, answer, after, after_all}
 

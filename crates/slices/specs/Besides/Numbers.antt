@@ -1,7 +1,8 @@
 -- Which number each call answers and what it leaves, as statements: slices that do not match are 23, and then nothing changes; else it is what `log` says of
 -- the records.
 use Rattle.std.specs.Prelude.{ℕ, ◌≡◌, true, false, List, ◌≢◌, Err}
-use Rattle.point_log.specs.Log.{number, left, find_of, back_of, add_of}
+use Rattle.point_log.specs.Log.{find_of, back_of, add_of}
+use Rattle.point_log.specs.Besides.Numbers.{number, left}
 use Rattle.point_log.specs.declared.Refusal.TheVariants.{OutOfRange}
 use Rattle.slices.specs.Parallel.{match, records, find_in, back_in, told_in, add_in}
 
