@@ -67,10 +67,10 @@ past_string : (zs : List ℕ) (at h n : ℕ) (fs : Stack) → n ≤ length zs - 
 past_string zs at h n fs l = tell_empty zs (at + n) h 0 fs ∙ sym (tell_string zs at h n 0 fs l)
 
 pub starts : (xs : List ℕ) (w u : Walk) (v : Verdict) → w.skip ≤ length xs - w.at
-    → Resumed xs (walk_of (w.at + w.skip) 0 w.heads w.kind w.count w.depth w.kinds w.counts) v u → Resumed xs w v u
+    → Resumed xs (walk_of (w.at + w.skip) 0 w.heads w.level.kind w.level.count w.depth w.kinds w.counts) v u → Resumed xs w v u
 unfolding stack_of
 starts xs w u v l r =
-    let fs : Stack = push (nesting - w.depth) (frame_of w.kind w.count) (levels w.kinds w.counts w.depth) in
+    let fs : Stack = push (nesting - w.depth) (frame_of w.level.kind w.level.count) (levels w.kinds w.counts w.depth) in
     record {
       told = r.told ∙ past_string xs w.at w.heads w.skip fs l;
       more = λ ys. r.more ys ∙ past_string (xs ++ ys) w.at w.heads w.skip fs (omega (arith, length-append xs ys));
@@ -79,7 +79,7 @@ starts xs w u v l r =
     }
 
 pub starts_cut : (xs : List ℕ) (w : Walk) (n r : ℕ) → length xs ≡ n → Sound w → w.at ≤ n → n - w.at < w.skip → r ≡ w.skip - (n - w.at)
-    → Resumed xs w (Err Incomplete) (walk_of n r w.heads w.kind w.count w.depth w.kinds w.counts)
+    → Resumed xs w (Err Incomplete) (walk_of n r w.heads w.level.kind w.level.count w.depth w.kinds w.counts)
 unfolding stack_of
 starts_cut xs w n r e s a l q =
     let f = s.few in
@@ -91,13 +91,13 @@ starts_cut xs w n r e s a l q =
     }
   where
     around : Stack
-    around = push (nesting - w.depth) (frame_of w.kind w.count) (levels w.kinds w.counts w.depth)
+    around = push (nesting - w.depth) (frame_of w.level.kind w.level.count) (levels w.kinds w.counts w.depth)
 
     goes : (zs : List ℕ) → n - w.at ≤ length zs - w.at
         → tell zs w.at w.heads
-        (push 0 (Content w.skip) (push (nesting - w.depth) (frame_of w.kind w.count) (levels w.kinds w.counts w.depth)))
+        (push 0 (Content w.skip) (push (nesting - w.depth) (frame_of w.level.kind w.level.count) (levels w.kinds w.counts w.depth)))
         ≡ tell zs n w.heads
-        (push 0 (Content r) (push (nesting - w.depth) (frame_of w.kind w.count) (levels w.kinds w.counts w.depth)))
+        (push 0 (Content r) (push (nesting - w.depth) (frame_of w.level.kind w.level.count) (levels w.kinds w.counts w.depth)))
     goes zs m =
         let z : w.at + (n - w.at) ≡ n = omega arith in
         tell_content zs w.at w.heads (n - w.at) w.skip 0 0 around (omega arith) m

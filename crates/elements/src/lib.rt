@@ -153,7 +153,7 @@ pub fn item_end(v: View<'_>, at: usize, d: usize) -> Option<usize>
     if v.len < at {
         return None;
     }
-    cbor::item_at(v.bytes, v.from, v.len, at, d).ok()
+    cbor::item_at(v, at, d).ok()
 }
 
 // Where a size ends, and an item with its size.

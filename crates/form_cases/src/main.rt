@@ -136,15 +136,14 @@ fn spoken(
 fn show(out: &mut Writer, p: Protocol, bytes: &[u8], from: usize) -> Result<(), WriteFailed>
     requires { from ≤ length bytes.now }
 {
-    let n = bytes.len();
-    if cbor::measure(bytes, from, n) != Ok(n) {
-        return out.words(b"15 one");
-    }
     let view = View {
         bytes,
         from,
-        len: n,
+        len: bytes.len(),
     };
+    if cbor::measure(view) != Ok(bytes.len()) {
+        return out.words(b"15 one");
+    }
     match messages::read(p, view) {
         Ok(message) => print(out, message),
         Err(Unread::NotArray) => out.words(b"15 array"),

@@ -1,7 +1,7 @@
 -- Laws of judging bytes: each way out of the code is the definition, and the definition has three ways: no message, no row, or a message that leads on.
 -- Assumes nothing.
 use mathlib.Core.Path.{◌≡◌, refl, sym, ap, ◌∙◌}
-use mathlib.Core.Bool.{Bool, true, false, true≢false}
+use mathlib.Core.Bool.{Bool, true, false}
 use mathlib.Core.List.{List}
 use Prim.Native.Nat.{ℕ, ◌≤◌}
 use native.Mathlib.Omega.{arith}
@@ -23,7 +23,7 @@ use Rattle.rows.specs.Spoken.{speaks}
 use Rattle.messages.specs.declared.Message.{Message}
 use Rattle.messages.specs.declared.Unread.{Unread}
 use Rattle.messages.specs.declared.Unread.TheVariants.{NotArray}
-use Rattle.messages.specs.Reading.{message_of, read, flag_of, wholly}
+use Rattle.messages.specs.Reading.{message_of, flag_of, wholly}
 use Rattle.messages.specs.Besides.Theorem.{Says}
 use Rattle.messages.proofs.Theorem.{reads_forms}
 use Rattle.judging.specs.declared.Outcome.TheVariants.{NoMessage, NoRow}

@@ -212,7 +212,12 @@ fn measured(p: Protocol, state: u64, closed: bool, area: &[u8], start: usize, n:
     requires { (start ≤ length area.now) × (n ≤ length area.now) }
     ensures { result ≡ by_verdict p state closed (around area.now start n) (verdict (around area.now start n)) }
 {
-    let v = cbor::measure(area, start, n);
+    let held = View {
+        bytes: area,
+        from: start,
+        len: n,
+    };
+    let v = cbor::measure(held);
     match v {
         Ok(len) => judge(p, state, area, start, len),
         Err(NotWhole::Bad(at)) => unjudged(Outcome::BytesBad(at)),

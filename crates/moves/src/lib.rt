@@ -8,7 +8,7 @@
 ghost use Rattle.std.specs.Prelude.{◌≡◌, ◌+◌, ◌-◌, ◌^◌, ◌≤◌, ◌<◌, length, get_or};
 ghost use Rattle.head.specs.Initial.{initial};
 ghost use Rattle.head.specs.declared.Initial.TheVariants.{Short, Long, Simple};
-ghost use Rattle.ring.specs.Inside.{around};
+ghost use Rattle.ring.specs.View.{seen};
 ghost use Rattle.moves.specs.Inside.Levels.{frame_of, Good};
 ghost use Rattle.moves.specs.Inside.Frames.{breakable, room_for, chunk_of, may_begin};
 ghost use Rattle.moves.specs.Inside.Moves.{Moves, Leaves, Strings, Follows, Doubles, Answers, Broken, Endless, Opened};
@@ -55,43 +55,63 @@ pub enum Move {
     Lack,
 }
 
-// What is left of a level once an item of it has begun.
-fn left_of(kind: u8, count: u64) -> Level
-    requires { (0 < kind + count) × (4 ≤ kind → count ≡ 0) }
-    ensures { Leaves kind count result }
-{
-    if 0 < count {
-        return Level {
-            kind: kind,
-            count: count - 1,
-        };
-    }
-    if kind == MORE_ITEMS {
-        return Level {
-            kind: ITEMS,
-            count: u64::MAX,
-        };
-    }
-    if kind < BYTES {
-        return Level {
-            kind: kind,
-            count: u64::MAX,
-        };
-    }
-    Level {
-        kind: kind,
-        count: 0,
+impl Level {
+    // A break may end the level here.
+    pub fn breaks(self) -> bool
+        ensures { result ≡ breakable (frame_of self.kind self.count) }
+    {
+        if self.kind == PAIRS {
+            return self.count % 2 == 0;
+        }
+        ELEMENTS <= self.kind
     }
 }
 
-// A break may end the level here.
-pub fn breaks(kind: u8, count: u64) -> bool
-    ensures { result ≡ breakable (frame_of kind count) }
-{
-    if kind == PAIRS {
-        return count % 2 == 0;
+// A level that wants something, within so many others.
+#[derive(Clone, Copy)]
+pub struct Wanting {
+    pub level: Level,
+    pub depth: usize,
+    ghost good: { Good level.kind level.count depth },
+    ghost wants: { 0 < level.kind + level.count },
+}
+
+impl Wanting {
+    // What is left of the level once an item of it has begun.
+    fn left(self) -> Level
+        ensures { Leaves self.level.kind self.level.count result }
+    {
+        let Level { kind, count } = self.level;
+        if 0 < count {
+            return Level {
+                kind,
+                count: count - 1,
+            };
+        }
+        if kind == MORE_ITEMS {
+            return Level {
+                kind: ITEMS,
+                count: u64::MAX,
+            };
+        }
+        if kind < BYTES {
+            return Level {
+                kind,
+                count: u64::MAX,
+            };
+        }
+        Level { kind, count: 0 }
     }
-    ELEMENTS <= kind
+
+    // An item of a major type may begin here.
+    fn may_begin(self, m: Major) -> bool
+        ensures { result ≡ may_begin self.level.kind self.depth m }
+    {
+        if self.level.kind < BYTES {
+            return room_for(m, self.depth);
+        }
+        chunk_of(m, self.level.kind)
+    }
 }
 
 // Within the nesting there is room for an item.
@@ -99,12 +119,8 @@ fn room_for(m: Major, depth: usize) -> bool
     ensures { result ≡ room_for m depth }
 {
     match m {
-        Major::Number => true,
-        Major::Bytes => true,
-        Major::Text => true,
-        Major::Array => depth < NESTING,
-        Major::Map => depth < NESTING,
-        Major::Tag => depth < NESTING,
+        Major::Number | Major::Bytes | Major::Text => true,
+        Major::Array | Major::Map | Major::Tag => depth < NESTING,
     }
 }
 
@@ -113,23 +129,10 @@ fn chunk_of(m: Major, kind: u8) -> bool
     ensures { result ≡ chunk_of m kind }
 {
     match m {
-        Major::Number => false,
         Major::Bytes => kind == BYTES,
         Major::Text => kind != BYTES,
-        Major::Array => false,
-        Major::Map => false,
-        Major::Tag => false,
+        Major::Number | Major::Array | Major::Map | Major::Tag => false,
     }
-}
-
-// An item of a major type may begin here.
-fn may_begin(kind: u8, depth: usize, m: Major) -> bool
-    ensures { result ≡ may_begin kind depth m }
-{
-    if kind < BYTES {
-        return room_for(m, depth);
-    }
-    chunk_of(m, kind)
 }
 
 // A string's v bytes, from the place p of n on.
@@ -160,20 +163,6 @@ fn pairs(v: u64) -> Level
     }
 }
 
-// A level of a kind and a count, open from the place p on.
-fn down(p: usize, left: Level, kind: u8, count: u64) -> Move
-    ensures { result ≡ Move.Down p left (record { kind = kind; count = count }) }
-{
-    Move::Down(
-        p,
-        left,
-        Level {
-            kind: kind,
-            count: count,
-        },
-    )
-}
-
 // What follows a head whose argument is v, from the place p of n on.
 fn follows(n: usize, p: usize, m: Major, v: u64, left: Level) -> Move
     requires { p ≤ n }
@@ -181,52 +170,50 @@ fn follows(n: usize, p: usize, m: Major, v: u64, left: Level) -> Move
 {
     match m {
         Major::Number => Move::Stay(p, left),
-        Major::Bytes => string(n, p, v, left),
-        Major::Text => string(n, p, v, left),
-        Major::Array => down(p, left, ITEMS, v),
+        Major::Bytes | Major::Text => string(n, p, v, left),
+        Major::Array => Move::Down(
+            p,
+            left,
+            Level {
+                kind: ITEMS,
+                count: v,
+            },
+        ),
         Major::Map => Move::Down(p, left, pairs(v)),
-        Major::Tag => down(p, left, ITEMS, 1),
+        Major::Tag => Move::Down(
+            p,
+            left,
+            Level {
+                kind: ITEMS,
+                count: 1,
+            },
+        ),
     }
 }
 
 // An argument in the initial byte.
-fn short(n: usize, at: usize, kind: u8, count: u64, depth: usize, m: Major, v: u64) -> Move
-    requires { (at < n) × Good kind count depth × (0 < kind + count) }
-    ensures { Answers n at kind count depth (Short m v) result }
+fn short(n: usize, at: usize, w: Wanting, m: Major, v: u64) -> Move
+    requires { at < n }
+    ensures { Answers n at w.level.kind w.level.count w.depth (Short m v) result }
 {
-    if may_begin(kind, depth, m) {
-        return follows(n, at + 1, m, v, left_of(kind, count));
+    if w.may_begin(m) {
+        return follows(n, at + 1, m, v, w.left());
     }
     Move::Fault(at)
 }
 
 // An argument in the k + 1 bytes that follow: the head is bad before they come, if it is.
-fn long(
-    s: &[u8],
-    from: usize,
-    n: usize,
-    at: usize,
-    kind: u8,
-    count: u64,
-    depth: usize,
-    m: Major,
-    k: usize,
-) -> Move
-    requires from_in_bounds { (from ≤ length s.now) × (n ≤ length s.now) × (at < n) × (k ≤ 7) × Good kind count depth × (0 < kind + count) }
-    requires at_value { initial (get_or (around s.now from n) at 0) ≡ Long m k }
-    ensures { Moves (around s.now from n) at kind count depth result }
+fn long(v: View<'_>, at: usize, w: Wanting, m: Major, k: usize) -> Move
+    requires in_bounds { (at < v.len) × (k ≤ 7) }
+    requires at_value { initial (get_or (seen v) at 0) ≡ Long m k }
+    ensures { Moves (seen v.entry) at w.level.kind w.level.count w.depth result }
 {
-    if may_begin(kind, depth, m) {
-        if n - (at + 1) <= k {
+    if w.may_begin(m) {
+        if v.len - (at + 1) <= k {
             return Move::Lack;
         }
-        let bytes = View {
-            bytes: s,
-            from,
-            len: n,
-        };
-        let v = number_at(bytes, at + 1, k + 1);
-        return follows(n, at + 1 + (k + 1), m, v, left_of(kind, count));
+        let argument = number_at(v, at + 1, k + 1);
+        return follows(v.len, at + 1 + (k + 1), m, argument, w.left());
     }
     Move::Fault(at)
 }
@@ -237,53 +224,80 @@ fn opened(at: usize, left: Level, m: Major) -> Move
     ensures { Opened at left m result }
 {
     match m {
-        Major::Number => Move::Fault(at),
-        Major::Bytes => down(at + 1, left, BYTES, 0),
-        Major::Text => down(at + 1, left, TEXT, 0),
-        Major::Array => down(at + 1, left, ELEMENTS, HALF),
-        Major::Map => down(at + 1, left, PAIRS, HALF),
-        Major::Tag => Move::Fault(at),
+        Major::Number | Major::Tag => Move::Fault(at),
+        Major::Bytes => Move::Down(
+            at + 1,
+            left,
+            Level {
+                kind: BYTES,
+                count: 0,
+            },
+        ),
+        Major::Text => Move::Down(
+            at + 1,
+            left,
+            Level {
+                kind: TEXT,
+                count: 0,
+            },
+        ),
+        Major::Array => Move::Down(
+            at + 1,
+            left,
+            Level {
+                kind: ELEMENTS,
+                count: HALF,
+            },
+        ),
+        Major::Map => Move::Down(
+            at + 1,
+            left,
+            Level {
+                kind: PAIRS,
+                count: HALF,
+            },
+        ),
     }
 }
 
 // No length, where items are wanted: a chunk has one.
-fn indefinite(at: usize, kind: u8, count: u64, depth: usize, m: Major) -> Move
-    requires { (at < 2 ^ 64 - 1) × Good kind count depth × (0 < kind + count) }
-    ensures { Endless at kind count depth m result }
+fn indefinite(at: usize, w: Wanting, m: Major) -> Move
+    requires { at < 2 ^ 64 - 1 }
+    ensures { Endless at w.level.kind w.level.count w.depth m result }
 {
-    if BYTES <= kind {
+    if BYTES <= w.level.kind {
         return Move::Fault(at);
     }
-    if room_for(m, depth) {
-        return opened(at, left_of(kind, count), m);
+    if room_for(m, w.depth) {
+        return opened(at, w.left(), m);
     }
     Move::Fault(at)
 }
 
 // A simple value in a byte of its own.
-fn simple(s: &[u8], from: usize, n: usize, at: usize, kind: u8, count: u64, depth: usize) -> Move
-    requires from_in_bounds { (from ≤ length s.now) × (n ≤ length s.now) × (at < n) × Good kind count depth × (0 < kind + count) }
-    requires at_value { initial (get_or (around s.now from n) at 0) ≡ Simple }
-    ensures { Moves (around s.now from n) at kind count depth result }
+fn simple(v: View<'_>, at: usize, w: Wanting) -> Move
+    requires in_bounds { at < v.len }
+    requires at_value { initial (get_or (seen v) at 0) ≡ Simple }
+    ensures { Moves (seen v.entry) at w.level.kind w.level.count w.depth result }
 {
-    if BYTES <= kind {
+    if BYTES <= w.level.kind {
         return Move::Fault(at);
     }
-    if n == at + 1 {
+    if v.len == at + 1 {
         return Move::Lack;
     }
-    if ring::byte_at(s, from, n, at + 1) < 32 {
+    if v.byte(at + 1) < 32 {
         return Move::Fault(at + 1);
     }
-    Move::Stay(at + 2, left_of(kind, count))
+    Move::Stay(at + 2, w.left())
 }
 
 // A break: the level wants nothing any more.
-fn broken(at: usize, kind: u8, count: u64) -> Move
+fn broken(at: usize, level: Level) -> Move
     requires { at < 2 ^ 64 - 1 }
-    ensures { Broken at kind count result }
+    ensures { Broken at level.kind level.count result }
 {
-    if breaks(kind, count) {
+    if level.breaks() {
         return Move::Stay(
             at + 1,
             Level {
@@ -296,20 +310,19 @@ fn broken(at: usize, kind: u8, count: u64) -> Move
 }
 
 // Any head, at a level that wants something.
-pub fn any(s: &[u8], from: usize, n: usize, at: usize, kind: u8, count: u64, depth: usize) -> Move
-    requires { (from ≤ length s.now) × (n ≤ length s.now) × (at ≤ n) × Good kind count depth × (0 < kind + count) }
-    ensures { Moves (around s.now from n) at kind count depth result }
+pub fn any(v: View<'_>, at: usize, w: Wanting) -> Move
+    requires { at ≤ v.len }
+    ensures { Moves (seen v.entry) at w.level.kind w.level.count w.depth result }
 {
-    if at == n {
+    if at == v.len {
         return Move::Lack;
     }
-    let i = initial_of(ring::byte_at(s, from, n, at));
-    match i {
-        Initial::Short(m, v) => short(n, at, kind, count, depth, m, v),
-        Initial::Long(m, k) => long(s, from, n, at, kind, count, depth, m, k),
-        Initial::Indefinite(m) => indefinite(at, kind, count, depth, m),
-        Initial::Simple => simple(s, from, n, at, kind, count, depth),
-        Initial::Break => broken(at, kind, count),
+    match initial_of(v.byte(at)) {
+        Initial::Short(m, argument) => short(v.len, at, w, m, argument),
+        Initial::Long(m, k) => long(v, at, w, m, k),
+        Initial::Indefinite(m) => indefinite(at, w, m),
+        Initial::Simple => simple(v, at, w),
+        Initial::Break => broken(at, w.level),
         Initial::Reserved => Move::Fault(at),
     }
 }

@@ -14,6 +14,7 @@ use Rattle.moves.specs.Inside.Frames.{breakable}
 use Rattle.moves.specs.Inside.Moves.{Stays, Downs}
 use Rattle.moves.proofs.Frames.{level_wants, level_less}
 use Rattle.moves.proofs.AnyHead.{ends}
+use Rattle.std.specs.Prelude.{Option, Some}
 use Rattle.usual.specs.declared.Quick.{Quick}
 use Rattle.usual.specs.declared.Quick.TheVariants.{Past, Asks, Opens, Ends}
 use Rattle.usual.specs.Inside.Usual.{Passes, Enters, Breaks, Quickly}
@@ -65,15 +66,15 @@ module _ {xs : List ℕ} {at k c d : ℕ} (g : Good k c d) (z : 0 < c) where
       (ends xs at k c d (omega arith) (omega arith) g q.is t)
 
   -- What was told, by what it is.
-  module _ {q : Quick} (h : Quickly xs at d q) where
-    pub if_past : {p : ℕ} → q ≡ Past p → Stays xs at k c d p (record { kind = k; count = c - 1 })
+  module _ {q : Option Quick} (h : Quickly xs at d q) where
+    pub if_past : {p : ℕ} → q ≡ Some (Past p) → Stays xs at k c d p (record { kind = k; count = c - 1 })
     if_past e = passed (subst (Quickly xs at d) e h)
 
-    pub if_asks : {p j : ℕ} → q ≡ Asks p j → Downs xs at k c d p (record { kind = k; count = c - 1 }) (record { kind = 0; count = j })
+    pub if_asks : {p j : ℕ} → q ≡ Some (Asks p j) → Downs xs at k c d p (record { kind = k; count = c - 1 }) (record { kind = 0; count = j })
     if_asks e = entered (subst (Quickly xs at d) e h)
 
-    pub if_opens : {p i : ℕ} → q ≡ Opens p i → Downs xs at k c d p (record { kind = k; count = c - 1 }) (record { kind = i; count = 2 ^ 63 })
+    pub if_opens : {p i : ℕ} → q ≡ Some (Opens p i) → Downs xs at k c d p (record { kind = k; count = c - 1 }) (record { kind = i; count = 2 ^ 63 })
     if_opens e = entered (subst (Quickly xs at d) e h)
 
-    pub if_ends : {p : ℕ} → q ≡ Ends p → breakable (frame_of k c) ≡ true → Stays xs at k c d p (record { kind = 0; count = 0 })
+    pub if_ends : {p : ℕ} → q ≡ Some (Ends p) → breakable (frame_of k c) ≡ true → Stays xs at k c d p (record { kind = 0; count = 0 })
     if_ends e t = ended (subst (Quickly xs at d) e h) t

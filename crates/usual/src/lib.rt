@@ -3,16 +3,15 @@
 // `moves`, at any level that has a count; a head that is not usual is left to that crate.
 #![tactic(auto)]
 
-ghost use Rattle.std.specs.Prelude.{◌≡◌, ◌+◌, ◌-◌, ◌^◌, ◌≤◌, ◌<◌, length};
-ghost use Rattle.ring.specs.Inside.{around};
+ghost use Rattle.std.specs.Prelude.{ℕ, ◌≡◌, ◌+◌, ◌-◌, ◌^◌, ◌≤◌, ◌<◌, length};
+ghost use Rattle.ring.specs.View.{seen};
 ghost use Rattle.usual.specs.Inside.Pieces.{Spot, PieceAt};
 ghost use Rattle.usual.specs.Inside.Usual.{following, small_of, Quickly, Usually, UsualString};
 
-use base::number::wide;
-use base::{less, smaller};
-use head::{INFOS, ONE_BYTE, RESERVED};
+use head::{EIGHT_BYTES, FOUR_BYTES, INFOS, ONE_BYTE, RESERVED, TWO_BYTES};
 use item::NESTING;
 use moves::{ELEMENTS, PAIRS};
+use ring::view::View;
 
 // How many bytes follow an initial byte at most.
 const LONGEST: usize = 8;
@@ -36,14 +35,13 @@ const OPEN_MAP: u8 = 191;
 const BREAK: u8 = 255;
 
 // What a usual head does: it is passed, up to a place; from a place on a level of so many items is open, or one of a
-// kind that goes up to a break; it is a break. Others are not usual.
+// kind that goes up to a break; it is a break. Of a head that is not usual nothing is told.
 #[derive(Clone, Copy)]
 pub enum Quick {
     Past(usize),
     Asks(usize, u64),
     Opens(usize, u8),
     Ends(usize),
-    Unusual,
 }
 
 // Where the bytes of the ring lie in one piece: what to add to a place and what to take from it, up to a place.
@@ -59,109 +57,110 @@ fn following(i: u8) -> usize
     ensures { result ≡ following i }
 {
     match i {
-        24 => 1,
-        25 => 2,
-        26 => 4,
-        27 => 8,
+        ONE_BYTE => 1,
+        TWO_BYTES => 2,
+        FOUR_BYTES => 4,
+        EIGHT_BYTES => 8,
         _ => 0,
     }
 }
 
-// The argument in the additional information i, or in the byte x after the initial byte, and how many bytes it takes
-// there.
+// The argument in the additional information i, or in the byte x after the initial byte.
 fn small(i: u8, x: u8) -> u64
     ensures { result ≡ small_of i x }
 {
-    if i < ONE_BYTE {
-        return i as u64;
-    }
-    x as u64
-}
-
-fn extra(i: u8) -> usize
-    requires { i ≤ 24 }
-    ensures { result ≡ following i }
-{
-    if i < ONE_BYTE {
-        return 0;
-    }
-    1
+    u64::from(if i < ONE_BYTE { i } else { x })
 }
 
 // A string of less than 256 bytes; x is the byte after the initial byte.
-fn short_string(n: usize, at: usize, i: u8, x: u8) -> Quick
+fn short_string(n: usize, at: usize, i: u8, x: u8) -> Option<Quick>
     requires { at + 8 < n }
     ensures { UsualString n at i x result }
 {
     if ONE_BYTE < i {
-        return Quick::Unusual;
+        return None;
     }
     let v = small(i, x);
-    let p = at + 1 + extra(i);
+    let p = at + 1 + following(i);
     if v <= (n - p) as u64 {
-        return Quick::Past(p + (v as usize));
+        return Some(Quick::Past(p + (v as usize)));
     }
-    Quick::Unusual
+    None
 }
 
 // An array or a map, of less than 24 or up to a break.
-fn nested(b: u8, at: usize, depth: usize) -> Quick
+fn nested(b: u8, at: usize, depth: usize) -> Option<Quick>
     requires { (at + 8 < 2 ^ 64 - 1) × (128 ≤ b) × (b < 192) }
     ensures { Usually at depth b result }
 {
     let i = b % INFOS;
     if NESTING <= depth {
-        return Quick::Unusual;
+        return None;
     }
     if i < ONE_BYTE {
         if b < MAPS {
-            return Quick::Asks(at + 1, wide(i));
+            return Some(Quick::Asks(at + 1, u64::from(i)));
         }
-        return Quick::Asks(at + 1, wide(i) * 2);
+        return Some(Quick::Asks(at + 1, u64::from(i) * 2));
     }
     if b == OPEN_ARRAY {
-        return Quick::Opens(at + 1, ELEMENTS);
+        return Some(Quick::Opens(at + 1, ELEMENTS));
     }
     if b == OPEN_MAP {
-        return Quick::Opens(at + 1, PAIRS);
+        return Some(Quick::Opens(at + 1, PAIRS));
     }
-    Quick::Unusual
+    None
 }
 
 // A tag, of whatever number.
-fn tag(b: u8, at: usize, depth: usize) -> Quick
+fn tag(b: u8, at: usize, depth: usize) -> Option<Quick>
     requires { (at + 8 < 2 ^ 64 - 1) × (192 ≤ b) × (b < 224) }
     ensures { Usually at depth b result }
 {
     let i = b % INFOS;
     if NESTING <= depth {
-        return Quick::Unusual;
+        return None;
     }
     if RESERVED <= i {
-        return Quick::Unusual;
+        return None;
     }
-    Quick::Asks(at + 1 + following(i), 1)
+    Some(Quick::Asks(at + 1 + following(i), 1))
+}
+
+// A simple value without a byte of its own, or a float.
+fn simple(b: u8, at: usize) -> Option<Quick>
+    requires { (at + 8 < 2 ^ 64 - 1) × (224 ≤ b) × (b < 255) }
+    ensures { (d : ℕ) → Usually at d b result }
+{
+    let i = b % INFOS;
+    if i == ONE_BYTE {
+        return None;
+    }
+    if RESERVED <= i {
+        return None;
+    }
+    Some(Quick::Past(at + 1 + following(i)))
 }
 
 // A usual head at the place `at`, at a level of items, where nine bytes lie in one piece from the place p of the slice
 // on.
-pub fn usual(s: &[u8], from: usize, n: usize, at: usize, p: usize, depth: usize) -> Quick
-    requires { (from ≤ length s.now) × (n ≤ length s.now) × Spot (length s.now) from n at p }
-    ensures { Quickly (around s.now from n) at depth result }
+pub fn usual(v: View<'_>, at: usize, p: usize, depth: usize) -> Option<Quick>
+    requires { Spot (length v.bytes.now) v.from v.len at p }
+    ensures { Quickly (seen v.entry) at depth result }
 {
-    let b = s[p];
+    let b = v.bytes[p];
     let i = b % INFOS;
     if b == BREAK {
-        return Quick::Ends(at + 1);
+        return Some(Quick::Ends(at + 1));
     }
     if b < STRINGS {
         if RESERVED <= i {
-            return Quick::Unusual;
+            return None;
         }
-        return Quick::Past(at + 1 + following(i));
+        return Some(Quick::Past(at + 1 + following(i)));
     }
     if b < ARRAYS {
-        return short_string(n, at, i, s[p + 1]);
+        return short_string(v.len, at, i, v.bytes[p + 1]);
     }
     if b < TAGS {
         return nested(b, at, depth);
@@ -169,31 +168,24 @@ pub fn usual(s: &[u8], from: usize, n: usize, at: usize, p: usize, depth: usize)
     if b < SIMPLES {
         return tag(b, at, depth);
     }
-    if i == ONE_BYTE {
-        return Quick::Unusual;
-    }
-    if RESERVED <= i {
-        return Quick::Unusual;
-    }
-    Quick::Past(at + 1 + following(i))
+    simple(b, at)
 }
 
 // The piece that a place is in.
-pub fn piece_of(len: usize, from: usize, n: usize, at: usize) -> Piece
-    requires { (from ≤ len) × (n ≤ len) }
-    ensures { PieceAt len from n at result }
+pub fn piece_of(v: View<'_>, at: usize) -> Piece
+    ensures { PieceAt (length v.entry.bytes.now) v.entry.from v.entry.len at result }
 {
-    let room = len - from;
+    let room = v.bytes.len() - v.from;
     if at < room {
         return Piece {
-            plus: from,
+            plus: v.from,
             minus: 0,
-            lim: less(smaller(n, room), LONGEST),
+            lim: v.len.min(room).saturating_sub(LONGEST),
         };
     }
     Piece {
         plus: 0,
         minus: room,
-        lim: less(n, LONGEST),
+        lim: v.len.saturating_sub(LONGEST),
     }
 }

@@ -17,6 +17,7 @@ ghost use Rattle.std.specs.Prelude.{◌<◌, ◌≤◌, length};
 use input::Stop;
 use item::{NotWhole, Verdict};
 use output::{WriteFailed, Writer};
+use ring::view::View;
 use script::{Word, runs};
 use std::io::Stdout;
 
@@ -73,9 +74,7 @@ fn show(stdout: Stdout, bytes: &[u8]) -> Result<(), WriteFailed>
     let incomplete = |k: &usize| is_incomplete(bytes, *k);
     let prefixes = (0..bytes.len()).filter(incomplete).count();
     let longest = (0..bytes.len()).rfind(incomplete).unwrap_or(0);
-    let rings = (0..ROOM)
-        .filter(|from| around(bytes, *from) == v)
-        .count();
+    let rings = (0..ROOM).filter(|from| around(bytes, *from) == v).count();
     let mut space = [0u8; LINE];
     let mut out = Writer::new(stdout, &mut space);
     out.hex(bytes)?;
@@ -99,7 +98,11 @@ fn around(bytes: &[u8], from: usize) -> Verdict
 {
     let mut store = [0u8; ROOM];
     ring::write(&mut store, 0, ROOM, from, bytes, 0, bytes.len());
-    cbor::measure(&store, from, bytes.len())
+    cbor::measure(View {
+        bytes: &store,
+        from,
+        len: bytes.len(),
+    })
 }
 
 // A verdict in words, with its number; of a bad byte's offset also whether it is what it is defined to be.

@@ -2,99 +2,95 @@
 -- way through the loop is one law of `Walking`. It ends, since each head takes it on and each level it leaves is one less.
 use Prim.Native.Nat.{ℕ, ◌+◌, ◌-◌, ◌^◌, ◌≤◌, ◌<◌}
 use mathlib.Core.List.{List}
-use mathlib.Core.Path.{◌≡◌, sym, ◌∙◌}
+use mathlib.Core.Path.{◌≡◌, sym, ap, ◌∙◌}
+use Rattle.std.specs.Prelude.{Some}
 use native.Mathlib.Omega.{arith}
 use lib.ListN.{length}
-use Rattle.ring.specs.Inside.{around}
-use Rattle.ring.proofs.Around.{around_length}
+use Rattle.ring.specs.View.{seen}
+use Rattle.ring.proofs.Views.{seen_length}
 use Rattle.moves.specs.Inside.Moves.{Stays, Downs, Skips}
 use Rattle.usual.proofs.Pieces.{pieces_none, pieces_later}
 use Rattle.usual.proofs.UsualMoves.{if_past, if_asks, if_opens, if_ends}
 use Rattle.cbor.proofs.Walking.{if_stay, if_down, if_skip, begins, stays, downs, pops, whole, faults, lacks, skips}
 use Rattle.cbor.proofs.advance.Goals as goal
-use Rattle.cbor.proofs.advance.Goals.{then-count-eq0+else-kind-eq-ITEMS, else-count-eq0+then-at-z+in-Ends+else-breaks, else-count-eq0+then-at-z+in-Unusual, else-count-eq0+else-at-z}
-use Rattle.cbor.proofs.advance.Goals.{At-loop-count, In-Asks, In-Down, In-Opens, In-Past, In-Skip, In-Stay, Then-breaks}
+use Rattle.cbor.proofs.advance.Goals.{then-count-eq0+else-kind-eq-ITEMS, else-count-eq0+then-at-z+in-Some-Ends+else-breaks, else-count-eq0+then-at-z+in-None, else-count-eq0+else-at-z}
+use Rattle.cbor.proofs.advance.Goals.{At-loop-count, In-Some-Asks, In-Down, In-Some-Opens, In-Some-Past, In-Skip, In-Stay, Then-breaks}
 
 -- at the loop's head: the bytes, the numbers of the walk, and a place of the piece
 abbrev Loop : Type 0
 Loop = At-loop-count
 
 abbrev bytes : Loop → List ℕ
-bytes o = let a = o.args in around a.s.now a.from a.n
+bytes o = let a = o.args in seen a.v
 
 sizes : (o : Loop)
     → (o.loop-count.heads ≤ o.loop-count.at) × (o.loop-count.depth ≤ 17) × (length o.loop-count.kinds ≡ 17) × (length o.loop-count.counts ≡ 17)
-    × (length (bytes o) ≡ o.args.n)
+    × (length (bytes o) ≡ o.args.v.len)
 sizes o = let u = o.loop-count.invariant.0 in (u.few, u.good.tall, u.outer.kinds_size, u.outer.counts_size, o.loop-count.invariant.2)
 
 spot : (o : Loop) → o.loop-count.at < o.loop-count.z.lim
-    → (o.loop-count.z.minus ≤ o.loop-count.at + o.loop-count.z.plus) × (o.loop-count.at + o.loop-count.z.plus ≤ length o.args.s.now)
+    → (o.loop-count.z.minus ≤ o.loop-count.at + o.loop-count.z.plus) × (o.loop-count.at + o.loop-count.z.plus ≤ length o.args.v.bytes.now)
 spot o h = o.loop-count.invariant.1.low o.loop-count.at (omega arith) h
 
 -- where a usual head was told, and where any head was: what is right to do
-past : (c : In-Past)
+past : (c : In-Some-Past)
     → let o = c in
-    Stays (around o.args.s.now o.args.from o.args.n) o.loop-count.at o.loop-count.kind o.loop-count.count o.loop-count.depth c.in-Past.p
+    Stays (seen o.args.v) o.loop-count.at o.loop-count.kind o.loop-count.count o.loop-count.depth c.in-Some-Past.p
     (record { kind = o.loop-count.kind; count = o.loop-count.count - 1 })
 past c =
     let o = c.loop-count in
-    if_past o.invariant.0.good (omega arith) c.usual-q.ensures c.in-Past.is
+    if_past o.invariant.0.good (omega arith) c.usual.ensures (c.in-Some-Past.is ∙ ap Some c.in-Some-Past.field-0-is)
 
-asked : (c : In-Asks)
+asked : (c : In-Some-Asks)
     → let o = c in
-    Downs (around o.args.s.now o.args.from o.args.n) o.loop-count.at o.loop-count.kind o.loop-count.count o.loop-count.depth c.in-Asks.p
-    (record { kind = o.loop-count.kind; count = o.loop-count.count - 1 }) (record { kind = 0; count = c.in-Asks.c })
+    Downs (seen o.args.v) o.loop-count.at o.loop-count.kind o.loop-count.count o.loop-count.depth c.in-Some-Asks.p
+    (record { kind = o.loop-count.kind; count = o.loop-count.count - 1 }) (record { kind = 0; count = c.in-Some-Asks.c })
 asked c =
     let o = c.loop-count in
-    if_asks o.invariant.0.good (omega arith) c.usual-q.ensures c.in-Asks.is
+    if_asks o.invariant.0.good (omega arith) c.usual.ensures (c.in-Some-Asks.is ∙ ap Some c.in-Some-Asks.field-0-is)
 
-opened : (c : In-Opens)
+opened : (c : In-Some-Opens)
     → let o = c in
-    Downs (around o.args.s.now o.args.from o.args.n) o.loop-count.at o.loop-count.kind o.loop-count.count o.loop-count.depth c.in-Opens.p
-    (record { kind = o.loop-count.kind; count = o.loop-count.count - 1 }) (record { kind = c.in-Opens.k; count = 2 ^ 63 })
+    Downs (seen o.args.v) o.loop-count.at o.loop-count.kind o.loop-count.count o.loop-count.depth c.in-Some-Opens.p
+    (record { kind = o.loop-count.kind; count = o.loop-count.count - 1 }) (record { kind = c.in-Some-Opens.k; count = 2 ^ 63 })
 opened c =
     let o = c.loop-count in
-    if_opens o.invariant.0.good (omega arith) c.usual-q.ensures c.in-Opens.is
+    if_opens o.invariant.0.good (omega arith) c.usual.ensures (c.in-Some-Opens.is ∙ ap Some c.in-Some-Opens.field-0-is)
 
 ended : (c : Then-breaks)
     → let o = c in
-    Stays (around o.args.s.now o.args.from o.args.n) o.loop-count.at o.loop-count.kind o.loop-count.count o.loop-count.depth c.in-Ends.p
+    Stays (seen o.args.v) o.loop-count.at o.loop-count.kind o.loop-count.count o.loop-count.depth c.in-Some-Ends.p
     (record { kind = 0; count = 0 })
 ended c =
     let o = c.loop-count in
-    if_ends o.invariant.0.good (omega arith) c.usual-q.ensures c.in-Ends.is
+    if_ends o.invariant.0.good (omega arith) c.usual.ensures (c.in-Some-Ends.is ∙ ap Some c.in-Some-Ends.field-0-is)
     (sym c.breaks.ensures ∙ c.if-breaks.true)
 
 stayed : (c : In-Stay)
     → let o = c in
-    Stays (around o.args.s.now o.args.from o.args.n) o.loop-count.at o.loop-count.kind o.loop-count.count o.loop-count.depth c.in-Stay.p c.in-Stay.l
-stayed c = if_stay c.any-m.ensures c.in-Stay.is
+    Stays (seen o.args.v) o.loop-count.at o.loop-count.kind o.loop-count.count o.loop-count.depth c.in-Stay.p c.in-Stay.l
+stayed c = if_stay c.any.ensures c.in-Stay.is
 
 down : (c : In-Down)
     → let o = c in
-    Downs (around o.args.s.now o.args.from o.args.n) o.loop-count.at o.loop-count.kind o.loop-count.count o.loop-count.depth c.in-Down.p c.in-Down.l c.in-Down.i
-down c = if_down c.any-m.ensures c.in-Down.is
+    Downs (seen o.args.v) o.loop-count.at o.loop-count.kind o.loop-count.count o.loop-count.depth c.in-Down.p c.in-Down.l c.in-Down.i
+down c = if_down c.any.ensures c.in-Down.is
 
 skipped : (c : In-Skip)
     → let o = c in
-    Skips (around o.args.s.now o.args.from o.args.n) o.loop-count.at o.loop-count.kind o.loop-count.count o.loop-count.depth c.in-Skip.v c.in-Skip.l
-skipped c = if_skip c.any-m.ensures c.in-Skip.is
+    Skips (seen o.args.v) o.loop-count.at o.loop-count.kind o.loop-count.count o.loop-count.depth c.in-Skip.skip c.in-Skip.l
+skipped c = if_skip c.any.ensures c.in-Skip.is
 
 pub loop-count-init : goal.loop-count-init
 loop-count-init c =
     let a = c.args in
     let p = c.requires in
-    let len = around_length a.s.now a.from a.n p.1 in (
-      begins (around a.s.now a.from a.n) a.at a.heads a.kind a.count a.depth a.kinds.now a.counts.now p.3
-          (omega arith),
-      pieces_none (length a.s.now) a.from a.n a.at,
-      len,
-    )
+    let len = seen_length a.v in
+    (begins (seen a.v) a.at a.heads a.level.kind a.level.count a.depth a.kinds.now a.counts.now p.1 (omega arith), pieces_none (length a.v.bytes.now) a.v.from a.v.len a.at, len)
 
 pub returns-then-depth-eq0 : goal.returns-then-depth-eq0
 returns-then-depth-eq0 c =
     let o = c.loop-count in
-    rw c.stopped.ensures
     (whole o.invariant.0 c.if-kind-eq-ITEMS.true c.if-count-eq0.true c.if-depth-eq0.true)
 
 pub loop-count-preserved-then-kind-eq-ITEMS : goal.loop-count-preserved-then-kind-eq-ITEMS
@@ -102,47 +98,31 @@ loop-count-preserved-then-kind-eq-ITEMS c =
     let o = c.loop-count in
     (pops o.invariant.0 c.if-kind-eq-ITEMS.true c.if-count-eq0.true (omega arith), o.invariant.1, o.invariant.2)
 
-pub usual-q-requires : goal.usual-q-requires
-usual-q-requires c =
-    let o = c in
-    let p = o.requires in
-    (p.0, p.1, o.loop-count.invariant.1.spot o.loop-count.at (omega arith) c.if-at-z.true)
+pub usual-requires : goal.usual-requires
+usual-requires c = let o = c.loop-count in o.invariant.1.spot o.at (omega arith) c.if-at-z.true
 
-pub loop-count-preserved-in-Past : goal.loop-count-preserved-in-Past
-loop-count-preserved-in-Past c =
+pub loop-count-preserved-in-Some-Past : goal.loop-count-preserved-in-Some-Past
+loop-count-preserved-in-Some-Past c =
     let o = c.loop-count in
-    (stays o.invariant.0 (past (goal.at.loop-count-preserved-in-Past c).In-Past), pieces_later c.in-Past.p (omega (arith, (past (goal.at.loop-count-preserved-in-Past c).In-Past).on)) o.invariant.1, o.invariant.2)
+    (stays o.invariant.0 (past (goal.at.loop-count-preserved-in-Some-Past c).In-Some-Past), pieces_later c.in-Some-Past.p (omega (arith, (past (goal.at.loop-count-preserved-in-Some-Past c).In-Some-Past).on)) o.invariant.1, o.invariant.2)
 
-pub loop-count-preserved-in-Asks : goal.loop-count-preserved-in-Asks
-loop-count-preserved-in-Asks c =
+pub loop-count-preserved-in-Some-Asks : goal.loop-count-preserved-in-Some-Asks
+loop-count-preserved-in-Some-Asks c =
     let o = c.loop-count in
-    (downs o.invariant.0 (asked (goal.at.loop-count-preserved-in-Asks c).In-Asks), pieces_later c.in-Asks.p (omega (arith, (asked (goal.at.loop-count-preserved-in-Asks c).In-Asks).on)) o.invariant.1, o.invariant.2)
+    (downs o.invariant.0 (asked (goal.at.loop-count-preserved-in-Some-Asks c).In-Some-Asks), pieces_later c.in-Some-Asks.p (omega (arith, (asked (goal.at.loop-count-preserved-in-Some-Asks c).In-Some-Asks).on)) o.invariant.1, o.invariant.2)
 
-pub loop-count-preserved-in-Opens : goal.loop-count-preserved-in-Opens
-loop-count-preserved-in-Opens c =
+pub loop-count-preserved-in-Some-Opens : goal.loop-count-preserved-in-Some-Opens
+loop-count-preserved-in-Some-Opens c =
     let o = c.loop-count in
-    (downs o.invariant.0 (opened (goal.at.loop-count-preserved-in-Opens c).In-Opens), pieces_later c.in-Opens.p (omega (arith, (opened (goal.at.loop-count-preserved-in-Opens c).In-Opens).on)) o.invariant.1, o.invariant.2)
+    (downs o.invariant.0 (opened (goal.at.loop-count-preserved-in-Some-Opens c).In-Some-Opens), pieces_later c.in-Some-Opens.p (omega (arith, (opened (goal.at.loop-count-preserved-in-Some-Opens c).In-Some-Opens).on)) o.invariant.1, o.invariant.2)
 
 pub loop-count-preserved-then-breaks : goal.loop-count-preserved-then-breaks
 loop-count-preserved-then-breaks c =
     let o = c.loop-count in
-    (stays o.invariant.0 (ended (goal.at.loop-count-preserved-then-breaks c).Then-breaks), pieces_later c.in-Ends.p (omega (arith, (ended (goal.at.loop-count-preserved-then-breaks c).Then-breaks).on)) o.invariant.1, o.invariant.2)
+    (stays o.invariant.0 (ended (goal.at.loop-count-preserved-then-breaks c).Then-breaks), pieces_later c.in-Some-Ends.p (omega (arith, (ended (goal.at.loop-count-preserved-then-breaks c).Then-breaks).on)) o.invariant.1, o.invariant.2)
 
-pub any-m-requires : goal.any-m-requires
-any-m-requires c =
-    let p = c.requires in
-    let o = c.loop-count in (
-      p.0,
-      p.1,
-      omega (arith, o.invariant.2, o.invariant.0.place),
-      o.invariant.0.good,
-      elim c.if-count-eq0.branch [
-        | then-count-eq0+else-kind-eq-ITEMS w ↦ omega arith
-        | else-count-eq0+then-at-z+in-Ends+else-breaks w ↦ omega arith
-        | else-count-eq0+then-at-z+in-Unusual w ↦ omega arith
-        | else-count-eq0+else-at-z w ↦ omega arith
-      ],
-    )
+pub any-requires : goal.any-requires
+any-requires c = let o = c.loop-count in omega (arith, o.invariant.2, o.invariant.0.place)
 
 pub loop-count-preserved-in-Stay : goal.loop-count-preserved-in-Stay
 loop-count-preserved-in-Stay c =
@@ -158,26 +138,20 @@ loop-count-preserved c =
 
 pub returns-in-Skip : goal.returns-in-Skip
 returns-in-Skip c =
-    let o = c.loop-count in rw c.stopped-in-Skip.ensures (skips o.invariant.0 o.invariant.2 (skipped (goal.at.returns-in-Skip c).In-Skip))
+    let o = c.loop-count in (skips o.invariant.0 o.invariant.2 (skipped (goal.at.returns-in-Skip c).In-Skip))
 
 pub returns-in-Fault : goal.returns-in-Fault
 returns-in-Fault c =
     let o = c.loop-count in
-    rw c.stopped-in-Fault.ensures (faults o.invariant.0 c.in-Fault.is c.any-m.ensures)
+    (faults o.invariant.0 c.in-Fault.is c.any.ensures)
 
 pub returns-in-Lack : goal.returns-in-Lack
 returns-in-Lack c =
     let o = c.loop-count in
-    rw c.stopped-in-Lack.ensures (lacks o.invariant.0 c.in-Lack.is c.any-m.ensures)
+    (lacks o.invariant.0 c.in-Lack.is c.any.ensures)
 
 pub bounds-kinds-depth : goal.bounds-kinds-depth
 bounds-kinds-depth c = omega (arith, sizes (goal.at.bounds-kinds-depth c).At-loop-count)
-
-pub offset_bounds-counts-depth : goal.offset_bounds-counts-depth
-offset_bounds-counts-depth c = omega (arith, sizes (goal.at.offset_bounds-counts-depth c).At-loop-count)
-
-pub bounds-counts-depth : goal.bounds-counts-depth
-bounds-counts-depth c = omega (arith, sizes (goal.at.bounds-counts-depth c).At-loop-count)
 
 pub overflow_add-at : goal.overflow_add-at
 overflow_add-at c = omega (arith, spot (goal.at.overflow_add-at c).At-loop-count c.if-at-z.true)
@@ -186,55 +160,40 @@ pub overflow_sub-at : goal.overflow_sub-at
 overflow_sub-at c = omega (arith, spot (goal.at.overflow_sub-at c).At-loop-count c.if-at-z.true)
 
 pub overflow_add-heads : goal.overflow_add-heads
-overflow_add-heads c = omega (arith, past (goal.at.overflow_add-heads c).In-Past, sizes (goal.at.overflow_add-heads c).At-loop-count)
+overflow_add-heads c = omega (arith, past (goal.at.overflow_add-heads c).In-Some-Past, sizes (goal.at.overflow_add-heads c).At-loop-count)
 
-pub loop-count-smaller-in-Past : goal.loop-count-smaller-in-Past
-loop-count-smaller-in-Past c = omega (arith, past (goal.at.loop-count-smaller-in-Past c).In-Past, sizes (goal.at.loop-count-smaller-in-Past c).At-loop-count)
+pub loop-count-smaller-in-Some-Past : goal.loop-count-smaller-in-Some-Past
+loop-count-smaller-in-Some-Past c = omega (arith, past (goal.at.loop-count-smaller-in-Some-Past c).In-Some-Past, sizes (goal.at.loop-count-smaller-in-Some-Past c).At-loop-count)
 
-pub bounds-kinds-depth-in-Asks : goal.bounds-kinds-depth-in-Asks
-bounds-kinds-depth-in-Asks c = omega (arith, asked (goal.at.bounds-kinds-depth-in-Asks c).In-Asks, sizes (goal.at.bounds-kinds-depth-in-Asks c).At-loop-count)
-
-pub offset_bounds-counts-depth-in-Asks : goal.offset_bounds-counts-depth-in-Asks
-offset_bounds-counts-depth-in-Asks c = omega (arith, asked (goal.at.offset_bounds-counts-depth-in-Asks c).In-Asks, sizes (goal.at.offset_bounds-counts-depth-in-Asks c).At-loop-count)
-
-pub bounds-counts-depth-in-Asks : goal.bounds-counts-depth-in-Asks
-bounds-counts-depth-in-Asks c = omega (arith, asked (goal.at.bounds-counts-depth-in-Asks c).In-Asks, sizes (goal.at.bounds-counts-depth-in-Asks c).At-loop-count)
+pub bounds-kinds-depth-in-Some-Asks : goal.bounds-kinds-depth-in-Some-Asks
+bounds-kinds-depth-in-Some-Asks c = omega (arith, asked (goal.at.bounds-kinds-depth-in-Some-Asks c).In-Some-Asks, sizes (goal.at.bounds-kinds-depth-in-Some-Asks c).At-loop-count)
 
 pub overflow_add-depth : goal.overflow_add-depth
-overflow_add-depth c = omega (arith, asked (goal.at.overflow_add-depth c).In-Asks, sizes (goal.at.overflow_add-depth c).At-loop-count)
+overflow_add-depth c = omega (arith, asked (goal.at.overflow_add-depth c).In-Some-Asks, sizes (goal.at.overflow_add-depth c).At-loop-count)
 
-pub overflow_add-heads-in-Asks : goal.overflow_add-heads-in-Asks
-overflow_add-heads-in-Asks c = omega (arith, asked (goal.at.overflow_add-heads-in-Asks c).In-Asks, sizes (goal.at.overflow_add-heads-in-Asks c).At-loop-count)
+pub overflow_add-heads-in-Some-Asks : goal.overflow_add-heads-in-Some-Asks
+overflow_add-heads-in-Some-Asks c = omega (arith, asked (goal.at.overflow_add-heads-in-Some-Asks c).In-Some-Asks, sizes (goal.at.overflow_add-heads-in-Some-Asks c).At-loop-count)
 
-pub loop-count-smaller-in-Asks : goal.loop-count-smaller-in-Asks
-loop-count-smaller-in-Asks c = omega (arith, asked (goal.at.loop-count-smaller-in-Asks c).In-Asks, sizes (goal.at.loop-count-smaller-in-Asks c).At-loop-count)
+pub loop-count-smaller-in-Some-Asks : goal.loop-count-smaller-in-Some-Asks
+loop-count-smaller-in-Some-Asks c = omega (arith, asked (goal.at.loop-count-smaller-in-Some-Asks c).In-Some-Asks, sizes (goal.at.loop-count-smaller-in-Some-Asks c).At-loop-count)
 
-pub bounds-kinds-depth-in-Opens : goal.bounds-kinds-depth-in-Opens
-bounds-kinds-depth-in-Opens c = omega (arith, opened (goal.at.bounds-kinds-depth-in-Opens c).In-Opens, sizes (goal.at.bounds-kinds-depth-in-Opens c).At-loop-count)
+pub bounds-kinds-depth-in-Some-Opens : goal.bounds-kinds-depth-in-Some-Opens
+bounds-kinds-depth-in-Some-Opens c = omega (arith, opened (goal.at.bounds-kinds-depth-in-Some-Opens c).In-Some-Opens, sizes (goal.at.bounds-kinds-depth-in-Some-Opens c).At-loop-count)
 
-pub offset_bounds-counts-depth-in-Opens : goal.offset_bounds-counts-depth-in-Opens
-offset_bounds-counts-depth-in-Opens c = omega (arith, opened (goal.at.offset_bounds-counts-depth-in-Opens c).In-Opens, sizes (goal.at.offset_bounds-counts-depth-in-Opens c).At-loop-count)
+pub overflow_add-depth-in-Some-Opens : goal.overflow_add-depth-in-Some-Opens
+overflow_add-depth-in-Some-Opens c = omega (arith, opened (goal.at.overflow_add-depth-in-Some-Opens c).In-Some-Opens, sizes (goal.at.overflow_add-depth-in-Some-Opens c).At-loop-count)
 
-pub bounds-counts-depth-in-Opens : goal.bounds-counts-depth-in-Opens
-bounds-counts-depth-in-Opens c = omega (arith, opened (goal.at.bounds-counts-depth-in-Opens c).In-Opens, sizes (goal.at.bounds-counts-depth-in-Opens c).At-loop-count)
+pub overflow_add-heads-in-Some-Opens : goal.overflow_add-heads-in-Some-Opens
+overflow_add-heads-in-Some-Opens c = omega (arith, opened (goal.at.overflow_add-heads-in-Some-Opens c).In-Some-Opens, sizes (goal.at.overflow_add-heads-in-Some-Opens c).At-loop-count)
 
-pub overflow_add-depth-in-Opens : goal.overflow_add-depth-in-Opens
-overflow_add-depth-in-Opens c = omega (arith, opened (goal.at.overflow_add-depth-in-Opens c).In-Opens, sizes (goal.at.overflow_add-depth-in-Opens c).At-loop-count)
-
-pub overflow_add-heads-in-Opens : goal.overflow_add-heads-in-Opens
-overflow_add-heads-in-Opens c = omega (arith, opened (goal.at.overflow_add-heads-in-Opens c).In-Opens, sizes (goal.at.overflow_add-heads-in-Opens c).At-loop-count)
-
-pub loop-count-smaller-in-Opens : goal.loop-count-smaller-in-Opens
-loop-count-smaller-in-Opens c = omega (arith, opened (goal.at.loop-count-smaller-in-Opens c).In-Opens, sizes (goal.at.loop-count-smaller-in-Opens c).At-loop-count)
+pub loop-count-smaller-in-Some-Opens : goal.loop-count-smaller-in-Some-Opens
+loop-count-smaller-in-Some-Opens c = omega (arith, opened (goal.at.loop-count-smaller-in-Some-Opens c).In-Some-Opens, sizes (goal.at.loop-count-smaller-in-Some-Opens c).At-loop-count)
 
 pub overflow_add-heads-then-breaks : goal.overflow_add-heads-then-breaks
 overflow_add-heads-then-breaks c = omega (arith, ended (goal.at.overflow_add-heads-then-breaks c).Then-breaks, sizes (goal.at.overflow_add-heads-then-breaks c).At-loop-count)
 
 pub loop-count-smaller-then-breaks : goal.loop-count-smaller-then-breaks
 loop-count-smaller-then-breaks c = omega (arith, ended (goal.at.loop-count-smaller-then-breaks c).Then-breaks, sizes (goal.at.loop-count-smaller-then-breaks c).At-loop-count)
-
-pub piece_of-z-requires : goal.piece_of-z-requires
-piece_of-z-requires c = let p = c.requires in (p.0, p.1)
 
 pub overflow_add-heads-in-Stay : goal.overflow_add-heads-in-Stay
 overflow_add-heads-in-Stay c = omega (arith, stayed (goal.at.overflow_add-heads-in-Stay c).In-Stay, sizes (goal.at.overflow_add-heads-in-Stay c).At-loop-count)
@@ -245,12 +204,6 @@ loop-count-smaller-in-Stay c = omega (arith, stayed (goal.at.loop-count-smaller-
 pub bounds-kinds-depth-in-Down : goal.bounds-kinds-depth-in-Down
 bounds-kinds-depth-in-Down c = omega (arith, down (goal.at.bounds-kinds-depth-in-Down c).In-Down, sizes (goal.at.bounds-kinds-depth-in-Down c).At-loop-count)
 
-pub offset_bounds-counts-depth-in-Down : goal.offset_bounds-counts-depth-in-Down
-offset_bounds-counts-depth-in-Down c = omega (arith, down (goal.at.offset_bounds-counts-depth-in-Down c).In-Down, sizes (goal.at.offset_bounds-counts-depth-in-Down c).At-loop-count)
-
-pub bounds-counts-depth-in-Down : goal.bounds-counts-depth-in-Down
-bounds-counts-depth-in-Down c = omega (arith, down (goal.at.bounds-counts-depth-in-Down c).In-Down, sizes (goal.at.bounds-counts-depth-in-Down c).At-loop-count)
-
 pub overflow_add-depth-in-Down : goal.overflow_add-depth-in-Down
 overflow_add-depth-in-Down c = omega (arith, down (goal.at.overflow_add-depth-in-Down c).In-Down, sizes (goal.at.overflow_add-depth-in-Down c).At-loop-count)
 
@@ -260,5 +213,26 @@ overflow_add-heads-in-Down c = omega (arith, down (goal.at.overflow_add-heads-in
 pub loop-count-smaller : goal.loop-count-smaller
 loop-count-smaller c = omega (arith, down (goal.at.loop-count-smaller c).In-Down, sizes (goal.at.loop-count-smaller c).At-loop-count)
 
-pub overflow_add-heads-in-Skip : goal.overflow_add-heads-in-Skip
-overflow_add-heads-in-Skip c = omega (arith, skipped (goal.at.overflow_add-heads-in-Skip c).In-Skip, sizes (goal.at.overflow_add-heads-in-Skip c).At-loop-count)
+pub offset_bounds-counts-depth : goal.offset_bounds-counts-depth
+offset_bounds-counts-depth c = omega (arith, sizes (goal.at.offset_bounds-counts-depth c).At-loop-count)
+
+pub bounds-counts-depth : goal.bounds-counts-depth
+bounds-counts-depth c = omega (arith, sizes (goal.at.bounds-counts-depth c).At-loop-count)
+
+pub offset_bounds-counts-depth-in-Some-Asks : goal.offset_bounds-counts-depth-in-Some-Asks
+offset_bounds-counts-depth-in-Some-Asks c = omega (arith, asked (goal.at.offset_bounds-counts-depth-in-Some-Asks c).In-Some-Asks, sizes (goal.at.offset_bounds-counts-depth-in-Some-Asks c).At-loop-count)
+
+pub bounds-counts-depth-in-Some-Asks : goal.bounds-counts-depth-in-Some-Asks
+bounds-counts-depth-in-Some-Asks c = omega (arith, asked (goal.at.bounds-counts-depth-in-Some-Asks c).In-Some-Asks, sizes (goal.at.bounds-counts-depth-in-Some-Asks c).At-loop-count)
+
+pub offset_bounds-counts-depth-in-Some-Opens : goal.offset_bounds-counts-depth-in-Some-Opens
+offset_bounds-counts-depth-in-Some-Opens c = omega (arith, opened (goal.at.offset_bounds-counts-depth-in-Some-Opens c).In-Some-Opens, sizes (goal.at.offset_bounds-counts-depth-in-Some-Opens c).At-loop-count)
+
+pub bounds-counts-depth-in-Some-Opens : goal.bounds-counts-depth-in-Some-Opens
+bounds-counts-depth-in-Some-Opens c = omega (arith, opened (goal.at.bounds-counts-depth-in-Some-Opens c).In-Some-Opens, sizes (goal.at.bounds-counts-depth-in-Some-Opens c).At-loop-count)
+
+pub offset_bounds-counts-depth-in-Down : goal.offset_bounds-counts-depth-in-Down
+offset_bounds-counts-depth-in-Down c = omega (arith, down (goal.at.offset_bounds-counts-depth-in-Down c).In-Down, sizes (goal.at.offset_bounds-counts-depth-in-Down c).At-loop-count)
+
+pub bounds-counts-depth-in-Down : goal.bounds-counts-depth-in-Down
+bounds-counts-depth-in-Down c = omega (arith, down (goal.at.bounds-counts-depth-in-Down c).In-Down, sizes (goal.at.bounds-counts-depth-in-Down c).At-loop-count)

@@ -13,7 +13,7 @@ levels ks cs (suc n) = push (nesting - n) (frame_of (get_or ks n 0) (get_or cs n
 -- What a walk wants: the rest of a string, and then its levels.
 unfoldable pub stack_of : Walk → Stack
 stack_of w =
-    push 0 (Content w.skip) (push (nesting - w.depth) (frame_of w.kind w.count) (levels w.kinds w.counts w.depth))
+    push 0 (Content w.skip) (push (nesting - w.depth) (frame_of w.level.kind w.level.count) (levels w.kinds w.counts w.depth))
 
 -- What a walk comes to on the bytes xs.
 abbrev pub comes : List ℕ → Walk → Verdict × ℕ
@@ -28,7 +28,7 @@ pub record Outer (d : ℕ) (ks cs : List ℕ) : Type 0 where
 -- The numbers of a walk are in range; nothing is said of bytes.
 pub record Sound (w : Walk) : Type 0 where
   pub few : w.heads ≤ w.at
-  pub good : Good w.kind w.count w.depth
+  pub good : Good w.level.kind w.level.count w.depth
   pub outer : Outer w.depth w.kinds w.counts
 
 -- A walk w taken up again on the bytes xs gives the verdict v and the walk u: v is what w comes to, u has counted the
@@ -42,7 +42,7 @@ pub record Resumed (xs : List ℕ) (w : Walk) (v : Verdict) (u : Walk) : Type 0 
 -- A walk by its parts.
 abbrev pub walk_of : ℕ → ℕ → ℕ → ℕ → ℕ → ℕ → List ℕ → List ℕ → Walk
 walk_of at skip heads k c d ks cs =
-    record { at = at; skip = skip; heads = heads; kind = k; count = c; depth = d; kinds = ks; counts = cs }
+    record { at = at; skip = skip; heads = heads; level = record { kind = k; count = c }; depth = d; kinds = ks; counts = cs }
 
 -- The walk that begins at a place, for one item within the nesting d.
 unfoldable pub first_at : ℕ → ℕ → Walk

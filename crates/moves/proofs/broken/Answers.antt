@@ -5,8 +5,8 @@ use Rattle.moves.proofs.broken.Goals as goal
 
 pub returns-then-breaks : goal.returns-then-breaks
 returns-then-breaks c =
-    let a = c.args in λ xs d l g s e. ends xs a.at a.kind a.count d l s g e (sym c.breaks.ensures ∙ c.if-breaks.true)
+    let a = c.args in λ xs d l g s e. ends xs a.at a.level.kind a.level.count d l s g e (sym c.breaks.ensures ∙ c.if-breaks.true)
 
 pub returns : goal.returns
 returns c =
-    let a = c.args in λ xs d l g s e. no_end xs a.at a.kind a.count d l s e (sym c.breaks.ensures ∙ c.if-breaks.false)
+    let a = c.args in λ xs d l g s e. no_end xs a.at a.level.kind a.level.count d l s e (sym c.breaks.ensures ∙ c.if-breaks.false)

@@ -4,26 +4,19 @@ use native.Mathlib.Omega.{arith}
 use Rattle.moves.proofs.AnyHead.{no_chunk, no_room}
 use Rattle.moves.proofs.indefinite.Goals as goal
 
-pub returns-then-kind-ge-BYTES : goal.returns-then-kind-ge-BYTES
-returns-then-kind-ge-BYTES c =
+pub returns-then-w-ge-BYTES : goal.returns-then-w-ge-BYTES
+returns-then-w-ge-BYTES c =
     let a = c.args in
-    let p = c.requires in
-    λ xs l i. no_chunk xs a.at a.kind a.count a.depth l p.2 a.m i c.if-kind-ge-BYTES.true
-
-pub left_of-requires : goal.left_of-requires
-left_of-requires c =
-    let p = c.requires in (p.2, p.1.none)
+    λ xs l i. no_chunk xs a.at a.w.level.kind a.w.level.count a.w.depth l a.w.wants a.m i c.if-w-ge-BYTES.true
 
 pub returns-then-room_for : goal.returns-then-room_for
 returns-then-room_for c =
     let a = c.args in
-    let p = c.requires in
     λ xs l i.
-    c.opened.ensures xs a.kind a.count a.depth l p.1 p.2 (omega arith)
-    (sym c.room_for.ensures ∙ c.if-room_for.true) c.left_of.ensures i
+    c.opened.ensures xs a.w.level.kind a.w.level.count a.w.depth l a.w.good a.w.wants (omega arith)
+    (sym c.room_for.ensures ∙ c.if-room_for.true) c.left.ensures i
 
 pub returns : goal.returns
 returns c =
     let a = c.args in
-    let p = c.requires in
-    λ xs l i. no_room xs a.at a.kind a.count a.depth l p.2 a.m i (omega arith) (sym c.room_for.ensures ∙ c.if-room_for.false)
+    λ xs l i. no_room xs a.at a.w.level.kind a.w.level.count a.w.depth l a.w.wants a.m i (omega arith) (sym c.room_for.ensures ∙ c.if-room_for.false)

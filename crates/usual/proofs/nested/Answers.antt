@@ -15,7 +15,7 @@ returns-then-b-lt-MAPS c =
     let a = c.args in
     let p = c.requires in
     λ xs l e.
-    subst (Enters xs a.at a.depth (a.at + 1) 0) (sym c.wide.ensures.0)
+    subst (Enters xs a.at a.depth (a.at + 1) 0) (sym c.from.ensures)
     (enter_array xs a.at a.depth a.b l e (omega arith) (omega arith) p.1 (omega arith))
 
 pub returns-then-i-lt-ONE_BYTE : goal.returns-then-i-lt-ONE_BYTE
@@ -23,7 +23,7 @@ returns-then-i-lt-ONE_BYTE c =
     let a = c.args in
     let p = c.requires in
     λ xs l e.
-    subst (λ (v : ℕ). Enters xs a.at a.depth (a.at + 1) 0 (v * 2)) (sym c.wide-then-i-lt-ONE_BYTE.ensures.0)
+    subst (λ (v : ℕ). Enters xs a.at a.depth (a.at + 1) 0 (v * 2)) (sym c.from-then-i-lt-ONE_BYTE.ensures)
     (enter_map xs a.at a.depth a.b l e (omega arith) (omega arith) (omega arith) p.2)
 
 pub returns-then-b-eq-OPEN_ARRAY : goal.returns-then-b-eq-OPEN_ARRAY

@@ -27,13 +27,13 @@ pub returns-then-v-n : goal.returns-then-v-n
 returns-then-v-n c =
     let a = c.args in
     let p = c.requires in
-    let w = c.extra.ensures in
+    let w = c.following.ensures in
     let h = c.if-v-n.true in
     λ xs d b e q x i k l.
     let m = width_most a.i in
-    let z : a.at + 1 + c.extra.result ≡ a.at + 1 + following (b % 32) = ap (λ (j : ℕ). a.at + 1 + j) (w ∙ ap following i) in
+    let z : a.at + 1 + c.following.result ≡ a.at + 1 + following (b % 32) = ap (λ (j : ℕ). a.at + 1 + j) (w ∙ ap following i) in
     let v : c.small-v.result ≡ small_of (b % 32) (get_or xs (a.at + 1) 0) = c.small-v.ensures ∙ cc in
-    pass_string xs a.at d b (omega arith) q (a.at + 1 + c.extra.result) c.small-v.result z (omega arith) k l v
+    pass_string xs a.at d b (omega arith) q (a.at + 1 + c.following.result) c.small-v.result z (omega arith) k l v
     (omega arith)
 
 pub returns : goal.returns
