@@ -2,18 +2,18 @@
 -- one is a list; its numbers are below 2^32.
 -- Each holds of every row of the tables, and so of what is found in one.
 -- Assumes nothing.
+use Rattle.std.proofs.lemmas.Option.{none-some}
+use Rattle.std.specs.Prelude.{Option, Some}
 use Prim.Native.Nat.{ℕ, zero, suc, ◌^◌, ◌≤◌}
 use mathlib.Core.Path.{◌≡◌, refl, ap, subst}
 use mathlib.Core.Bool.{Bool, true, cond, ◌&&◌}
 use mathlib.Core.List.{List, [], ◌∷◌}
-use mathlib.Core.Option.{Option, some}
 use lib.Dec.{T, eqb, leb, leb→le}
 use lib.ListN.{length}
 use borrow.Author.Tests.{eqb-true}
 use Rattle.base.proofs.Conds.{cond_cases, and_left, and_right}
 use Rattle.rows.specs.declared.Protocol.{Protocol}
 use Rattle.rows.proofs.ByProtocol.{each_protocol}
-use Rattle.item.proofs.Derivative.{nothing}
 use Rattle.elements.specs.declared.Field.{Field}
 use Rattle.elements.specs.declared.Field.TheVariants as field
 use Rattle.messages.specs.Forms.{Form, forms, form_in, form_of}
@@ -100,11 +100,11 @@ is_few k fs t =
       lists = leb→le (lists_in fs) 1 (and_right (all_low fs) lists w);
     }
 
-few_in : (k : ℕ) (l : List Form) {fs : List Field} → T (all_few l) → form_in k l ≡ some fs → Few k fs
+few_in : (k : ℕ) (l : List Form) {fs : List Field} → T (all_few l) → form_in k l ≡ Some fs → Few k fs
 unfolding all_few form_in
-few_in k [] t = λ e. absurd (nothing e)
+few_in k [] {fs} t = λ e. absurd (none-some fs e)
 few_in k (f ∷ l) {fs} t =
-    cond_cases (λ (o : Option (List Field)). o ≡ some fs → Few k fs) (eqb f.kind k)
+    cond_cases (λ (o : Option (List Field)). o ≡ Some fs → Few k fs) (eqb f.kind k)
     (λ q e.
     let same : f.fields ≡ fs = cc in
     subst (Few k) same
@@ -116,7 +116,7 @@ each_few : (p : Protocol) → T (all_few (forms p))
 unfolding all_few few runs_in lists_in all_low low
 each_few = each_protocol (λ p. all_few (forms p)) tt
 
-pub form_few : (p : Protocol) (kind : ℕ) {fs : List Field} → form_of p kind ≡ some fs → Few kind fs
+pub form_few : (p : Protocol) (kind : ℕ) {fs : List Field} → form_of p kind ≡ Some fs → Few kind fs
 form_few p kind e = few_in kind (forms p) (each_few p) e
 
 -- the fields have as many runs as there are places

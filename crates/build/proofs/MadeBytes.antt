@@ -10,7 +10,6 @@ use lib.ListN.{length}
 use Rattle.base.specs.Numbers.{Bytes}
 use Rattle.base.proofs.Conds.{cond_cases}
 use Rattle.base.proofs.NumberLaws.{bytes_append}
-use mathlib.Core.Option as forms
 use Rattle.head.specs.Write.{shortest}
 use Rattle.head.proofs.WriteLaws.{shortest_bytes}
 use Rattle.rows.specs.declared.Protocol.{Protocol}
@@ -25,7 +24,7 @@ use Rattle.parts.specs.Given.{numeric}
 use Rattle.layout.specs.Asked.{openly}
 use Rattle.parts.specs.Counting.{on_some, count_of}
 use Rattle.parts.proofs.Counting.{Found}
-use Rattle.build.specs.Made.{on_form, headed, limited, of_number, of_run, first_of, all_used, made, encoded}
+use Rattle.build.specs.Made.{headed, limited, of_number, of_run, first_of, all_used, made, encoded}
 
 -- ---- fields
 
@@ -104,7 +103,7 @@ encoded_bytes p kind asked ns rs b = of (form_of p kind)
         bytes_append (shortest array (length fs + 1)) (shortest 0 kind ++ ys) (shortest_bytes array (length fs + 1) (omega arith))
         (bytes_append (shortest 0 kind) ys (shortest_bytes 0 kind (omega arith)) c)
 
-    of : (o : forms.Option (List Field))
-        → Found Bytes (on_form o (λ fs. on_some (made asked fs ns rs) (λ ys. Some (shortest array (length fs + 1) ++ (shortest 0 kind ++ ys)))))
-    of forms.none = tt
-    of (forms.some fs) = whole fs (made asked fs ns rs) (made_bytes asked fs ns rs b)
+    of : (o : Option (List Field))
+        → Found Bytes (on_some o (λ fs. on_some (made asked fs ns rs) (λ ys. Some (shortest array (length fs + 1) ++ (shortest 0 kind ++ ys)))))
+    of None = tt
+    of (Some fs) = whole fs (made asked fs ns rs) (made_bytes asked fs ns rs b)

@@ -4,7 +4,6 @@ use Prim.Native.Nat.{ℕ, suc, ◌≤◌}
 use mathlib.Core.Path.{◌≡◌, refl, sym, ap, subst, ◌∙◌}
 use mathlib.Core.Bool.{Bool, true, false, true≢false}
 use mathlib.Core.List.{List, [], ◌∷◌, ◌++◌}
-use mathlib.Core.Option.{some}
 use Rattle.std.specs.Prelude.{Option, Some, None}
 use Rattle.std.proofs.lemmas.Option.{some_pair_parts}
 use native.Mathlib.Omega.{arith}
@@ -87,7 +86,7 @@ module _ (asked : Bool) (bs : List ℕ) where
       let first : m.first ≡ n.first = (some_pair_parts m.extent n.extent m.first n.first o).1 in
       let u : Definite 0 kind m.second ≡ Definite 0 kind n.second = sym m.named ∙ ap (head_at bs) first ∙ n.named in
       let second : m.second ≡ n.second = cc in
-      let f : some m.fields ≡ some n.fields = sym m.form ∙ n.form in
+      let f : Some m.fields ≡ Some n.fields = sym m.form ∙ n.form in
       let fields : m.fields ≡ n.fields = cc in (
         subst array_heads o a,
         (

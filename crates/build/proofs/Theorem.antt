@@ -8,7 +8,6 @@ use mathlib.Core.Bool.{Bool}
 use mathlib.Core.List.{List, [], ◌∷◌, ◌++◌, append_assoc}
 use native.Mathlib.Omega.{arith}
 use lib.ListN.{length, length-append}
-use mathlib.Core.Option as forms
 use Rattle.base.proofs.Conds.{cond_cases}
 use Rattle.head.specs.declared.read.Head.TheVariants.{Definite}
 use Rattle.head.specs.Write.{shortest}
@@ -23,7 +22,7 @@ use Rattle.messages.specs.Besides.Matching.{FieldsAt, no_field, a_field, Matches
 use Rattle.parts.specs.Given.{numeric}
 use Rattle.parts.specs.Counting.{on_some}
 use Rattle.parts.proofs.Counting.{Found, some_cases}
-use Rattle.build.specs.Made.{on_form, of_number, of_run, first_of, all_used, made, encoded}
+use Rattle.build.specs.Made.{of_number, of_run, first_of, all_used, made, encoded}
 use Rattle.build.specs.Besides.Theorem.{numbers_of, runs_of, Slices, FieldsLeast, OwnLeast, ReadsBack}
 use Rattle.build.proofs.Few.{Low, AllLow, Few, form_few}
 use Rattle.build.proofs.Written.{LeastAt, run_there, number_says, run_holds}
@@ -117,7 +116,7 @@ fields_say asked (f ∷ fs) ns rs low fit =
 abbrev Back : Protocol → ℕ → Bool → List ℕ → List (List ℕ) → List ℕ → Type 0
 Back p kind asked ns rs bs = (xs : List Value) × (m : Matches p bs kind xs) × (numbers_of xs ≡ ns) × (runs_of bs xs ≡ rs) × OwnLeast asked m
 
-message_back : (p : Protocol) (kind : ℕ) (asked : Bool) (ns : List ℕ) (rs : List (List ℕ)) (fs : List Field) (ys : List ℕ) → form_of p kind ≡ forms.some fs
+message_back : (p : Protocol) (kind : ℕ) (asked : Bool) (ns : List ℕ) (rs : List (List ℕ)) (fs : List Field) (ys : List ℕ) → form_of p kind ≡ Some fs
     → Say asked fs ns rs ys → Back p kind asked ns rs (shortest array (length fs + 1) ++ (shortest 0 kind ++ ys))
 message_back p kind asked ns rs fs ys form say =
     let h : List ℕ = shortest array (length fs + 1) in
@@ -151,17 +150,16 @@ message_back p kind asked ns rs fs ys form say =
       (run_there [] h (k ++ ys) (length h - 0) (omega arith), (run_there h k ys (length h + length k - length h) (omega arith), fields.1)),
     )
 
--- a form is known, or not
-form_cases : (P : Option (List ℕ) → Type 0) (k : List Field → Option (List ℕ)) (o : forms.Option (List Field)) → P None
-    → ((fs : List Field) → o ≡ forms.some fs → P (k fs)) → P (on_form o k)
-form_cases P k forms.none x f = x
-form_cases P k (forms.some fs) x f = f fs refl
+known : {A : Type 0} (o : Option A) → Found (λ a. o ≡ Some a) o
+known None = tt
+known (Some a) = refl
 
 encoded_back : (p : Protocol) (kind : ℕ) (asked : Bool) (ns : List ℕ) (rs : List (List ℕ)) → Slices rs → Found (Back p kind asked ns rs) (encoded p kind asked ns rs)
 unfolding encoded
 encoded_back p kind asked ns rs fit =
     let P : Option (List ℕ) → Type 0 = Found (Back p kind asked ns rs) in
-    form_cases P (λ fs. on_some (made asked fs ns rs) (λ ys. Some (shortest array (length fs + 1) ++ (shortest 0 kind ++ ys)))) (form_of p kind) tt
+    some_cases P (λ fs. on_some (made asked fs ns rs) (λ ys. Some (shortest array (length fs + 1) ++ (shortest 0 kind ++ ys)))) (form_of p kind)
+    (known (form_of p kind)) tt
     (λ fs e.
     some_cases P (λ ys. Some (shortest array (length fs + 1) ++ (shortest 0 kind ++ ys))) (made asked fs ns rs) (fields_say asked fs ns rs (form_few p kind e).limits fit) tt
     (λ ys say. message_back p kind asked ns rs fs ys e say))

@@ -1,7 +1,6 @@
 -- What build makes of a kind, numbers and runs (document 01, "CBOR"; document 02, K2): own heads as short as can be, runs byte for byte; a list of
 -- definite length, unless the caller asks for indefinite.
 use Rattle.std.specs.Prelude.{ℕ, ◌+◌, Bool, cond, List, [], ◌∷◌, ◌++◌, eqb, ltb, length, Option, Some, None}
-use Rattle.std.proofs.Math.Option as forms
 use Rattle.head.specs.Write.{shortest}
 use Rattle.rows.specs.declared.Protocol.{Protocol}
 use Rattle.elements.specs.declared.Element.{Element}
@@ -59,12 +58,7 @@ made asked (f ∷ fs) ns rs =
     (first_of ns (λ v ns. on_some (of_number f v) (λ xs. on_some (made asked fs ns rs) (λ ys. Some (xs ++ ys)))))
     (first_of rs (λ r rs. on_some (of_run asked f r) (λ xs. on_some (made asked fs ns rs) (λ ys. Some (xs ++ ys)))))
 
--- what is made of a form, if there is one
-abbrev pub on_form : forms.Option (List Field) → (List Field → Option (List ℕ)) → Option (List ℕ)
-on_form forms.none k = None
-on_form (forms.some fs) k = k fs
-
 -- The message: the array, which is definite, its kind, its fields.
 unfoldable pub encoded : Protocol → ℕ → Bool → List ℕ → List (List ℕ) → Option (List ℕ)
 encoded p kind asked ns rs =
-    on_form (form_of p kind) (λ fs. on_some (made asked fs ns rs) (λ ys. Some (shortest array (length fs + 1) ++ (shortest 0 kind ++ ys))))
+    on_some (form_of p kind) (λ fs. on_some (made asked fs ns rs) (λ ys. Some (shortest array (length fs + 1) ++ (shortest 0 kind ++ ys))))

@@ -84,10 +84,8 @@ fn build_kind(
     ensures { told (answer result) buf.new ≡ handed buf.old (bytes_of p kind asked numbers.now runs first.now second.now) }
 {
     let given = Given::of(numbers, runs, first, second).ok_or(Refusal::NoMessage)?;
-    match messages::forms::find(p, kind) {
-        Some(row) => build_form(row, kind, asked, given, buf),
-        None => Err(Refusal::NoMessage),
-    }
+    let row = messages::forms::find(p, kind).ok_or(Refusal::NoMessage)?;
+    build_form(row, kind, asked, given, buf)
 }
 
 // A message of the protocol that an instance of the bundle speaks.

@@ -1,38 +1,34 @@
 -- The fields of a form, read one after the other: what is left of them, where the last element of the array ends, and how many it has.
 -- Assumes nothing.
-use Prim.Native.Nat.{ℕ, zero, suc, ◌+◌, ◌-◌, ◌*◌, ◌≤◌, ◌<◌}
+use Prim.Native.Nat.{ℕ, zero, suc, ◌+◌, ◌-◌, ◌≤◌, ◌<◌}
 use mathlib.Core.Path.{◌≡◌, refl, sym, ap, subst, subst⁻¹, ◌∙◌}
 use mathlib.Core.Bool.{Bool, true, false, cond}
 use mathlib.Core.List.{List, [], ◌∷◌}
-use mathlib.Core.Option.{some}
 use borrow.Author.Tests.{eq-eqb, ne_eqb, eqb-true}
 use native.Mathlib.Omega.{arith}
 use native.Mathlib.Decide.{ℕ_discrete, dec_lt}
 use native.Mathlib.Numerals.{add-one}
-use Rattle.std.specs.Prelude.{Option, Some, None, Result, Ok, Err}
+use Rattle.std.specs.Prelude.{Option, Some, None, Result, Err}
 use lib.Dec.{eqb}
-use lib.ListN.{length, get_or, set, drop}
+use lib.ListN.{length, get_or, drop}
 use lib.Seq.{drop-cons, drop-length}
 use Rattle.item.specs.Grammar.{One, Items, Reads, item}
-use Rattle.item.specs.Verdict.{verdict}
 use Rattle.item.proofs.Theorem.{one_end}
-use Rattle.rows.specs.declared.Protocol.{Protocol}
 use Rattle.elements.specs.declared.Extent.{Extent}
 use Rattle.elements.specs.declared.Extent.TheVariants.{Counted, Open, Rest}
-use Rattle.messages.specs.Forms.{form_of}
-use Rattle.messages.specs.Inside.{form_at, Finds, Begins, Stopped, last_end, has_count}
+use Rattle.messages.specs.Inside.{Begins, Stopped, last_end, has_count}
 use Rattle.elements.specs.declared.Field.{Field}
 use Rattle.elements.specs.declared.Field.TheVariants as field
 use Rattle.elements.specs.declared.Part.{Part}
 use Rattle.elements.specs.declared.Part.TheVariants as part
 use Rattle.messages.specs.declared.Message.{Message}
 use Rattle.messages.specs.declared.Unread.{Unread}
-use Rattle.messages.specs.declared.Unread.TheVariants.{NotArray, UnknownKind, WrongCount, WrongField}
+use Rattle.messages.specs.declared.Unread.TheVariants.{WrongCount, WrongField}
 use Rattle.elements.specs.Besides.Matching.{ItemAt, ItemsAt, UnsignedAt, Opens, FieldAt}
 use Rattle.elements.specs.Matching.{Break, array, in_message}
-use Rattle.messages.specs.Matching.{begun, with_number, with_place}
-use Rattle.elements.specs.Reading.{on_pair, unsigned_at, opens_at, item_end, part_of}
-use Rattle.messages.specs.Reading.{read, with_part, fields_of, counted, numbered_of, count_from, message_of}
+use Rattle.messages.specs.Matching.{begun}
+use Rattle.elements.specs.Reading.{on_pair, unsigned_at, item_end, part_of}
+use Rattle.messages.specs.Reading.{read, with_part, fields_of, counted, count_from}
 use Rattle.elements.proofs.ElementLaws.{Pairwise, unsigned_sound, opens_sound, forward, item_found, item_then, none_at, ahead, no_items, first_item, number_item, item_array, array_elements, item_no_break, Parts, part_sound, field_item}
 use Rattle.elements.proofs.Steps.{pair_then, pair_not}
 use Rattle.messages.proofs.Theorem.{whole_item, open_count}
@@ -196,8 +192,8 @@ module _ (bs : List ℕ) where
         last_told x g (ap (last_end x (c + 1)) long ∙ ap (λ (k : ℕ). last_end x (k + 1) n) (sym is) ∙ sym e ∙ f)
 
   module _ (fs : List Field) (k kind b : ℕ) {t : Bool} (test : t ≡ eqb k (length fs + 1)) where
-    pub count_right : {r : Result Message Unread} → t ≡ true → r ≡ fields_of bs fs 1 b (begun kind) → r ≡ counted bs k kind b (some fs)
+    pub count_right : {r : Result Message Unread} → t ≡ true → r ≡ fields_of bs fs 1 b (begun kind) → r ≡ counted bs k kind b (Some fs)
     count_right e g = g ∙ sym (rw (sym test ∙ e))
 
-    pub count_wrong : t ≡ false → Err WrongCount ≡ counted bs k kind b (some fs)
+    pub count_wrong : t ≡ false → Err WrongCount ≡ counted bs k kind b (Some fs)
     count_wrong e = sym (rw (sym test ∙ e))

@@ -1,10 +1,10 @@
 -- Laws of the table of forms: what a row's columns say, and the search along them.
 -- Assumes nothing.
+use Rattle.std.specs.Prelude.{Option, Some}
 use mathlib.Core.Path.{◌≡◌, refl, sym, ap, ◌∙◌}
 use mathlib.Core.Bool.{Bool, cond, ◌&&◌}
 use mathlib.Core.List.{List, [], ◌∷◌}
 use mathlib.Core.List as lists
-use mathlib.Core.Option.{Option, some}
 use Prim.Native.Nat.{ℕ, ◌<◌, ◌≤◌}
 use lib.Dec.{T, eqb, leb, eqb→eq, leb→le}
 use lib.ListN.{length, get_or}
@@ -91,9 +91,9 @@ module _ (i : ℕ) (h : i < form_count) where
 
 -- the search along the forms
 module _ (k : ℕ) where
-  pub each_form : (f : Form) (fs : List Form) → form_in k (f ∷ fs) ≡ cond (eqb f.kind k) (some f.fields) (form_in k fs)
+  pub each_form : (f : Form) (fs : List Form) → form_in k (f ∷ fs) ≡ cond (eqb f.kind k) (Some f.fields) (form_in k fs)
   unfolding form_in
   each_form f fs = refl
 
   abbrev pub finding : Search Form (Option (List Field))
-  finding = record { past = form 0 []; test = λ f. eqb f.kind k; said = λ f. some f.fields; along = form_in k; each = each_form }
+  finding = record { past = form 0 []; test = λ f. eqb f.kind k; said = λ f. Some f.fields; along = form_in k; each = each_form }

@@ -5,8 +5,6 @@ use Prim.Native.Nat.{ℕ, suc, ◌+◌, ◌*◌, ◌≤◌}
 use mathlib.Core.Path.{◌≡◌, refl, sym, ap, subst, subst⁻¹, ◌∙◌}
 use mathlib.Core.Bool.{true}
 use mathlib.Core.List.{List, [], ◌∷◌}
-use mathlib.Core.Option as maybe
-use mathlib.Core.Option.{none, some}
 use Rattle.std.specs.Prelude.{Option, Some, None, Result, Ok, Err}
 use Rattle.std.proofs.lemmas.Option.{some_pair_parts}
 use native.Mathlib.Omega.{arith}
@@ -30,7 +28,7 @@ use Rattle.elements.specs.declared.Part.{Part}
 use Rattle.elements.specs.declared.Part.TheVariants as part
 use Rattle.messages.specs.declared.Message.{Message}
 use Rattle.messages.specs.declared.Unread.{Unread}
-use Rattle.messages.specs.declared.Unread.TheVariants.{NotArray, UnknownKind, WrongCount, WrongField}
+use Rattle.messages.specs.declared.Unread.TheVariants.{NotArray, WrongField}
 use Rattle.messages.specs.Forms.{form_of}
 use Rattle.elements.specs.Besides.Matching.{Value, number, place, ItemAt, ItemsAt, UnsignedAt, Opens, Closes, FieldAt}
 use Rattle.elements.specs.Matching.{Break, past, array, in_message}
@@ -133,10 +131,10 @@ module _ (bs : List ℕ) where
         (list_item bs element.Item m.extent k m.opens
         (subst (λ (n : ℕ). ItemsAt bs in_message n m.first m.last) z (elements m.named m.matched)) m.closes)
 
-    counted_sound : (x : Extent) (kind a b : ℕ) (n : Message) (w : maybe.Option (List Field)) → form_of p kind ≡ w → ItemAt bs nesting 0 (length bs)
+    counted_sound : (x : Extent) (kind a b : ℕ) (n : Message) (w : Option (List Field)) → form_of p kind ≡ w → ItemAt bs nesting 0 (length bs)
         → Opens bs array 0 x a → UnsignedAt bs a kind b → counted bs (count_from bs x a) kind b w ≡ read n → Says p bs n
-    counted_sound x kind a b n none f i o u = λ e. absurd (unread e)
-    counted_sound x kind a b n (some fs) f i o u =
+    counted_sound x kind a b n None f i o u = λ e. absurd (unread e)
+    counted_sound x kind a b n (Some fs) f i o u =
         cond_cases (λ (y : Result Message Unread). y ≡ read n → Says p bs n) (eqb (count_from bs x a) (length fs + 1))
         (λ t e. of (eqb-true (count_from bs x a) (length fs + 1) t) (fields_sound fs 1 b (begun kind) n e))
         (λ _ e. absurd (unread e))
@@ -221,6 +219,6 @@ one_match p bs kind other xs ys m n =
     let u : head.Definite 0 kind m.second ≡ head.Definite 0 other n.second = sym m.named ∙ ap (head_at bs) a ∙ n.named in
     let k : kind ≡ other = cc in
     let b : n.second ≡ m.second = cc in
-    let f : some n.fields ≡ some m.fields = sym n.form ∙ ap (form_of p) (sym k) ∙ m.form in
+    let f : Some n.fields ≡ Some m.fields = sym n.form ∙ ap (form_of p) (sym k) ∙ m.form in
     let g : n.fields ≡ m.fields = cc in
     (k, fields_one bs m.matched (subst (λ (fs : List Field). FieldsAt bs fs m.second ys n.last) g (subst (λ (q : ℕ). FieldsAt bs n.fields q ys n.last) b n.matched)))

@@ -1,7 +1,6 @@
 -- The forms (document 01, "Messages and transitions"; for K1's protocols document 000, 3.11 and 3.12, as docs/DECISIONS.md reads them): what
 -- stands behind each message number of each protocol.
-use Rattle.std.specs.Prelude.{ℕ, cond, List, [], ◌∷◌, eqb}
-use Rattle.std.proofs.Math.Option.{Option, none, some}
+use Rattle.std.specs.Prelude.{ℕ, cond, List, [], ◌∷◌, eqb, Option, Some, None}
 use Rattle.rows.specs.declared.Protocol.{Protocol}
 use Rattle.rows.specs.declared.Protocol.TheVariants.{Handshake, ChainSync, BlockFetch, TxSubmission, KeepAlive, LocalTxSubmission, LocalStateQuery}
 use Rattle.elements.specs.declared.Element.TheVariants as element
@@ -68,8 +67,8 @@ forms LocalStateQuery =
     ∷ form 9 [] ∷ form 5 [] ∷ form 7 [] ∷ []
 
 unfoldable pub form_in : ℕ → List Form → Option (List Field)
-form_in k [] = none
-form_in k (f ∷ fs) = cond (eqb f.kind k) (some f.fields) (form_in k fs)
+form_in k [] = None
+form_in k (f ∷ fs) = cond (eqb f.kind k) (Some f.fields) (form_in k fs)
 
 -- the fields of a message of a kind, if the protocol has it
 abbrev pub form_of : Protocol → ℕ → Option (List Field)

@@ -1,6 +1,5 @@
 -- What only functions below the operations cite, here and in `build`: how the table of forms is laid out, and how far reading has come.
 use Rattle.std.specs.Prelude.{ℕ, ◌+◌, ◌-◌, ◌*◌, ◌/◌, ◌%◌, ◌<◌, ◌≤◌, ◌≡◌, Bool, cond, false, List, [], ◌∷◌, eqb, ltb, length, get_or, Option, Some, None, Ok}
-use Rattle.std.proofs.Math.Option.{none, some}
 use Rattle.item.specs.Verdict.{verdict}
 use Rattle.rows.specs.declared.Protocol.{Protocol}
 use Rattle.rows.specs.Inside.{table}
@@ -63,8 +62,8 @@ mark_in n j = cond (eqb j 0) (n % 256 / 16) (cond (eqb j 1) (n % 4096 / 256) (n 
 
 -- what a search of the table finds
 abbrev pub Finds : Protocol → ℕ → Option ℕ → Type 0
-Finds p kind (Some i) = (i < form_count) × (form_of p kind ≡ some (form_at i).fields)
-Finds p kind None = form_of p kind ≡ none
+Finds p kind (Some i) = (i < form_count) × (form_of p kind ≡ Some (form_at i).fields)
+Finds p kind None = form_of p kind ≡ None
 
 -- the bytes are one item, an array of this extent, whose first element is the kind, from this place up to the next
 abbrev pub Begins : List ℕ → Extent → ℕ → ℕ → ℕ → Type 0

@@ -1,6 +1,5 @@
 -- What reading a message answers, in phases.
-use Rattle.std.specs.Prelude.{ℕ, ◌+◌, Bool, true, false, cond, List, [], ◌∷◌, eqb, length, get_or, Result, Ok, Err}
-use Rattle.std.proofs.Math.Option.{Option, none, some}
+use Rattle.std.specs.Prelude.{ℕ, ◌+◌, Bool, false, cond, List, [], ◌∷◌, eqb, length, get_or, Result, Ok, Err, Option, Some, None}
 use Rattle.item.specs.Verdict.{verdict, Verdict}
 use Rattle.rows.specs.declared.Protocol.{Protocol}
 use Rattle.rows.specs.declared.Protocol.TheVariants.{Handshake, ChainSync, BlockFetch, TxSubmission, KeepAlive, LocalTxSubmission, LocalStateQuery}
@@ -38,8 +37,8 @@ fields_of bs (f ∷ fs) i p m = on_pair (Err (WrongField i)) (part_of bs f p) (�
 
 -- The count of elements, the kind's own included.
 abbrev pub counted : List ℕ → ℕ → ℕ → ℕ → Option (List Field) → Result Message Unread
-counted bs n kind p none = Err UnknownKind
-counted bs n kind p (some fs) = cond (eqb n (length fs + 1)) (fields_of bs fs 1 p (begun kind)) (Err WrongCount)
+counted bs n kind p None = Err UnknownKind
+counted bs n kind p (Some fs) = cond (eqb n (length fs + 1)) (fields_of bs fs 1 p (begun kind)) (Err WrongCount)
 
 -- The kind, which opens an array of n elements.
 unfoldable pub numbered_of : Protocol → List ℕ → ℕ → ℕ → Result Message Unread

@@ -8,7 +8,6 @@
 pub mod forms;
 
 ghost use Rattle.std.specs.Prelude.{◌≡◌, ℕ, ◌≤◌, ◌<◌, length, Some, Ok};
-ghost use Rattle.std.proofs.Math.Option.{some};
 ghost use Rattle.ring.specs.View.{seen};
 ghost use Rattle.item.specs.Verdict.{verdict};
 ghost use Rattle.elements.specs.Besides.Matching.{ItemsAt};
@@ -176,7 +175,7 @@ fn filled(
 ) -> Result<Message, Unread>
     requires in_bounds { row < form_count }
     requires begins { Begins (seen v) x first kind next }
-    ensures { result ≡ counted (seen v.entry) (count_from (seen v.entry) x first) kind next (some (form_at row).fields) }
+    ensures { result ≡ counted (seen v.entry) (count_from (seen v.entry) x first) kind next (Some (form_at row).fields) }
 {
     let count = forms::fields(row) as u64 + 1;
     let stop = fields(v, row, kind, next, last_end(x, count, v.len));

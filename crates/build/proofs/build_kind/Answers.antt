@@ -13,16 +13,23 @@ returns-in_err-given c =
       kind_not_given a.p a.kind a.asked a.numbers.now a.runs a.first.now a.second.now (let e = none.ok_part in rw e at c.of.ensures),
     )
 
-pub returns-in-Some : goal.returns-in-Some
-returns-in-Some c =
+pub returns-in_err-row : goal.returns-in_err-row
+returns-in_err-row c =
+    let a = c.args in
+    let e = c.in_ok-given.ensures.ok_part in
+    let none = c.in_err-row.ensures in
+    rw (
+      no_message _ _ _ c.from_residual-in_err-row.ensures.1 none.value none.ok_part,
+      kind_unknown a.p a.kind a.asked a.numbers.now a.runs a.first.now a.second.now c.in_ok-given.given (rw e at c.of.ensures) c.find.ensures none.ok_part,
+    )
+
+pub build_form-requires : goal.build_form-requires
+build_form-requires c = let e = c.in_ok-row.ensures.ok_part in (rw e at c.find.ensures).0
+
+pub returns : goal.returns
+returns c =
     let a = c.args in
     let e = c.in_ok-given.ensures.ok_part in
     c.build_form.ensures
     ∙ ap (handed a.buf.now)
-    (kind_known a.p a.kind a.asked a.numbers.now a.runs a.first.now a.second.now c.in_ok-given.given (rw e at c.of.ensures) c.find.ensures c.in-Some.is)
-
-pub returns-in-None : goal.returns-in-None
-returns-in-None c =
-    let a = c.args in
-    let e = c.in_ok-given.ensures.ok_part in
-    rw (kind_unknown a.p a.kind a.asked a.numbers.now a.runs a.first.now a.second.now c.in_ok-given.given (rw e at c.of.ensures) c.find.ensures c.in-None.is)
+    (kind_known a.p a.kind a.asked a.numbers.now a.runs a.first.now a.second.now c.in_ok-given.given (rw e at c.of.ensures) c.find.ensures c.in_ok-row.ensures.ok_part)

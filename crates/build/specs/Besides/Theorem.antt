@@ -1,6 +1,5 @@
 -- Round trips (T9), as statements; the proofs are in proofs/.
 use Rattle.std.specs.Prelude.{ℕ, ◌-◌, ◌≤◌, ◌<◌, ◌^◌, ◌≡◌, Bool, true, false, ◌↔◌, List, [], ◌∷◌, length, Some}
-use Rattle.std.proofs.Math.Option as forms
 use Rattle.base.specs.Numbers.{Bytes}
 use Rattle.ring.specs.Ring.{run}
 use Rattle.head.specs.Write.{shortest}
@@ -167,5 +166,5 @@ NoList (f ∷ fs) = NotList f × NoList fs
 
 abbrev pub Ignored : Type 0
 Ignored =
-    (p : Protocol) (kind : ℕ) (fs : List Field) (ns : List ℕ) (rs : List (List ℕ)) → form_of p kind ≡ forms.some fs → NoList fs
+    (p : Protocol) (kind : ℕ) (fs : List Field) (ns : List ℕ) (rs : List (List ℕ)) → form_of p kind ≡ Some fs → NoList fs
     → encoded p kind true ns rs ≡ encoded p kind false ns rs

@@ -1,5 +1,5 @@
 -- `messages::filled` meets its contract: the fields are read, and where that stopped, it is told whether the array has as many elements as the form.
-use mathlib.Core.Path.{◌≡◌, ◌∙◌}
+use mathlib.Core.Path.{◌≡◌}
 use native.Mathlib.Omega.{arith}
 use lib.ListN.{length}
 use Rattle.ring.specs.View.{seen}
@@ -7,7 +7,6 @@ use Rattle.ring.proofs.Views.{seen_length}
 use Rattle.messages.specs.Reading.{count_from}
 use Rattle.messages.specs.Inside.{form_at}
 use Rattle.messages.proofs.FieldLaws.{kind_item, last_known, count_told, count_right, count_wrong}
-use borrow.Author.Rules.{rules}
 use Rattle.messages.proofs.filled.Goals as goal
 
 pub fields-stop-requires : goal.fields-stop-requires

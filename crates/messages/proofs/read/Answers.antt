@@ -1,22 +1,16 @@
 -- `messages::read` meets its contract: an array that a number opens, of a kind that the protocol has, or why not, as the definition goes by.
 use mathlib.Core.Path.{◌≡◌, refl, sym, ap, subst, ◌∙◌}
-use mathlib.Core.Option.{none, some}
 use Prim.Native.Nat.{ℕ}
 use native.Mathlib.Omega.{arith}
 use borrow.Author.Tests.{eq-eqb}
 use lib.ListN.{length}
-use Rattle.std.specs.Prelude.{Option, Some, None, Result, Ok, Err, ok_or}
+use Rattle.std.specs.Prelude.{Option, Some, None, Ok, Err, ok_or}
 use Rattle.std.proofs.lemmas.Grind.{common_steps}
 use Rattle.ring.specs.View.{seen}
 use Rattle.ring.proofs.Views.{seen_length}
-use Rattle.elements.specs.Matching.{array}
-use Rattle.elements.specs.Reading.{unsigned_at, opens_at}
-use Rattle.messages.specs.declared.Message.{Message}
-use Rattle.messages.specs.declared.Unread.{Unread}
 use Rattle.messages.specs.declared.Unread.TheVariants.{UnknownKind}
-use Rattle.messages.specs.Forms.{form_of}
 use Rattle.messages.specs.Reading.{numbered_of, message_of}
-use Rattle.messages.specs.Inside.{form_at, Finds}
+use Rattle.messages.specs.Inside.{Finds}
 use Rattle.messages.proofs.read.Goals as goal
 
 -- what was there, or not, behind `ok_or`

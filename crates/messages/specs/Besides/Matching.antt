@@ -1,7 +1,6 @@
 -- What it is for bytes to match a form, field by field, and what the message then says. Places are counted from the
 -- message's first byte, which is at place 0.
-use Rattle.std.specs.Prelude.{ℕ, ◌+◌, ◌≡◌, List, [], ◌∷◌, length}
-use Rattle.std.proofs.Math.Option.{some}
+use Rattle.std.specs.Prelude.{ℕ, ◌+◌, ◌≡◌, List, [], ◌∷◌, length, Some}
 use Rattle.elements.specs.declared.Extent.{Extent}
 use Rattle.elements.specs.declared.Field.{Field}
 use Rattle.elements.specs.Besides.Matching.{Value, number, place, UnsignedAt, Opens, Closes, FieldAt}
@@ -25,7 +24,7 @@ pub record Matches (p : Protocol) (bs : List ℕ) (kind : ℕ) (xs : List Value)
   pub first : ℕ
   pub second : ℕ
   pub last : ℕ
-  pub form : form_of p kind ≡ some fields
+  pub form : form_of p kind ≡ Some fields
   pub opens : Opens bs array 0 extent first
   pub named : UnsignedAt bs first kind second
   pub matched : FieldsAt bs fields second xs last

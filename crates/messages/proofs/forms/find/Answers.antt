@@ -1,11 +1,11 @@
 -- `messages::forms::find` meets its contract: the loop's invariant is that the forms from i on are found as all of the protocol's are.
-use Prim.Native.Nat.{◌+◌, ◌<◌}
+use Prim.Native.Nat.{◌<◌}
 use mathlib.Core.Path.{refl, sym, ◌∙◌}
 use native.Mathlib.Omega.{arith}
 use borrow.Author.Tests.{eq-eqb, ne_eqb}
 use Rattle.messages.specs.Forms.{forms, form_in}
 use Rattle.messages.specs.Inside.{marks}
-use Rattle.rows.specs.Inside.{first_in, count_in, entries}
+use Rattle.rows.specs.Inside.{entries}
 use Rattle.rows.proofs.ByProtocol.{ends, begun, onward, found, none_found}
 use Rattle.messages.proofs.FormLaws.{kind_at, finding}
 use Rattle.messages.proofs.forms.find.Goals as goal
