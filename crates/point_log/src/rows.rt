@@ -1,10 +1,9 @@
 // The calls of a log over rows: whatever has records, by their places.
-ghost use Rattle.std.specs.Prelude.{◌≡◌, ◌≤◌, ◌<◌, ℕ, List, true, false, Ok, Err, IfOk, IfErr, OnOk, length, get_or};
+ghost use Rattle.std.specs.Prelude.{◌≡◌, ◌≤◌, ◌<◌, List, true, false, IfOk, IfErr, OnOk, length, get_or};
 ghost use Rattle.points.specs.declared.Point.{Point};
 ghost use Rattle.points.specs.declared.Place.TheVariants.{Block};
 ghost use Rattle.point_log.specs.declared.Refusal.TheVariants.{OutOfRange};
 ghost use Rattle.point_log.specs.Log.{empty, slots_of, rises_to, in_range, place_at, at, upto_of, find_of, back_to, back_of, above, fit_to, fit_of};
-ghost use Rattle.point_log.specs.Inside.{Between};
 
 use crate::{Found, Refusal};
 use points::{Place, Point, read_point};

@@ -4,7 +4,7 @@
 // heads of any width, and the hash is of definite length. A reading asks for exactly one item: anything else is refused.
 #![tactic(auto)]
 
-ghost use Rattle.std.specs.Prelude.{◌≡◌, cond, ◌&&◌, ◌+◌, ◌-◌, ◌≤◌, eqb, leb, length, Some};
+ghost use Rattle.std.specs.Prelude.{◌≡◌, ◌+◌, ◌≤◌, length, Some};
 ghost use Rattle.head.specs.Read.{head_at};
 ghost use Rattle.points.specs.Points.{leads, opening, ending, hash_at, hashed, block_at, broken, point_by, point_at, pair_at, tip_at, whole, point_of, tip_of, number_of};
 
