@@ -10,20 +10,15 @@ use borrow.Author.Tests.{eq-eqb, ne_eqb}
 use Rattle.connection.specs.declared.Connection.{Connection}
 use Rattle.connection.specs.Areas.{starts_past, counts_less}
 use Rattle.judging.specs.declared.Judged.{Judged}
-use Rattle.judging.specs.Judging.{outcome_number, marks}
+use Rattle.judging.specs.Judging.{Judgement, marks}
 use Rattle.hearing.specs.declared.Shown.{Shown}
 use Rattle.hearing.specs.Hearing.{hear_of, shown_by, shut}
-use Rattle.hearing.proofs.NumberLaws.{number_heard}
-use Rattle.dropping.specs.Dropping.{handed, drop_of}
+use Rattle.dropping.specs.Dropping.{handed, by_judged, drop_of}
 
-module _ (c : Connection) (store : List ℕ) (i : ℕ) (j : Judged) (e : j ≡ hear_of c store i) (s : Shown) (f : s ≡ shown_by j) where
-  pub drop_refused : (k : Connection) → s.number ≢ 0 → k ≡ shut c i s.number → record { shown = s; connection = k } ≡ drop_of c store i
-  unfolding drop_of
-  drop_refused k ne g = rw (g, f, ← e, ne_eqb (outcome_number j.outcome) 0 (λ z. ne (number_heard j s f ∙ z)))
-
-  pub drop_done : (k : Connection) → s.number ≡ 0 → k ≡ handed c i j → record { shown = s; connection = k } ≡ drop_of c store i
-  unfolding drop_of
-  drop_done k z g = rw (g, f, ← e, eq-eqb (outcome_number j.outcome) 0 (sym (number_heard j s f) ∙ z))
+-- what is heard decides
+pub drop_by : (c : Connection) (store : List ℕ) (i : ℕ) (k : Judgement) → k ≡ hear_of c store i → by_judged c i k ≡ drop_of c store i
+unfolding drop_of
+drop_by c store i k e = rw e
 
 -- the record put together from its parts
 pub handed_is : (c : Connection) (i : ℕ) (j : Judged) (starts held : List ℕ) (accepted : Bool) → starts ≡ starts_past c.settings.receive c.receiving.starts i j.len

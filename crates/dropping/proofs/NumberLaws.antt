@@ -25,7 +25,7 @@ use Rattle.range.proofs.StoreLaws.{leaves_front}
 use Rattle.range.proofs.RangeLaws.{Ranged, ranged, is_in_range, receives_both}
 use Rattle.judging.specs.declared.Judged.{Judged}
 use Rattle.judging.specs.declared.Outcome.{Outcome}
-use Rattle.judging.specs.Judging.{spoken, outcome_number, unjudged, led}
+use Rattle.judging.specs.Judging.{spoken, Judgement, outcome_number, unjudged, leading, led}
 use Rattle.judging.proofs.HearingLaws.{no_offset}
 use Rattle.judging.proofs.Moving.{moved_ranged, moved_shaped}
 use Rattle.hearing.specs.Hearing.{seen, shown_by, shut}
@@ -36,31 +36,31 @@ use Rattle.hearing.proofs.NumberLaws.{tells, hear_exactly, unshown_number, which
 use Rattle.dropping.specs.declared.Dropped.{Dropped}
 use Rattle.dropping.specs.Dropping.{freed_of, handed, drop_of}
 use Rattle.dropping.specs.Besides.Numbers.{When, refused, done, Exactly, Leaves, LeavesAll, Drops, Frees, WhichByte, Keeps}
-use Rattle.dropping.proofs.DroppingLaws.{drop_refused, drop_done}
+use Rattle.dropping.proofs.DroppingLaws.{drop_by}
 
 module _ (c : Connection) (store : List ℕ) (i : ℕ) where
   -- what a call comes to: without a message, and with one
   pub drop_stays : {o : Outcome} → Unshown c store i o → record { shown = shown_by (unjudged o); connection = shut c i (outcome_number o) } ≡ drop_of c store i
   drop_stays {o} u =
-      drop_refused c store i (unjudged o) (sym ((hear_exactly c store i (unjudged o)).1 (refusal u))) _ refl _ (λ z. omega (arith, unshown_number u)) refl
+      drop_by c store i (unjudged o) (sym ((hear_exactly c store i (unjudged o)).1 (refusal u)))
 
   pub drop_gone : {n next : ℕ} {m : Message} → Found c store i n m next
-      → record { shown = hearing.done n m; connection = handed c i (led n m next) } ≡ drop_of c store i
-  drop_gone {n} {next} {m} f = drop_done c store i (led n m next) (sym ((hear_exactly c store i (led n m next)).1 (message f))) _ refl _ refl refl
+      → record { shown = hearing.done n m; connection = handed c i (leading n m next) } ≡ drop_of c store i
+  drop_gone {n} {next} {m} f = drop_by c store i (led n m next) (sym ((hear_exactly c store i (led n m next)).1 (message f)))
 
   -- these are its ways
   pub data Way : ℕ → Type 0 where
     stays : (o : Outcome) → Unshown c store i o
         → record { shown = shown_by (unjudged o); connection = shut c i (outcome_number o) } ≡ drop_of c store i → Way (outcome_number o)
     gone : (n : ℕ) (m : Message) (next : ℕ) → Found c store i n m next
-        → record { shown = hearing.done n m; connection = handed c i (led n m next) } ≡ drop_of c store i → Way 0
+        → record { shown = hearing.done n m; connection = handed c i (leading n m next) } ≡ drop_of c store i → Way 0
 
   goes : {n : ℕ} → When c store i n → Way n
   goes (refused {o = o} u) = stays o u (drop_stays u)
   goes (done {n = n} {next = next} {m = m} f) = gone n m next f (drop_gone f)
 
   -- one of them holds
-  by_told : {j : Judged} → Tells c store i j → (n : ℕ) × When c store i n
+  by_told : {j : Judgement} → Tells c store i j → (n : ℕ) × When c store i n
   by_told (refusal {o = o} u) = (outcome_number o, refused u)
   by_told (message f) = (0, done f)
 
@@ -89,7 +89,7 @@ module _ (c : Connection) (store : List ℕ) (i : ℕ) where
   -- with 0, what the first bytes held spell
   given : {n : ℕ} → Way n → n ≡ 0
       → (k : ℕ) × (m : Message) × (next : ℕ) × Found c store i k m next
-      × (drop_of c store i ≡ record { shown = hearing.done k m; connection = handed c i (led k m next) })
+      × (drop_of c store i ≡ record { shown = hearing.done k m; connection = handed c i (leading k m next) })
   given (stays o u e) z = absurd (omega (arith, unshown_number u))
   given (gone k m next f e) z = (k, m, next, f, sym e)
 
@@ -131,7 +131,7 @@ pub frees : Frees
 frees c store i s z =
     let (n, m, next, f, e) = drops c store i z in
     let low : i < 9 = (asked c store i f.asked).below in
-    rw e (freed_held c store i (led n m next) (omega (arith, s.receive_starts)) (omega (arith, s.held)) (held_within c store i n f.spells.whole))
+    rw e (freed_held c store i (leading n m next) (omega (arith, s.receive_starts)) (omega (arith, s.held)) (held_within c store i n f.spells.whole))
 
 -- ---- the range
 
@@ -187,7 +187,7 @@ keeps_by c store i s r (gone k m next f e) =
     let h = f.asked.1 in
     let protocol = spoken (seen c store i) in
     rw (← e) (
-      is_in_range (handed c i (led k m next)) (moved_ranged d i m.kind (flag_of protocol m) next h s.states (freed_ranged c s r i h k) f.spells.row),
+      is_in_range (handed c i (leading k m next)) (moved_ranged d i m.kind (flag_of protocol m) next h s.states (freed_ranged c s r i h k) f.spells.row),
       moved_shaped d i m.kind next (freed_shaped c s r i h k),
     )
 

@@ -3,12 +3,14 @@
 // It is the message that look shows. One equation says the answer and the whole next record, on every input.
 #![tactic(auto)]
 
-ghost use Rattle.std.specs.Prelude.{◌≡◌};
-ghost use Rattle.dropping.specs.Dropping.{drop_of};
+ghost use Rattle.std.specs.Prelude.{◌≡◌, ◌+◌, ◌^◌, ◌<◌, ◌≤◌, get_or, Ok, Err};
+ghost use Rattle.wire.specs.Instances.{most};
+ghost use Rattle.dropping.specs.Dropping.{by_judged, drop_of};
 
 use connection::Connection;
 use connection::areas::leave;
-use hearing::{Shown, hear, show, shut};
+use hearing::{Shown, hear, refuse, show, shut};
+use judging::{Judged, Outcome};
 
 // What is said of the message, and the record.
 #[derive(Clone, Copy)]
@@ -17,20 +19,22 @@ pub struct Dropped {
     pub connection: Connection,
 }
 
-// Drops the first message held of an instance: 23, 10, what is heard up to 16, and else its bytes are freed and the state
-// moves.
-pub fn drop(mut c: Connection, store: &[u8], instance: u64) -> Dropped
-    ensures { result ≡ drop_of c store.now instance }
+// Without a message, a fault closes.
+fn refused(c: Connection, instance: u64, outcome: Outcome) -> Dropped
+    ensures { result ≡ by_judged c instance (Err outcome) }
 {
-    let j = hear(&c, store, instance);
-    let shown = show(j);
-    if shown.number != 0 {
-        return Dropped {
-            shown,
-            connection: shut(c, instance, shown.number),
-        };
+    Dropped {
+        shown: refuse(outcome),
+        connection: shut(c, instance, outcome.number()),
     }
-    let i = instance as usize;
+}
+
+// The bytes of a message of instance i are freed, and the state moves.
+fn freed(mut c: Connection, i: usize, j: Judged) -> Dropped
+    requires { (i < most) × (0 < get_or c.settings.receive i 0) × (get_or c.receiving.starts i 0 + j.len < 2 ^ 32)
+        × (j.len ≤ get_or c.receiving.held i 0) }
+    ensures { result ≡ by_judged c i (Ok j) }
+{
     let n = j.len as u64;
     let k = &mut c;
     let r = &mut k.receiving;
@@ -38,7 +42,19 @@ pub fn drop(mut c: Connection, store: &[u8], instance: u64) -> Dropped
     k.talk.states[i] = j.next;
     k.talk.accepted = judging::marks(k.talk.accepted, i, j.message.kind);
     Dropped {
-        shown,
+        shown: show(j),
         connection: c,
+    }
+}
+
+// Drops the first message held of an instance: 23, 10, what is heard up to 16, and else its bytes are freed and the state
+// moves.
+#[tactic(auto, unfolding(crate::specs::Dropping::drop_of))]
+pub fn drop(c: Connection, store: &[u8], instance: u64) -> Dropped
+    ensures { result ≡ drop_of c store.now instance }
+{
+    match hear(&c, store, instance) {
+        Ok(j) => freed(c, instance as usize, j),
+        Err(outcome) => refused(c, instance, outcome),
     }
 }

@@ -27,7 +27,8 @@ use Rattle.range.specs.Besides.Ranges.{InReceive}
 use Rattle.range.proofs.RangeLaws.{Ranged, is_in_range}
 use Rattle.judging.specs.declared.Judged.{Judged}
 use Rattle.judging.specs.declared.Outcome.{Outcome}
-use Rattle.judging.specs.Judging.{View, outcome_number, outcome_offset, unjudged}
+use Rattle.std.specs.Prelude.{Ok}
+use Rattle.judging.specs.Judging.{View, Judgement, outcome_number, outcome_offset, unjudged}
 use Rattle.judging.specs.Besides.Hearing as judging
 use Rattle.judging.specs.Besides.Hearing.{Unheard, Hears}
 use Rattle.judging.proofs.HearingLaws.{hears, heard_exactly, unheard_number, unheard_bad, no_offset}
@@ -44,11 +45,11 @@ module _ (c : Connection) (store : List ℕ) (i : ℕ) where
   count = instances c.settings.party.bundle
 
   -- where a "when" holds, that is heard
-  heard_here : InReceive c store i → {j : Judged} → Hears (seen c store i) j → hear_of c store i ≡ j
+  heard_here : InReceive c store i → {j : Judgement} → Hears (seen c store i) j → hear_of c store i ≡ j
   unfolding hear_of
   heard_here a {j} h = rw (a.0, lt-ltb i count a.1) ((heard_exactly (seen c store i) j).1 h)
 
-  hear_so : {j : Judged} → Tells c store i j → hear_of c store i ≡ j
+  hear_so : {j : Judgement} → Tells c store i j → hear_of c store i ≡ j
   unfolding hear_of
   hear_so (refusal (out_of_range r)) = rw r
   hear_so (refusal (no_instance r h)) = rw (r, le-ltb i count h)
@@ -56,7 +57,7 @@ module _ (c : Connection) (store : List ℕ) (i : ℕ) where
   hear_so (message f) = heard_here f.asked (judging.message f.spells)
 
   -- and one of them holds
-  of_heard : InReceive c store i → {j : Judged} → Hears (seen c store i) j → Tells c store i j
+  of_heard : InReceive c store i → {j : Judgement} → Hears (seen c store i) j → Tells c store i j
   of_heard a (judging.refusal u) = refusal (unheard a u)
   of_heard a (judging.message s) = message (record { asked = a; spells = s })
 
@@ -122,26 +123,24 @@ module _ {c : Connection} {store : List ℕ} {i : ℕ} where
       let first = (which_byte nesting (held_of c store i) (outcome_offset o)).so in
       record { before = λ z. (first (unheard_bad u z)).0; with_it = λ z. (first (unheard_bad u z)).1; else_none = no_offset o }
 
-  told_offset : {j : Judged} → Tells c store i j → Offset (held_of c store i) (shown_by j)
+  told_offset : {j : Judgement} → Tells c store i j → Offset (held_of c store i) (shown_by j)
   told_offset (refusal u) = unshown_offset u
   told_offset (message f) = record { before = λ z. absurd (omega arith); with_it = λ z. absurd (omega arith); else_none = λ q. refl }
 
-  -- with 0, the instance is one of a record in range, and the message is not longer than what is held
-  told_found : {j : Judged} → Tells c store i j → outcome_number j.outcome ≡ 0 → InReceive c store i × (j.len ≤ get_or c.receiving.held i 0)
-  told_found (refusal u) z = absurd (omega (arith, unshown_number u))
-  told_found (message {n = n} f) z = (f.asked, held_within c store i n f.spells.whole)
+  -- with a message, the instance is one of a record in range, and the message is not longer than what is held
+  told_found : {k : Judgement} → Tells c store i k → (j : Judged) → k ≡ Ok j → InReceive c store i × (j.len ≤ get_or c.receiving.held i 0)
+  told_found (refusal u) j e = cc
+  told_found (message {n = n} f) j e =
+      let q : n ≡ j.len = cc in
+      (f.asked, omega (arith, held_within c store i n f.spells.whole))
 
 pub which_byte_heard : WhichByte
 which_byte_heard c store i = told_offset (tells c store i)
 
--- the number that is shown is that of what was heard; where it is 0, the message is in its area
-pub number_heard : (j : Judged) (s : Shown) → s ≡ shown_by j → s.number ≡ outcome_number j.outcome
-number_heard j s f = ap (λ (x : Shown). x.number) f
-
-pub found : (c : Connection) (store : List ℕ) (i : ℕ) (j : Judged) → j ≡ hear_of c store i → (s : Shown) → s ≡ shown_by j → s.number ≡ 0
+-- so the message is in its area
+pub found : (c : Connection) (store : List ℕ) (i : ℕ) (j : Judged) → hear_of c store i ≡ Ok j
     → Held c.settings.receive (length store) i (get_or c.receiving.starts i 0) (get_or c.receiving.held i 0) × (j.len ≤ get_or c.receiving.held i 0)
-found c store i j e s f z =
-    let (a, l) = told_found (subst (Tells c store i) (sym e) (tells c store i)) (sym (number_heard j s f) ∙ z) in (asked c store i a, l)
+found c store i j e = let (a, l) = told_found (tells c store i) j e in (asked c store i a, l)
 
 -- ---- the closing
 

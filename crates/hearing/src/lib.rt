@@ -6,15 +6,15 @@
 // buffer is asked for.
 #![tactic(auto)]
 
-ghost use Rattle.std.specs.Prelude.{◌≡◌, length, get_or};
+ghost use Rattle.std.specs.Prelude.{◌≡◌, length, get_or, Ok, Err};
 ghost use Rattle.range.specs.Besides.Ranges.{InReceive};
 ghost use Rattle.judging.specs.Judging.{heard};
 ghost use Rattle.hearing.specs.Inside.{Held};
 ghost use Rattle.hearing.specs.Hearing.{seen, hear_of, shown_by, shut};
 
-use connection::closings::{close, heard_fault, is_open};
+use connection::closings::{close, heard_fault};
 use connection::{Closing, Connection};
-use judging::{Judged, Outcome, number_of, offset_of, unjudged};
+use judging::{Judged, Outcome};
 use messages::Message;
 use range::receives;
 use wire::instances::count;
@@ -29,15 +29,27 @@ pub struct Shown {
     pub message: Message,
 }
 
-// What an answer says of what was heard.
+// What an answer says of a message.
 pub fn show(j: Judged) -> Shown
-    ensures { result ≡ shown_by j }
+    ensures { result ≡ shown_by (Ok j) }
 {
     Shown {
-        number: number_of(j.outcome),
+        number: 0,
         len: j.len,
-        offset: offset_of(j.outcome),
+        offset: 0,
         message: j.message,
+    }
+}
+
+// What an answer says without one.
+pub fn refuse(outcome: Outcome) -> Shown
+    ensures { result ≡ shown_by (Err outcome) }
+{
+    Shown {
+        number: outcome.number(),
+        len: 0,
+        offset: outcome.offset(),
+        message: messages::begin(0),
     }
 }
 
@@ -55,7 +67,7 @@ pub fn shut(c: Connection, instance: u64, number: u64) -> Connection
 }
 
 // What is heard of instance i, whose bytes held lie around its area.
-fn listen(c: &Connection, store: &[u8], i: usize) -> Judged
+fn listen(c: &Connection, store: &[u8], i: usize) -> Result<Judged, Outcome>
     requires asked { InReceive c.now store.now i }
     requires held { Held c.now.settings.receive (length store.now) i (get_or c.now.receiving.starts i 0) (get_or c.now.receiving.held i 0) }
     ensures { result ≡ heard (seen c.now store.now i) }
@@ -63,27 +75,20 @@ fn listen(c: &Connection, store: &[u8], i: usize) -> Judged
     let caps = &c.settings.receive;
     let base = ring::base_of(caps, i);
     let end = base + caps[i] as usize;
-    judging::heard(
-        c.settings.party,
-        i,
-        c.talk.states[i],
-        c.talk.accepted,
-        !is_open(c.gate),
-        &store[base..end],
-        c.receiving.starts[i] as usize,
-        c.receiving.held[i] as usize,
-    )
+    let start = c.receiving.starts[i] as usize;
+    let held = c.receiving.held[i] as usize;
+    judging::heard(c, i, &store[base..end], start, held)
 }
 
 // What is heard of an instance: 23, 10, and then what `judging::heard` has.
-pub fn hear(c: &Connection, store: &[u8], instance: u64) -> Judged
+pub fn hear(c: &Connection, store: &[u8], instance: u64) -> Result<Judged, Outcome>
     ensures { result ≡ hear_of c.now store.now instance }
 {
     if !receives(c, store.len()) {
-        return unjudged(Outcome::OutOfRange);
+        return Err(Outcome::OutOfRange);
     }
     if count(c.settings.party.bundle) as u64 <= instance {
-        return unjudged(Outcome::NoInstance);
+        return Err(Outcome::NoInstance);
     }
     listen(c, store, instance as usize)
 }

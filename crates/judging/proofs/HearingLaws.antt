@@ -16,16 +16,16 @@ use Rattle.item.specs.Verdict.{verdict, Verdict}
 use Rattle.rows.specs.Rows.{done_of}
 use Rattle.connection.specs.Closings.{bytes_bad}
 use Rattle.judging.specs.declared.Outcome.{Outcome}
-use Rattle.judging.specs.declared.Outcome.TheVariants.{Done, Waiting, OurTurn, Finished, BytesBad, NoMessage, NoRow, AfterDone, NoAccept, Closed, NotOurTurn, OutOfRange, NoInstance, NoRoom}
+use Rattle.judging.specs.declared.Outcome.TheVariants.{Waiting, OurTurn, Finished, BytesBad, NoMessage, NoRow, AfterDone, NoAccept, Closed, NotOurTurn, OutOfRange, NoInstance, NoRoom}
 use Rattle.judging.specs.declared.Judged.{Judged}
-use Rattle.judging.specs.Judging.{View, spoken, ours_now, barred, at_done, outcome_number, outcome_offset, unjudged, led, by_verdict, heard}
+use Rattle.judging.specs.Judging.{View, spoken, ours_now, barred, at_done, outcome_number, outcome_offset, Judgement, unjudged, led, by_verdict, heard}
 use Rattle.judging.specs.Besides.Hearing.{Awaited, Unheard, Hears, refusal, message, HeardExactly}
 use Rattle.judging.specs.Besides.Hearing.{no_accept, finished, past_done, our_turn, waiting, closed, are_bad, not_a_message, no_row}
 use Rattle.judging.proofs.JudgingLaws as judging
 use Rattle.judging.proofs.JudgingLaws.{Judges, judges, judged_so, whole_within}
 
 module _ (v : View) where
-  abbrev by_bytes : Verdict → Judged
+  abbrev by_bytes : Verdict → Judgement
   by_bytes d = by_verdict (spoken v) v.state v.closed v.bytes d
 
   -- ---- where a "when" holds, that is told
@@ -38,7 +38,7 @@ module _ (v : View) where
   unfolding heard
   heard_done b d = rw (b, eq-eqb v.state (done_of (spoken v)) d)
 
-  judged_as : Awaited v → (n : ℕ) → verdict v.bytes ≡ Ok n → {j : Judged} → Judges (spoken v) v.state (take n v.bytes) j → heard v ≡ j
+  judged_as : Awaited v → (n : ℕ) → verdict v.bytes ≡ Ok n → {j : Judgement} → Judges (spoken v) v.state (take n v.bytes) j → heard v ≡ j
   judged_as w n e q = awaited_so w (Ok n) e ∙ judged_so (spoken v) v.state (take n v.bytes) q
 
   unheard_so : {o : Outcome} → Unheard v o → heard v ≡ unjudged o
@@ -57,14 +57,14 @@ module _ (v : View) where
   pub first_long : (n : ℕ) → verdict v.bytes ≡ Ok n → length (take n v.bytes) ≡ n
   first_long n e = length-take-le n v.bytes (whole_within v.bytes n e)
 
-  heard_so : {j : Judged} → Hears v j → heard v ≡ j
+  heard_so : {j : Judgement} → Hears v j → heard v ≡ j
   heard_so (refusal u) = unheard_so u
   heard_so (message {n = n} {next = next} {m = m} s) =
       judged_as s.awaited n s.whole (judging.message m next s.says s.row) ∙ ap (λ (k : ℕ). led k m next) (first_long n s.whole)
 
   -- ---- and one of them holds
 
-  by_judged : Awaited v → (n : ℕ) → verdict v.bytes ≡ Ok n → {j : Judged} → Judges (spoken v) v.state (take n v.bytes) j → Hears v j
+  by_judged : Awaited v → (n : ℕ) → verdict v.bytes ≡ Ok n → {j : Judgement} → Judges (spoken v) v.state (take n v.bytes) j → Hears v j
   by_judged w n e (judging.not_read r q none) = refusal (not_a_message w e q none)
   by_judged w n e (judging.not_led m s x) = refusal (no_row w e s x)
   by_judged w n e (judging.message m next s x) =
@@ -121,7 +121,6 @@ unheard_bad (not_a_message w e q none) z = absurd (omega arith)
 unheard_bad (no_row w e s x) z = absurd (omega arith)
 
 pub no_offset : (o : Outcome) → (outcome_number o ≡ bytes_bad → ⊥) → outcome_offset o ≡ 0
-no_offset Done h = refl
 no_offset Waiting h = refl
 no_offset OurTurn h = refl
 no_offset Finished h = refl
@@ -137,9 +136,9 @@ no_offset NoInstance h = refl
 no_offset NoRoom h = refl
 
 -- what is judged is not longer than the bytes
-pub heard_within : (v : View) → (heard v).len ≤ length v.bytes
-heard_within v = of (hears v)
+pub heard_within : (v : View) (j : Judged) → heard v ≡ Ok j → j.len ≤ length v.bytes
+heard_within v j e = of (subst (Hears v) e (hears v)) refl
   where
-    of : {j : Judged} → Hears v j → j.len ≤ length v.bytes
-    of (refusal u) = omega arith
-    of (message {n = n} s) = whole_within v.bytes n s.whole
+    of : {k : Judgement} → Hears v k → k ≡ Ok j → j.len ≤ length v.bytes
+    of (refusal u) e = cc
+    of (message {n = n} s) e = let q : n ≡ j.len = cc in omega (arith, whole_within v.bytes n s.whole)

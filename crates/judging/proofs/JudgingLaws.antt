@@ -27,8 +27,7 @@ use Rattle.messages.specs.Reading.{message_of, flag_of, wholly}
 use Rattle.messages.specs.Besides.Theorem.{Says}
 use Rattle.messages.proofs.Theorem.{reads_forms}
 use Rattle.judging.specs.declared.Outcome.TheVariants.{NoMessage, NoRow}
-use Rattle.judging.specs.declared.Judged.{Judged}
-use Rattle.judging.specs.Judging.{holds, ours, unjudged, led, by_row, by_reading, judged_of}
+use Rattle.judging.specs.Judging.{holds, ours, Judgement, unjudged, led, by_row, by_reading, judged_of}
 
 -- mode 0 is an initiator's
 pub initiator_mode : (b : Bool) → eqb (mode_from b) 0 ≡ b
@@ -81,7 +80,7 @@ module _ (p : Protocol) (state : ℕ) (bs : List ℕ) where
   -- ---- the ways of judging
 
   -- no message, and why; one without a row; or a message, and where its row leads
-  pub data Judges : Judged → Type 0 where
+  pub data Judges : Judgement → Type 0 where
     not_read : (why : Unread) → message_of p bs ≡ Err why → ((m : Message) → Says p bs m → ⊥) → Judges (unjudged (NoMessage why))
     not_led : (m : Message) → Says p bs m → next_of p state m.kind (flag_of p m) ≡ None → Judges (unjudged NoRow)
     message : (m : Message) (to : ℕ) → Says p bs m → next_of p state m.kind (flag_of p m) ≡ Some to → Judges (led (length bs) m to)
@@ -110,12 +109,12 @@ module _ (p : Protocol) (state : ℕ) (bs : List ℕ) where
   by_row_lem m x s q =
       sym (judged_read m (length bs) (flag_of p m) x (sym ((reads_forms p bs m).1 s)) refl refl (sym q))
 
-  pub judged_so : {j : Judged} → Judges j → judged_of p state bs ≡ j
+  pub judged_so : {j : Judgement} → Judges j → judged_of p state bs ≡ j
   judged_so (not_led m s q) = by_row_lem m None s q
   judged_so (message m to s q) = by_row_lem m (Some to) s q
   judged_so (not_read why e none) = of judges
     where
-      of : {j : Judged} → Judges j → j ≡ unjudged (NoMessage why)
+      of : {j : Judgement} → Judges j → j ≡ unjudged (NoMessage why)
       of (not_read q f n) =
           let z : ◌≡◌ {A = Result Message Unread} (Err q) (Err why) = sym f ∙ e in
           let y : q ≡ why = cc in

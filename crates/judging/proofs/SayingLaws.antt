@@ -6,8 +6,7 @@ use Prim.Native.Nat.{◌≤◌, ◌<◌}
 use native.Mathlib.Omega.{arith}
 use Rattle.base.proofs.Conds.{cond_cases}
 use Rattle.judging.specs.declared.Outcome.{Outcome}
-use Rattle.judging.specs.declared.Judged.{Judged}
-use Rattle.judging.specs.Judging.{View, spoken, ours_now, barred, outcome_number, unjudged, judged_of, said}
+use Rattle.judging.specs.Judging.{View, spoken, ours_now, barred, outcome_number, Judgement, unjudged, judged_of, said}
 use Rattle.judging.specs.Besides.Saying.{OurTurn, Unsaid, Utters, refusal, message, SaidExactly}
 use Rattle.judging.specs.Besides.Saying.{closed, no_accept, not_our_turn, not_a_message, no_row}
 use Rattle.judging.proofs.JudgingLaws as judging
@@ -19,7 +18,7 @@ module _ (v : View) where
   unfolding said
   said_bytes t = rw (t.unclosed, t.allowed, t.ours)
 
-  judged_as : OurTurn v → {j : Judged} → Judges (spoken v) v.state v.bytes j → said v ≡ j
+  judged_as : OurTurn v → {j : Judgement} → Judges (spoken v) v.state v.bytes j → said v ≡ j
   judged_as t q = said_bytes t ∙ judged_so (spoken v) v.state v.bytes q
 
   unsaid_so : {o : Outcome} → Unsaid v o → said v ≡ unjudged o
@@ -30,12 +29,12 @@ module _ (v : View) where
   unsaid_so (not_a_message {why = r} t e none) = judged_as t (judging.not_read r e none)
   unsaid_so (no_row {m = m} t s x) = judged_as t (judging.not_led m s x)
 
-  said_so : {j : Judged} → Utters v j → said v ≡ j
+  said_so : {j : Judgement} → Utters v j → said v ≡ j
   said_so (refusal u) = unsaid_so u
   said_so (message {next = next} {m = m} k) = judged_as k.turn (judging.message m next k.says k.row)
 
   -- and one of them holds
-  by_judged : OurTurn v → {j : Judged} → Judges (spoken v) v.state v.bytes j → Utters v j
+  by_judged : OurTurn v → {j : Judgement} → Judges (spoken v) v.state v.bytes j → Utters v j
   by_judged t (judging.not_read r e none) = refusal (not_a_message t e none)
   by_judged t (judging.not_led m s x) = refusal (no_row t s x)
   by_judged t (judging.message m next s x) = message (record { turn = t; says = s; row = x })

@@ -2,8 +2,8 @@
 // where it leads.
 //
 // `heard` has the order of look's and drop's refusals and notices up to 16, `said` that of put's. One reader and one row search serve
-// both. They get numbers and bytes and no record, and nothing here changes anything. What comes of it has a name, which
-// carries what else is known; `number_of` and `offset_of` tell what an answer says of it.
+// both. They read the record, and nothing here changes anything. What comes of it is a message and where it leads, or the
+// name of a notice or refusal, which carries what else is known; `number` and `offset` tell what an answer says of it.
 #![tactic(auto)]
 
 ghost use Rattle.std.specs.Prelude.{◌≡◌, not, ◌&&◌, cond, ◌≤◌, ◌<◌, eqb, length, Ok};
@@ -11,20 +11,19 @@ ghost use Rattle.ring.specs.Inside.{around};
 ghost use Rattle.wire.specs.Instances.{instances, handshake, initiates, role_of};
 ghost use Rattle.item.specs.Verdict.{verdict};
 ghost use Rattle.rows.specs.Rows.{agency_of};
-ghost use Rattle.judging.specs.Judging.{outcome_number, outcome_offset, holds, unjudged, by_row, judged_of, by_verdict, heard, said, marks};
+ghost use Rattle.judging.specs.Judging.{outcome_number, outcome_offset, holds, view_of, unjudged, by_row, judged_of, by_verdict, heard, said, marks};
 
-use connection::closings::{AFTER_DONE, BYTES_BAD, NO_MESSAGE, NO_ROW};
+use connection::Connection;
+use connection::closings::{AFTER_DONE, BYTES_BAD, NO_MESSAGE, NO_ROW, is_open};
 use item::NotWhole;
 use messages::{Message, Unread};
 use ring::view::View;
 use rows::{Agency, Protocol};
 use wire::instances::{HANDSHAKE, Party};
 
-// What comes of judging: done, a notice or a refusal.
+// Why there is no message that moves the state: a notice or a refusal.
 #[derive(Clone, Copy)]
 pub enum Outcome {
-    // a message that moves the state
-    Done,
     // no whole item yet
     Waiting,
     // agency is ours, so nothing is heard
@@ -53,10 +52,9 @@ pub enum Outcome {
     NoRoom,
 }
 
-// What comes of bytes; where that is done, the message, its length and the next state, and else 0.
+// A message that moves the state: its length, what it says, and the next state.
 #[derive(Clone, Copy)]
 pub struct Judged {
-    pub outcome: Outcome,
     pub len: usize,
     pub message: Message,
     pub next: u64,
@@ -71,7 +69,7 @@ fn holds(initiator: bool, agency: Agency) -> bool
 {
     match agency {
         Agency::Initiator => initiator,
-        Agency::Responder => base::not(initiator),
+        Agency::Responder => !initiator,
         Agency::Nobody => false,
     }
 }
@@ -89,96 +87,61 @@ fn ours(party: Party, i: usize, p: Protocol, state: u64) -> bool
 fn barred(accepted: bool, i: usize) -> bool
     ensures { result ≡ (not (eqb i handshake) && not accepted) }
 {
-    base::and(base::not(i == HANDSHAKE), base::not(accepted))
+    i != HANDSHAKE && !accepted
 }
 
 // Whether Handshake has ended in Accept, once a message of this kind has moved instance i.
 pub fn marks(accepted: bool, i: usize, kind: u64) -> bool
     ensures { result ≡ marks accepted i kind }
 {
-    base::or(accepted, base::and(i == HANDSHAKE, kind == ACCEPT))
+    accepted || i == HANDSHAKE && kind == ACCEPT
 }
 
-// Document 01's number of an outcome.
-pub fn number_of(outcome: Outcome) -> u64
-    ensures { result ≡ outcome_number outcome }
-{
-    match outcome {
-        Outcome::Done => 0,
-        Outcome::Waiting => 1,
-        Outcome::OurTurn => 2,
-        Outcome::Finished => 3,
-        Outcome::BytesBad(_) => BYTES_BAD,
-        Outcome::NoMessage(_) => NO_MESSAGE,
-        Outcome::NoRow => NO_ROW,
-        Outcome::AfterDone => AFTER_DONE,
-        Outcome::NoAccept => 19,
-        Outcome::Closed => 20,
-        Outcome::NotOurTurn => 21,
-        Outcome::OutOfRange => 23,
-        Outcome::NoInstance => 10,
-        Outcome::NoRoom => 18,
+impl Outcome {
+    // Document 01's number.
+    pub fn number(self) -> u64
+        ensures { result ≡ outcome_number self }
+    {
+        match self {
+            Outcome::Waiting => 1,
+            Outcome::OurTurn => 2,
+            Outcome::Finished => 3,
+            Outcome::BytesBad(_) => BYTES_BAD,
+            Outcome::NoMessage(_) => NO_MESSAGE,
+            Outcome::NoRow => NO_ROW,
+            Outcome::AfterDone => AFTER_DONE,
+            Outcome::NoAccept => 19,
+            Outcome::Closed => 20,
+            Outcome::NotOurTurn => 21,
+            Outcome::OutOfRange => 23,
+            Outcome::NoInstance => 10,
+            Outcome::NoRoom => 18,
+        }
     }
-}
 
-// The offset that an answer has with it.
-pub fn offset_of(outcome: Outcome) -> usize
-    ensures { result ≡ outcome_offset outcome }
-{
-    match outcome {
-        Outcome::Done => 0,
-        Outcome::Waiting => 0,
-        Outcome::OurTurn => 0,
-        Outcome::Finished => 0,
-        Outcome::BytesBad(at) => at,
-        Outcome::NoMessage(_) => 0,
-        Outcome::NoRow => 0,
-        Outcome::AfterDone => 0,
-        Outcome::NoAccept => 0,
-        Outcome::Closed => 0,
-        Outcome::NotOurTurn => 0,
-        Outcome::OutOfRange => 0,
-        Outcome::NoInstance => 0,
-        Outcome::NoRoom => 0,
-    }
-}
-
-// A refusal or a notice.
-pub fn unjudged(outcome: Outcome) -> Judged
-    ensures { result ≡ unjudged outcome }
-{
-    Judged {
-        outcome,
-        len: 0,
-        message: messages::begin(0),
-        next: 0,
-    }
-}
-
-// A message of n bytes that leads to a state.
-fn led(n: usize, message: Message, next: u64) -> Judged
-    ensures { result ≡ by_row n message (Some next) }
-{
-    Judged {
-        outcome: Outcome::Done,
-        len: n,
-        message,
-        next,
+    // The offset that an answer has with it.
+    pub fn offset(self) -> usize
+        ensures { result ≡ outcome_offset self }
+    {
+        match self {
+            Outcome::BytesBad(at) => at,
+            _ => 0,
+        }
     }
 }
 
 // Where a message of n bytes leads, if it has a row.
-fn by_row(n: usize, message: Message, next: Option<u64>) -> Judged
-    ensures { result ≡ by_row n message next }
+fn by_row(len: usize, message: Message, next: Option<u64>) -> Result<Judged, Outcome>
+    ensures { result ≡ by_row len message next }
 {
     match next {
-        Some(state) => led(n, message, state),
-        None => unjudged(Outcome::NoRow),
+        Some(next) => Ok(Judged { len, message, next }),
+        None => Err(Outcome::NoRow),
     }
 }
 
 // The n bytes from the place `from` on of a slice seen as a ring, which were measured, in a state of the protocol.
-fn judge(p: Protocol, state: u64, s: &[u8], from: usize, n: usize) -> Judged
+fn judge(p: Protocol, state: u64, s: &[u8], from: usize, n: usize) -> Result<Judged, Outcome>
     requires { (from ≤ length s.now) × (n ≤ length s.now) × (verdict (around s.now from n) ≡ Ok n) }
     ensures { result ≡ judged_of p state (around s.now from n) }
 {
@@ -192,7 +155,7 @@ fn judge(p: Protocol, state: u64, s: &[u8], from: usize, n: usize) -> Judged
             let next = rows::find(p, state, message.kind, messages::flag(p, message));
             by_row(n, message, next)
         }
-        Err(why) => unjudged(Outcome::NoMessage(why)),
+        Err(why) => Err(Outcome::NoMessage(why)),
     }
 }
 
@@ -208,7 +171,14 @@ fn not_whole(closed: bool) -> Outcome
 }
 
 // The first item among the n bytes from the place `start` on of an area, which is a ring, in a state of the protocol.
-fn measured(p: Protocol, state: u64, closed: bool, area: &[u8], start: usize, n: usize) -> Judged
+fn measured(
+    p: Protocol,
+    state: u64,
+    closed: bool,
+    area: &[u8],
+    start: usize,
+    n: usize,
+) -> Result<Judged, Outcome>
     requires { (start ≤ length area.now) × (n ≤ length area.now) }
     ensures { result ≡ by_verdict p state closed (around area.now start n) (verdict (around area.now start n)) }
 {
@@ -217,11 +187,10 @@ fn measured(p: Protocol, state: u64, closed: bool, area: &[u8], start: usize, n:
         from: start,
         len: n,
     };
-    let v = cbor::measure(held);
-    match v {
+    match cbor::measure(held) {
         Ok(len) => judge(p, state, area, start, len),
-        Err(NotWhole::Bad(at)) => unjudged(Outcome::BytesBad(at)),
-        Err(NotWhole::Incomplete) => unjudged(not_whole(closed)),
+        Err(NotWhole::Bad(at)) => Err(Outcome::BytesBad(at)),
+        Err(NotWhole::Incomplete) => Err(not_whole(closed)),
     }
 }
 
@@ -236,42 +205,41 @@ fn ended(n: usize) -> Outcome
     }
 }
 
-// What look and drop ask, of the n bytes held, from the place `start` on of an area.
+// What look and drop ask of instance i, of the n bytes held, from the place `start` on of an area.
 pub fn heard(
-    party: Party,
+    c: &Connection,
     i: usize,
-    state: u64,
-    accepted: bool,
-    closed: bool,
     area: &[u8],
     start: usize,
     n: usize,
-) -> Judged
-    requires { (i < instances party.bundle) × (start ≤ length area.now) × (n ≤ length area.now) }
-    ensures { result ≡ heard (record { party = party; instance = i; state = state; accepted = accepted; closed = closed; bytes = around area.now start n }) }
+) -> Result<Judged, Outcome>
+    requires { (i < instances c.now.settings.party.bundle) × (start ≤ length area.now) × (n ≤ length area.now) }
+    ensures { result ≡ heard (view_of c.now i (around area.now start n)) }
 {
-    if barred(accepted, i) {
-        return unjudged(Outcome::NoAccept);
+    let party = c.settings.party;
+    let state = c.talk.states[i];
+    if barred(c.talk.accepted, i) {
+        return Err(Outcome::NoAccept);
     }
     let p = rows::spoken::protocol(party.bundle, i);
     if state == rows::done(p) {
-        return unjudged(ended(n));
+        return Err(ended(n));
     }
     if ours(party, i, p, state) {
-        return unjudged(Outcome::OurTurn);
+        return Err(Outcome::OurTurn);
     }
-    measured(p, state, closed, area, start, n)
+    measured(p, state, !is_open(c.gate), area, start, n)
 }
 
 // Bytes that are not exactly one item are no message.
-fn no_message() -> Judged
+fn no_message() -> Result<Judged, Outcome>
     ensures { result ≡ unjudged (Outcome.NoMessage Unread.NotArray) }
 {
-    unjudged(Outcome::NoMessage(Unread::NotArray))
+    Err(Outcome::NoMessage(Unread::NotArray))
 }
 
 // The slice, whose first n bytes are an item.
-fn judge_item(p: Protocol, state: u64, s: &[u8], n: usize) -> Judged
+fn judge_item(p: Protocol, state: u64, s: &[u8], n: usize) -> Result<Judged, Outcome>
     requires { verdict s.now ≡ Ok n }
     ensures { result ≡ judged_of p state s.now }
 {
@@ -282,37 +250,31 @@ fn judge_item(p: Protocol, state: u64, s: &[u8], n: usize) -> Judged
 }
 
 // All bytes of a slice, in a state of the protocol.
-fn judge_slice(p: Protocol, state: u64, s: &[u8]) -> Judged
+fn judge_slice(p: Protocol, state: u64, s: &[u8]) -> Result<Judged, Outcome>
     ensures { result ≡ judged_of p state s.now }
 {
-    let v = cbor::measure_slice(s);
-    match v {
+    match cbor::measure_slice(s) {
         Ok(n) => judge_item(p, state, s, n),
         Err(_) => no_message(),
     }
 }
 
-// What put asks, of a message.
-pub fn said(
-    party: Party,
-    i: usize,
-    state: u64,
-    accepted: bool,
-    closed: bool,
-    message: &[u8],
-) -> Judged
-    requires { i < instances party.bundle }
-    ensures { result ≡ said (record { party = party; instance = i; state = state; accepted = accepted; closed = closed; bytes = message.now }) }
+// What put asks of instance i, of a message.
+pub fn said(c: &Connection, i: usize, message: &[u8]) -> Result<Judged, Outcome>
+    requires { i < instances c.now.settings.party.bundle }
+    ensures { result ≡ said (view_of c.now i message.now) }
 {
-    if closed {
-        return unjudged(Outcome::Closed);
+    let party = c.settings.party;
+    let state = c.talk.states[i];
+    if !is_open(c.gate) {
+        return Err(Outcome::Closed);
     }
-    if barred(accepted, i) {
-        return unjudged(Outcome::NoAccept);
+    if barred(c.talk.accepted, i) {
+        return Err(Outcome::NoAccept);
     }
     let p = rows::spoken::protocol(party.bundle, i);
     if ours(party, i, p, state) {
         return judge_slice(p, state, message);
     }
-    unjudged(Outcome::NotOurTurn)
+    Err(Outcome::NotOurTurn)
 }

@@ -21,7 +21,7 @@ use Rattle.range.specs.Ranges.{in_range}
 use Rattle.range.proofs.RangeLaws.{Ranged, ranged, is_in_range, receives_both}
 use Rattle.judging.specs.declared.Judged.{Judged}
 use Rattle.judging.specs.declared.Outcome.{Outcome}
-use Rattle.judging.specs.Judging.{outcome_number, unjudged, led}
+use Rattle.judging.specs.Judging.{Judgement, leading, outcome_number, unjudged, led}
 use Rattle.judging.proofs.HearingLaws.{no_offset}
 use Rattle.hearing.specs.Hearing.{shown_by, shut}
 use Rattle.hearing.specs.Besides.Numbers as hearing
@@ -32,7 +32,7 @@ use Rattle.looking.specs.Looking.{Told, told, look_of}
 use Rattle.looking.specs.Besides.Numbers as numbers
 use Rattle.looking.specs.Besides.Numbers.{InOneRun, Wrapped, When, refused, no_room, in_one_run, joined, Exactly, Leaves, LeavesAll, ShownWhere, Looks, WhichByte, Keeps}
 use Rattle.looking.proofs.LookingLaws as laws
-use Rattle.looking.proofs.LookingLaws.{look_refused, look_done}
+use Rattle.looking.proofs.LookingLaws.{look_by, look_at}
 
 -- other places are not scratch
 pub nowhere_else : Nowhere ≡ Scratch → ⊥
@@ -80,26 +80,26 @@ module _ (c : Connection) (store : List ℕ) (i : ℕ) (scratch : List ℕ) wher
   goes : {n : ℕ} → When c store i scratch n → Way n
   goes (refused {o = o} u) =
       stays o u
-      (look_refused c store i scratch (unjudged o) (sym ((hear_exactly c store i (unjudged o)).1 (refusal u))) _ refl _ (λ z. omega (arith, unshown_number u)) refl)
+      (look_by c store i scratch (unjudged o) (sym ((hear_exactly c store i (unjudged o)).1 (refusal u))))
   goes (no_room {n = n} {next = next} {m = m} f w l) =
       short n m next f w l
-      (look_done c store i scratch (led n m next) (sym ((hear_exactly c store i (led n m next)).1 (message f))) _ refl Nowhere _ _ refl
-      (sym (laws.wraps_out base cap start n (length scratch) w l)) refl refl)
+      (look_at c store i scratch (leading n m next) (sym ((hear_exactly c store i (led n m next)).1 (message f))) Nowhere
+      (sym (laws.wraps_out base cap start n (length scratch) w l)))
   goes (in_one_run {n = n} {next = next} {m = m} f w) =
       lies n m next f w
-      (look_done c store i scratch (led n m next) (sym ((hear_exactly c store i (led n m next)).1 (message f))) _ refl (Store (base + start)) _ _ refl
-      (sym (laws.in_one_run base cap start n (length scratch) w)) refl refl)
+      (look_at c store i scratch (leading n m next) (sym ((hear_exactly c store i (led n m next)).1 (message f))) (Store (base + start))
+      (sym (laws.in_one_run base cap start n (length scratch) w)))
   goes (joined {n = n} {next = next} {m = m} f w l) =
       joins n m next f w l
-      (look_done c store i scratch (led n m next) (sym ((hear_exactly c store i (led n m next)).1 (message f))) _ refl Scratch _ _ refl
-      (sym (laws.wraps_in base cap start n (length scratch) w l)) refl refl)
+      (look_at c store i scratch (leading n m next) (sym ((hear_exactly c store i (led n m next)).1 (message f))) Scratch
+      (sym (laws.wraps_in base cap start n (length scratch) w l)))
 
   -- ---- and one of them holds
 
   abbrev Some : Type 0
   Some = (n : ℕ) × When c store i scratch n
 
-  by_told : {j : Judged} → Tells c store i j → Some
+  by_told : {j : Judgement} → Tells c store i j → Some
   by_told (refusal {o = o} u) = (outcome_number o, refused u)
   by_told (message {n = n} f) =
       by_test (leb (start + n) cap) (λ t. (0, in_one_run f (leb-true (start + n) cap t)))

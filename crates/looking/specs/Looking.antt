@@ -1,5 +1,5 @@
 -- Look (document 02, K4). Document 01's order for take holds: what is heard up to 16; 18, for a wrapped message longer than scratch.
-use Rattle.std.specs.Prelude.{ℕ, ◌+◌, ◌≡◌, cond, List, eqb, leb, length, get_or}
+use Rattle.std.specs.Prelude.{ℕ, ◌+◌, ◌≡◌, cond, List, leb, length, get_or, Ok, Err}
 use Rattle.std.proofs.lemmas.List.Edits.{sets}
 use Rattle.std.specs.Borrow.{Bor}
 use Rattle.ring.specs.Ring.{base_of, run}
@@ -7,7 +7,7 @@ use Rattle.connection.specs.declared.Connection.{Connection}
 use Rattle.connection.specs.Parts.{first_held}
 use Rattle.judging.specs.declared.Judged.{Judged}
 use Rattle.judging.specs.declared.Outcome.TheVariants.{NoRoom}
-use Rattle.judging.specs.Judging.{outcome_number, unjudged}
+use Rattle.judging.specs.Judging.{Judgement, outcome_number, unjudged}
 use Rattle.hearing.specs.declared.Shown.{Shown}
 use Rattle.hearing.specs.Hearing.{hear_of, shown_by, shut}
 use Rattle.looking.specs.declared.Place.{Place}
@@ -50,12 +50,11 @@ message_place c i n room = place_of (base_of c.settings.receive i) (get_or c.set
 -- a message is shown, and the record stays as it is; without one, a fault closes
 abbrev pub shown_in : Connection → List ℕ → ℕ → List ℕ → Judged → Place → Told
 shown_in c store i scratch j p =
-    told (record { shown = shown_at p (shown_by j); place = p; connection = c }) (joined p (first_held c store i j.len) scratch)
+    told (record { shown = shown_at p (shown_by (Ok j)); place = p; connection = c }) (joined p (first_held c store i j.len) scratch)
 
-abbrev pub by_judged : Connection → List ℕ → ℕ → List ℕ → Judged → Told
-by_judged c store i scratch j =
-    cond (eqb (outcome_number j.outcome) 0) (shown_in c store i scratch j (message_place c i j.len (length scratch)))
-    (told (record { shown = shown_by j; place = Nowhere; connection = shut c i (outcome_number j.outcome) }) scratch)
+abbrev pub by_judged : Connection → List ℕ → ℕ → List ℕ → Judgement → Told
+by_judged c store i scratch (Ok j) = shown_in c store i scratch j (message_place c i j.len (length scratch))
+by_judged c store i scratch (Err o) = told (record { shown = shown_by (Err o); place = Nowhere; connection = shut c i (outcome_number o) }) scratch
 
 unfoldable pub look_of : Connection → List ℕ → ℕ → List ℕ → Told
 look_of c store i scratch = by_judged c store i scratch (hear_of c store i)

@@ -11,11 +11,11 @@ ghost use Rattle.std.specs.Prelude.{◌≡◌, length, get_or};
 ghost use Rattle.ring.specs.Ring.{base_of};
 ghost use Rattle.connection.specs.Areas.{bytes_of};
 ghost use Rattle.hearing.specs.Inside.{Held};
-ghost use Rattle.looking.specs.Looking.{told, place_of, joined, shown_at, look_of, Cut, Shows};
+ghost use Rattle.looking.specs.Looking.{told, place_of, joined, shown_at, message_place, shown_in, look_of, Cut, Shows};
 
 use connection::Connection;
-use hearing::{Shown, hear, show, shut};
-use judging::{Outcome, unjudged};
+use hearing::{Shown, hear, refuse, show, shut};
+use judging::{Judged, Outcome};
 use wire::instances::INSTANCES;
 
 // Where a message is shown: in the store from a place on, at the front of scratch, or not at all.
@@ -67,31 +67,37 @@ fn shown_at(place: Place, shown: Shown) -> Shown
 {
     match place {
         Place::Store(_) | Place::Scratch => shown,
-        Place::Nowhere => show(unjudged(Outcome::NoRoom)),
+        Place::Nowhere => refuse(Outcome::NoRoom),
+    }
+}
+
+// A message of instance i is shown, or refused by 18, if it goes around and is longer than scratch.
+fn seen(c: Connection, store: &[u8], i: usize, scratch: &mut [u8], j: Judged) -> Looked
+    requires { Held c.settings.receive (length store.now) i (get_or c.receiving.starts i 0) j.len }
+    ensures { told result scratch.new ≡ shown_in c store.now i scratch.old j (message_place c i j.len (length scratch.old)) }
+{
+    let start = c.receiving.starts[i];
+    let place = join(scratch, store, &c.settings.receive, i, start, j.len);
+    Looked {
+        shown: shown_at(place, show(j)),
+        place,
+        connection: c,
     }
 }
 
 // Looks at the first message held of an instance: 23, 10, what is heard up to 16, 18 for one that goes around and is
 // longer than scratch, and else the message.
+#[tactic(auto, unfolding(crate::specs::Looking::look_of))]
 pub fn look(c: Connection, store: &[u8], instance: u64, scratch: &mut [u8]) -> Looked
     ensures { told result scratch.new ≡ look_of c store.now instance scratch.old }
 {
-    let j = hear(&c, store, instance);
-    let shown = show(j);
-    if shown.number != 0 {
-        return Looked {
-            shown,
+    match hear(&c, store, instance) {
+        Ok(j) => seen(c, store, instance as usize, scratch, j),
+        Err(outcome) => Looked {
+            shown: refuse(outcome),
             place: Place::Nowhere,
-            connection: shut(c, instance, shown.number),
-        };
-    }
-    let i = instance as usize;
-    let start = c.receiving.starts[i];
-    let place = join(scratch, store, &c.settings.receive, i, start, j.len);
-    Looked {
-        shown: shown_at(place, shown),
-        place,
-        connection: c,
+            connection: shut(c, instance, outcome.number()),
+        },
     }
 }
 

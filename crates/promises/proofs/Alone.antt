@@ -34,7 +34,7 @@ use Rattle.connection.specs.Closings.{is_open, closing_of}
 use Rattle.connection.specs.Parts.{held_of}
 use Rattle.judging.specs.declared.Judged.{Judged}
 use Rattle.judging.specs.declared.Outcome.TheVariants as outcome
-use Rattle.judging.specs.Judging.{View, spoken, ours_now, barred, at_done, outcome_number, unjudged, led, by_row, by_reading, by_verdict, heard}
+use Rattle.judging.specs.Judging.{View, spoken, ours_now, barred, at_done, Judgement, outcome_number, unjudged, state_next, led, by_row, by_reading, by_verdict, heard}
 use Rattle.judging.proofs.JudgingLaws.{Judges, not_read, not_led, message, judges}
 use Rattle.hearing.specs.Hearing.{seen, hear_of, shown_by}
 use Rattle.hearing.specs.declared.Shown.{Shown}
@@ -64,21 +64,20 @@ use Rattle.promises.proofs.History.{history}
 -- ---- the functions
 
 -- 10; then what is heard
-judge : View → Judged
+judge : View → Judgement
 judge v = cond (ltb v.instance (instances v.party.bundle)) (heard v) (unjudged outcome.NoInstance)
 
 -- what drop answers of it
-say : Judged → ℕ × Said
-say j = (outcome_number j.outcome, said_by (shown_by j))
+say : Judgement → ℕ × Said
+say j = ((shown_by j).number, said_by (shown_by j))
 
 -- what look answers: of a message with these bytes, at its place; and so of the bytes held, with the place where they begin
 see_at : Judged → List ℕ → List ℕ → Place → ℕ × Looked
-see_at j xs scratch p = let s = looking.shown_at p (shown_by j) in (s.number, looked (said_by s) p (joined p xs scratch))
+see_at j xs scratch p = let s = looking.shown_at p (shown_by (Ok j)) in (s.number, looked (said_by s) p (joined p xs scratch))
 
-see : List ℕ → (capacity start : ℕ) → List ℕ → Judged → ℕ × Looked
-see bs capacity start scratch j =
-    cond (eqb (outcome_number j.outcome) 0) (see_at j (lists.take j.len bs) scratch (place_of 0 capacity start j.len (length scratch)))
-    (outcome_number j.outcome, looked (said_by (shown_by j)) Nowhere scratch)
+see : List ℕ → (capacity start : ℕ) → List ℕ → Judgement → ℕ × Looked
+see bs capacity start scratch (Ok j) = see_at j (lists.take j.len bs) scratch (place_of 0 capacity start j.len (length scratch))
+see bs capacity start scratch (Err o) = (outcome_number o, looked (said_by (shown_by (Err o))) Nowhere scratch)
 
 abbrev drop_answer : View → ℕ × Said
 drop_answer v = say (judge v)
@@ -89,11 +88,11 @@ look_answer v capacity dropped scratch = see v.bytes capacity (dropped % capacit
 -- ---- closed only turns 1 into 20
 
 -- what is heard of a closed connection, and of an open one
-data Turned : Judged → Judged → Type 0 where
+data Turned : Judgement → Judgement → Type 0 where
   turned : Turned (unjudged outcome.Closed) (unjudged outcome.Waiting)
-  alike : (j : Judged) → outcome_number j.outcome ≢ 1 → Turned j j
+  alike : (j : Judgement) → (shown_by j).number ≢ 1 → Turned j j
 
-judged_alike : {p : Protocol} {state : ℕ} {xs : List ℕ} {j : Judged} → Judges p state xs j → Turned j j
+judged_alike : {p : Protocol} {state : ℕ} {xs : List ℕ} {j : Judgement} → Judges p state xs j → Turned j j
 judged_alike (not_read r e none) = alike (unjudged (outcome.NoMessage r)) (λ z. omega arith)
 judged_alike (not_led m s x) = alike (unjudged outcome.NoRow) (λ z. omega arith)
 judged_alike {xs = xs} (message m to s x) = alike (led (length xs) m to) (λ z. omega arith)
@@ -122,24 +121,27 @@ closed_turns v =
 stays : {A : Type 0} (a : ℕ × A) → a.0 ≢ 1 → a ≡ twenty_for_one a
 stays (n, a) h = rw (ne_eqb n 1 h)
 
-say_turned : {j k : Judged} → Turned j k → say j ≡ twenty_for_one (say k)
+say_turned : {j k : Judgement} → Turned j k → say j ≡ twenty_for_one (say k)
 unfolding say
 say_turned turned = refl
 say_turned (alike j h) = stays (say j) h
 
 module _ (bs : List ℕ) (capacity start : ℕ) (scratch : List ℕ) where
-  see_at_other : (j : Judged) (xs : List ℕ) (p : Place) → outcome_number j.outcome ≢ 1 → (see_at j xs scratch p).0 ≢ 1
+  see_at_other : (j : Judged) (xs : List ℕ) (p : Place) → (see_at j xs scratch p).0 ≢ 1
   unfolding see_at
-  see_at_other j xs (Store at) h = h
-  see_at_other j xs Scratch h = h
-  see_at_other j xs Nowhere h = λ z. omega arith
+  see_at_other j xs (Store at) = λ z. omega arith
+  see_at_other j xs Scratch = λ z. omega arith
+  see_at_other j xs Nowhere = λ z. omega arith
 
-  see_turned : {j k : Judged} → Turned j k → see bs capacity start scratch j ≡ twenty_for_one (see bs capacity start scratch k)
+  see_other : (j : Judgement) → (shown_by j).number ≢ 1 → (see bs capacity start scratch j).0 ≢ 1
+  unfolding see
+  see_other (Ok j) h = see_at_other j _ _
+  see_other (Err o) h = h
+
+  see_turned : {j k : Judgement} → Turned j k → see bs capacity start scratch j ≡ twenty_for_one (see bs capacity start scratch k)
   unfolding see
   see_turned turned = refl
-  see_turned (alike j h) =
-      stays (see bs capacity start scratch j)
-      (cond_cases (λ (a : ℕ × Looked). a.0 ≢ 1) (eqb (outcome_number j.outcome) 0) (λ t. see_at_other j _ _ h) (λ t. h))
+  see_turned (alike j h) = stays (see bs capacity start scratch j) (see_other j h)
 
 -- ---- look and drop, by what is held
 
@@ -184,29 +186,27 @@ module _ (w : World) (i : ℕ) where
   unfolding step drop_of say
   drop_is g = ap say (heard_is g)
 
-  seen_so : (scratch : List ℕ) (j : Judged) → (outcome_number j.outcome ≡ 0 → j.len ≤ get_or c.receiving.held i 0)
-      → answer_of (looking.by_judged c w.receive i scratch j) ≡ looked_in base (see held cap start scratch j)
+  seen_so : (scratch : List ℕ) (k : Judgement) → ((j : Judged) → k ≡ Ok j → j.len ≤ get_or c.receiving.held i 0)
+      → answer_of (looking.by_judged c w.receive i scratch k) ≡ looked_in base (see held cap start scratch k)
   unfolding see see_at
-  seen_so scratch j l =
+  seen_so scratch (Ok j) l =
       let n : ℕ = j.len in
-      by_test (eqb (outcome_number j.outcome) 0)
-      (λ t.
-      rw (t, held_take c w.receive i n (l (eqb-true _ 0 t)))
+      rw (held_take c w.receive i n (l j refl))
       (ap (see_at j (lists.take n held) scratch) (place_moved base cap start n (length scratch))
-      ∙ see_moved base j (lists.take n held) scratch (place_of 0 cap start n (length scratch))))
-      (λ t. rw t)
+      ∙ see_moved base j (lists.take n held) scratch (place_of 0 cap start n (length scratch)))
+  seen_so scratch (Err o) l = refl
 
   look_is : Good w → (scratch : List ℕ) → (step w (calls.look i scratch)).answer ≡ looked_in base (see held cap start scratch (judge (seen c w.receive i)))
   unfolding step look_of
   look_is g scratch =
-      seen_so scratch (hear_of c w.receive i) (λ z. (found c w.receive i _ refl _ refl z).1)
-      ∙ ap (λ (j : Judged). looked_in base (see held cap start scratch j)) (heard_is g)
+      seen_so scratch (hear_of c w.receive i) (λ j e. (found c w.receive i j e).1)
+      ∙ ap (λ (j : Judgement). looked_in base (see held cap start scratch j)) (heard_is g)
 
 -- ---- by the history
 
-led_is : {us : Party} {i state to : ℕ} {a : Act} → Moves us i state a to → (by_reading (speaks us.bundle i) state 0 (read_in (speaks us.bundle i) a)).next ≡ to
+led_is : {us : Party} {i state to : ℕ} {a : Act} → Moves us i state a to → state_next (by_reading (speaks us.bundle i) state 0 (read_in (speaks us.bundle i) a)) ≡ to
 led_is {us} {i} {state} k =
-    ap (λ (x : Result Message Unread). (by_reading (speaks us.bundle i) state 0 x).next) k.reads ∙ ap (λ (x : Option ℕ). (by_row 0 k.message x).next) k.row
+    ap (λ (x : Result Message Unread). state_next (by_reading (speaks us.bundle i) state 0 x)) k.reads ∙ ap (λ (x : Option ℕ). state_next (by_row 0 k.message x)) k.row
 
 state_is : {us : Party} {i from to : ℕ} {done : List Act} → Walks us i from done to → to ≡ state_after us i from done
 unfolding state_after

@@ -32,10 +32,9 @@ use Rattle.build.proofs.Few.{Few, form_few, runs_counted}
 use Rattle.connection.specs.declared.Connection.{Connection}
 use Rattle.connection.specs.Parts.{first_held}
 use Rattle.range.specs.Besides.Ranges.{InReceive}
-use Rattle.judging.specs.declared.Judged.{Judged}
 use Rattle.judging.specs.Besides.Judging.{leads_to}
 use Rattle.judging.specs.Besides.Hearing.{Awaited}
-use Rattle.judging.specs.Judging.{outcome_number, led}
+use Rattle.judging.specs.Judging.{Judgement, led}
 use Rattle.hearing.specs.Hearing.{seen, hear_of, shown_by}
 use Rattle.hearing.specs.Besides.Numbers.{Found, message, done}
 use Rattle.hearing.proofs.HearingLaws.{held_take, held_long}
@@ -156,7 +155,7 @@ module _ (w : World) (i : ℕ) (bs : List ℕ) (m : Message) (next : ℕ) (asked
 
   drops_it : (step w (calls.drop i)).answer ≡ (0, said_of bs m)
   unfolding step drop_of
-  drops_it = ap (λ (j : Judged). (outcome_number j.outcome, calls.said_by (shown_by j))) is_heard
+  drops_it = ap (λ (j : Judgement). ((shown_by j).number, calls.said_by (shown_by j))) is_heard
 
   module _ (scratch : List ℕ) (room : n ≤ length scratch) where
     -- what a look answers with the message at a place
@@ -180,7 +179,7 @@ module _ (w : World) (i : ℕ) (bs : List ℕ) (m : Message) (next : ℕ) (asked
     unfolding step looking.look_of
     looks_it =
         there (placed c store i scratch first_held_lem)
-        (ap (λ (j : Judged).
+        (ap (λ (j : Judgement).
         let t = looking.by_judged c store i scratch j in (t.answer.shown.number, calls.looked (calls.said_by t.answer.shown) t.answer.place t.scratch))
         is_heard)
 

@@ -34,9 +34,8 @@ use Rattle.range.specs.Ranges.{in_range, receive_length, send_length, receive_st
 use Rattle.range.proofs.RangeLaws.{ranged}
 use Rattle.telling.specs.Besides.Numbers as telling
 use Rattle.telling.proofs.NumberLaws as telling_laws
-use Rattle.judging.specs.declared.Judged.{Judged}
 use Rattle.judging.specs.declared.Outcome.{Outcome}
-use Rattle.judging.specs.Judging.{view_of, outcome_number, holds, ours, barred, led}
+use Rattle.judging.specs.Judging.{view_of, Judgement, outcome_number, holds, ours, barred, leading}
 use Rattle.judging.proofs.HearingLaws.{unheard_number}
 use Rattle.judging.proofs.Moving.{leads_low}
 use Rattle.feeding.specs.Feeding as feeding
@@ -125,11 +124,11 @@ module _ (w : World) where
     -- a message was dropped, which the first bytes held are
     drops : (i n to : ℕ) (m : Message) → Steps w i (got n m) m to → n ≤ get_or c.receiving.held i 0
         → message_of (speaks c.settings.party.bundle i) (first_held c w.receive i n) ≡ read m
-        → Leaves real (acted i (got n m)) (world (dropping.handed c i (led n m to)) w.receive w.send)
+        → Leaves real (acted i (got n m)) (world (dropping.handed c i (leading n m to)) w.receive w.send)
     -- a message was queued: of Handshake in one segment, of others after Accept, and there was room
     queues : (i to : ℕ) (m : Message) (xs : List ℕ) → Steps w i (gave xs) m to → is_open c.gate ≡ true → barred (view_of c i xs) ≡ false
         → (i ≡ 0 → length xs ≤ c.settings.limit) → get_or c.sending.waiting i 0 + length xs ≤ get_or c.settings.send i 0
-        → Leaves real (acted i (gave xs)) (world (putting.queued c i (length xs) (led (length xs) m to)) w.receive (putting.stored c w.send i xs))
+        → Leaves real (acted i (gave xs)) (world (putting.queued c i (length xs) (leading (length xs) m to)) w.receive (putting.stored c w.send i xs))
     -- a segment was made of whoever was chosen
     serves : (i time : ℕ) (bs : List ℕ) → is_open c.gate ≡ true → sending.chosen_of c ≡ Some i → (real → Made w time i bs)
         → Leaves real (sent time bs)
@@ -254,20 +253,18 @@ module _ (w : World) (g : Good w) where
   shown_at_lem i scratch n m xs Scratch = ((λ q. omega arith), rw not_fault.0 still)
   shown_at_lem i scratch n m xs Nowhere = ((λ q. omega arith), rw not_fault.2 still)
 
-  look_says : (i : ℕ) (scratch : List ℕ) {j : Judged} → Tells w.connection w.receive i j
+  look_says : (i : ℕ) (scratch : List ℕ) {j : Judgement} → Tells w.connection w.receive i j
       → let r = looking.by_judged w.connection w.receive i scratch j in
       Says (look i scratch)
       (record {
         world = world r.answer.connection w.receive w.send;
         answer = (r.answer.shown.number, looked (said_by r.answer.shown) r.answer.place r.scratch);
       })
-  look_says i scratch (refusal {o = o} u) =
-      let low = unshown_number u in
-      rw (ne_eqb (outcome_number o) 0 (λ q. omega arith)) (no_23 u, undone i (outcome_number o))
+  look_says i scratch (refusal {o = o} u) = (no_23 u, undone i (outcome_number o))
   look_says i scratch (message {n = n} {m = m} f) =
       shown_at_lem i scratch n m (first_held w.connection w.receive i n) (looking.message_place w.connection i n (length scratch))
 
-  drop_says : (i : ℕ) {j : Judged} → Tells w.connection w.receive i j
+  drop_says : (i : ℕ) {j : Judgement} → Tells w.connection w.receive i j
       → let r = dropping.by_judged w.connection i j in
       Says (drop i) (record { world = world r.connection w.receive w.send; answer = (r.shown.number, said_by r.shown) })
   drop_says i (refusal {o = o} u) =

@@ -18,8 +18,7 @@ use Rattle.messages.specs.declared.Message.{Message}
 use Rattle.connection.specs.declared.Settings.{Settings}
 use Rattle.connection.specs.declared.Connection.{Connection}
 use Rattle.connection.specs.Parts.{first_held}
-use Rattle.judging.specs.declared.Judged.{Judged}
-use Rattle.judging.specs.Judging.{outcome_number, led}
+use Rattle.judging.specs.Judging.{Judgement, leading}
 use Rattle.hearing.specs.Besides.Numbers.{Found, Tells, refusal, message}
 use Rattle.hearing.proofs.NumberLaws.{tells, unshown_number}
 use Rattle.looking.specs.declared.Place.{Place}
@@ -93,7 +92,7 @@ module _ (w : World) (i : ℕ) (scratch : List ℕ) where
         record { long = stream_length _ _ _ _ n; item = message_item p xs m reads; reads = reads }
 
     -- at its place
-    told_at : {q : Place} → At c w.receive i scratch n q → Told (shown_in c w.receive i scratch (led n m next) q)
+    told_at : {q : Place} → At c w.receive i scratch n q → Told (shown_in c w.receive i scratch (leading n m next) q)
     told_at (in_store at e) same =
         ((λ z. record { within = f.asked.1; bytes = xs; front = found_first c w.receive i f; spells = says; part = e; written = refl; same = same }), λ ne. absurd (ne refl))
     told_at (in_scratch room) same = (
@@ -111,10 +110,10 @@ module _ (w : World) (i : ℕ) (scratch : List ℕ) where
     )
     told_at (nowhere short) same = ((λ z. absurd (omega arith)), λ ne. (refl, refl))
 
-  told : {j : Judged} → Tells c w.receive i j → Told (by_judged c w.receive i scratch j)
+  told : {j : Judgement} → Tells c w.receive i j → Told (by_judged c w.receive i scratch j)
   told (refusal {o = o} u) =
       let low = unshown_number u in
-      rw (ne_eqb (outcome_number o) 0 (λ z. omega arith)) (λ same. ((λ z. absurd (omega arith)), λ ne. (refl, refl)))
+      λ same. ((λ z. absurd (omega arith)), λ ne. (refl, refl))
   told (message f) = told_at f (placed c w.receive i scratch f)
 
 looks_own : (w : World) → Looks w.connection.settings w

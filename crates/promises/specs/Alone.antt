@@ -8,7 +8,7 @@ use Rattle.wire.specs.declared.instances.Party.{Party}
 use Rattle.wire.specs.Segments.{Carried, Divided}
 use Rattle.rows.specs.Spoken.{speaks}
 use Rattle.connection.specs.declared.Settings.{Settings}
-use Rattle.judging.specs.Judging.{View, by_reading}
+use Rattle.judging.specs.Judging.{View, state_next, by_reading}
 use Rattle.looking.specs.declared.Place.{Place}
 use Rattle.looking.specs.declared.Place.TheVariants.{Store, Scratch, Nowhere}
 use Rattle.promises.specs.Calls.{Call, look, drop, Said, Looked, looked, step, run, AllReal, Opened, first}
@@ -20,7 +20,7 @@ unfoldable pub state_after : Party → ℕ → ℕ → List Act → ℕ
 state_after us i state [] = state
 state_after us i state (a ∷ more) =
     let p = speaks us.bundle i in
-    state_after us i (by_reading p state 0 (read_in p a)).next more
+    state_after us i (state_next (by_reading p state 0 (read_in p a))) more
 
 -- whether there is a closing
 abbrev pub any_closing : Option (ℕ × Option ℕ) → Bool

@@ -27,7 +27,7 @@ use Rattle.range.specs.Besides.Ranges.{InSend}
 use Rattle.range.proofs.RangeLaws as RangeLaws
 use Rattle.range.proofs.RangeLaws.{ranged, is_in_range, sends_both}
 use Rattle.judging.specs.declared.Judged.{Judged}
-use Rattle.judging.specs.Judging.{outcome_number, View, view_of, spoken, led, said}
+use Rattle.judging.specs.Judging.{Judgement, outcome_number, View, view_of, spoken, unjudged, leading, led, said}
 use Rattle.judging.specs.Besides.Saying.{Moves, Utters, refusal, message}
 use Rattle.judging.proofs.SayingLaws.{utters, said_exactly, unsaid_number}
 use Rattle.judging.proofs.Moving.{moved_ranged, moved_shaped}
@@ -35,7 +35,7 @@ use Rattle.putting.specs.declared.Queued.{Queued}
 use Rattle.putting.specs.Putting.{Told, told, refused, longer_of, queued, stored, put_of}
 use Rattle.putting.specs.Besides.Numbers.{InOneSegment, When, Exactly, Untouched, Kept, Keeps}
 use Rattle.putting.specs.Besides.Numbers.{out_of_range, no_instance, unsaid, above_limit, above_capacity, done}
-use Rattle.putting.proofs.PuttingLaws.{put_range, put_instance, put_refused, put_judged, too_long, no_room, has_room}
+use Rattle.putting.proofs.PuttingLaws.{put_range, put_instance, put_by, too_long, no_room, has_room}
 
 module _ (c : Connection) (store : List ℕ) (i : ℕ) (xs : List ℕ) where
   abbrev out : Told
@@ -58,7 +58,7 @@ module _ (c : Connection) (store : List ℕ) (i : ℕ) (xs : List ℕ) where
 
   -- what 0 leaves
   abbrev Queues : Message → ℕ → Type 0
-  Queues m next = told (record { number = 0; connection = queued c i (length xs) (led (length xs) m next) }) (stored c store i xs) ≡ out
+  Queues m next = told (record { number = 0; connection = queued c i (length xs) (leading (length xs) m next) }) (stored c store i xs) ≡ out
 
   -- the ways of a call: 23; another refusal; or a message
   pub data Way : ℕ → Type 0 where
@@ -68,7 +68,7 @@ module _ (c : Connection) (store : List ℕ) (i : ℕ) (xs : List ℕ) where
 
   -- ---- where a "when" holds, the call goes that way
 
-  said_as : {j : Judged} → Utters view j → j ≡ said view
+  said_as : {j : Judgement} → Utters view j → j ≡ said view
   said_as {j} u = sym ((said_exactly view j).1 u)
 
   -- a Handshake message is in one segment
@@ -80,17 +80,17 @@ module _ (c : Connection) (store : List ℕ) (i : ℕ) (xs : List ℕ) where
   goes (no_instance r h) = stays 10 (λ z. omega arith) (λ z. omega arith) (put_instance c store i xs r h)
   goes (unsaid {o = o} a u) =
       let (low, high) = unsaid_number u in
-      stays (outcome_number o) (λ z. omega arith) (λ z. omega arith) (put_refused c store i xs a _ (said_as (refusal u)) (λ z. omega arith))
+      stays (outcome_number o) (λ z. omega arith) (λ z. omega arith) (put_by c store i xs a (unjudged o) (said_as (refusal u)))
   goes (above_limit a v z l) =
       stays 24 (λ z. omega arith) (λ z. omega arith)
-      (too_long c store i xs _ (rw (eq-eqb i 0 z, lt-ltb c.settings.limit (length xs) l)) ∙ put_judged c store i xs a _ (said_as (message v)) refl)
+      (too_long c store i xs _ (rw (eq-eqb i 0 z, lt-ltb c.settings.limit (length xs) l)) ∙ put_by c store i xs a _ (said_as (message v)))
   goes (above_capacity v f) =
       stays 22 (λ z. omega arith) (λ z. omega arith)
-      (no_room c store i xs _ (in_one v.short) (lt-leb sum cap f) ∙ put_judged c store i xs v.asked _ (said_as (message v.moves)) refl)
+      (no_room c store i xs _ (in_one v.short) (lt-leb sum cap f) ∙ put_by c store i xs v.asked _ (said_as (message v.moves)))
   goes (done {m = m} {next = next} v f) =
       gone m next v f
       (has_room c store i xs _ (in_one v.short) _ _ (le-leb sum cap f) refl refl
-      ∙ put_judged c store i xs v.asked _ (said_as (message v.moves)) refl)
+      ∙ put_by c store i xs v.asked _ (said_as (message v.moves)))
 
   -- ---- and one of them holds
 
@@ -109,7 +109,7 @@ module _ (c : Connection) (store : List ℕ) (i : ℕ) (xs : List ℕ) where
       (λ l. by_area (record { asked = a; moves = v; short = λ z. ltb-false c.settings.limit (length xs) l })))
       (λ q. by_area (record { asked = a; moves = v; short = λ z. absurd (eqb-false i 0 q z) }))
 
-  by_said : InSend c store i → {j : Judged} → Utters view j → Some
+  by_said : InSend c store i → {j : Judgement} → Utters view j → Some
   by_said a (refusal {o = o} u) = (outcome_number o, unsaid a u)
   by_said a (message v) = by_length a v
 
@@ -210,7 +210,7 @@ module _ (c : Connection) (store : List ℕ) (i : ℕ) (xs : List ℕ) (s : Shap
       let k' = moved_ranged fuller i m.kind (flag_of (spoken (view_of c i xs)) m) next inside s.states k v.moves.row in
       subst (Kept c store) e
       (record {
-        ranged = equal_and (is_in_range (queued c i (length xs) (led (length xs) m next)) k') (stored_long c store i xs ∙ p.1);
+        ranged = equal_and (is_in_range (queued c i (length xs) (leading (length xs) m next)) k') (stored_long c store i xs ∙ p.1);
         shaped = moved_shaped fuller i m.kind next (longer_shaped c i (length xs) s);
         long = stored_long c store i xs;
         set = refl;

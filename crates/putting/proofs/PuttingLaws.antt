@@ -17,9 +17,9 @@ use Rattle.range.specs.Besides.Ranges.{InSend}
 use Rattle.range.proofs.StoreLaws.{send_area}
 use Rattle.range.proofs.RangeLaws.{ranged, sends_both}
 use Rattle.judging.specs.declared.Judged.{Judged}
-use Rattle.judging.specs.Judging.{outcome_number, view_of, said, marks}
+use Rattle.judging.specs.Judging.{Judgement, view_of, said, marks}
 use Rattle.putting.specs.Inside.{Waits}
-use Rattle.putting.specs.Putting.{told, refused, queued, stored, queue, put_of}
+use Rattle.putting.specs.Putting.{told, refused, queued, stored, queue, by_judged, put_of}
 
 -- an instance of a record in range with its store
 pub asked : (c : Connection) (store : List ℕ) (i : ℕ) → InSend c store i → Waits c store i
@@ -49,14 +49,10 @@ module _ (c : Connection) (store : List ℕ) (i : ℕ) (xs : List ℕ) where
   unfolding put_of
   put_instance r h = rw (r, le-ltb i (instances c.settings.party.bundle) h)
 
-  module _ (a : InSend c store i) (j : Judged) (e : j ≡ said (view_of c i xs)) where
-    pub put_refused : outcome_number j.outcome ≢ 0 → told (refused c (outcome_number j.outcome)) store ≡ put_of c store i xs
-    unfolding put_of
-    put_refused ne = rw (a.0, lt-ltb i (instances c.settings.party.bundle) a.1, ← e, ne_eqb (outcome_number j.outcome) 0 ne)
-
-    pub put_judged : outcome_number j.outcome ≡ 0 → queue c store i xs j ≡ put_of c store i xs
-    unfolding put_of
-    put_judged z = rw (a.0, lt-ltb i (instances c.settings.party.bundle) a.1, ← e, eq-eqb (outcome_number j.outcome) 0 z)
+  -- what is said decides
+  pub put_by : InSend c store i → (k : Judgement) → k ≡ said (view_of c i xs) → by_judged c store i xs k ≡ put_of c store i xs
+  unfolding put_of
+  put_by a k e = rw (a.0, lt-ltb i (instances c.settings.party.bundle) a.1, e)
 
 -- ---- the ways out of queueing
 

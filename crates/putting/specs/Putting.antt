@@ -1,6 +1,6 @@
 -- Put (document 01, "Numbers and their order", and document 02, K1: 10 above the bundle's last instance; then what is said of the message, from 20 to
 -- 16; 24; 22; then queued and the state moves; 23 before all others).
-use Rattle.std.specs.Prelude.{ℕ, ◌+◌, cond, ◌&&◌, List, eqb, leb, ltb, length, get_or, set}
+use Rattle.std.specs.Prelude.{ℕ, ◌+◌, cond, ◌&&◌, List, eqb, leb, ltb, length, get_or, set, Ok, Err}
 use Rattle.wire.specs.Instances.{instances, handshake}
 use Rattle.connection.specs.declared.Sending.{Sending}
 use Rattle.connection.specs.declared.Connection.{Connection}
@@ -8,7 +8,7 @@ use Rattle.connection.specs.Areas.{laid_in}
 use Rattle.connection.specs.Parts.{with_sending, with_talk}
 use Rattle.range.specs.Ranges.{sends}
 use Rattle.judging.specs.declared.Judged.{Judged}
-use Rattle.judging.specs.Judging.{view_of, outcome_number, said, moved_by}
+use Rattle.judging.specs.Judging.{view_of, Judgement, outcome_number, said, moved_by}
 use Rattle.putting.specs.declared.Queued.{Queued}
 
 -- an answer, and the send store as the call leaves it
@@ -47,8 +47,9 @@ queue c store i xs j =
 
 -- ---- a call
 
-abbrev pub by_judged : Connection → List ℕ → ℕ → List ℕ → Judged → Told
-by_judged c store i xs j = cond (eqb (outcome_number j.outcome) 0) (queue c store i xs j) (told (refused c (outcome_number j.outcome)) store)
+abbrev pub by_judged : Connection → List ℕ → ℕ → List ℕ → Judgement → Told
+by_judged c store i xs (Ok j) = queue c store i xs j
+by_judged c store i xs (Err o) = told (refused c (outcome_number o)) store
 
 unfoldable pub put_of : Connection → List ℕ → ℕ → List ℕ → Told
 put_of c store i xs =

@@ -11,7 +11,6 @@ ghost use Rattle.putting.specs.Putting.{told, refused, queue, put_of};
 
 use connection::Connection;
 use connection::areas::write;
-use connection::closings::is_open;
 use judging::Judged;
 use range::{fits, sends};
 use wire::instances::{HANDSHAKE, count};
@@ -83,17 +82,8 @@ pub fn put(c: Connection, store: &mut [u8], instance: u64, message: &[u8]) -> Qu
         return refused(c, 10);
     }
     let i = instance as usize;
-    let j = judging::said(
-        c.settings.party,
-        i,
-        c.talk.states[i],
-        c.talk.accepted,
-        !is_open(c.gate),
-        message,
-    );
-    let number = judging::number_of(j.outcome);
-    if number != 0 {
-        return refused(c, number);
+    match judging::said(&c, i, message) {
+        Ok(j) => queue(c, store, i, message, j),
+        Err(outcome) => refused(c, outcome.number()),
     }
-    queue(c, store, i, message, j)
 }

@@ -8,7 +8,7 @@ use Rattle.connection.specs.Closings.{closed_by, heard_fault}
 use Rattle.connection.specs.Parts.{with_gate, first_held, held_of}
 use Rattle.range.specs.Ranges.{in_range, receives}
 use Rattle.judging.specs.declared.Outcome.{Outcome}
-use Rattle.judging.specs.Judging.{outcome_number, led}
+use Rattle.judging.specs.Judging.{outcome_number, leading}
 use Rattle.hearing.specs.Besides.Numbers as hearing
 use Rattle.hearing.specs.Besides.Numbers.{Unshown, Found, Offset, bare}
 use Rattle.dropping.specs.declared.Dropped.{Dropped}
@@ -37,7 +37,7 @@ abbrev pub Drops : Type 0
 Drops =
     (c : Connection) (store : List ℕ) (i : ℕ) → (drop_of c store i).shown.number ≡ 0
     → (n : ℕ) × (m : Message) × (next : ℕ) × Found c store i n m next
-    × (drop_of c store i ≡ record { shown = hearing.done n m; connection = handed c i (led n m next) })
+    × (drop_of c store i ≡ record { shown = hearing.done n m; connection = handed c i (leading n m next) })
 
 -- what was held is what is freed, and what is held then
 abbrev pub Frees : Type 0

@@ -5,11 +5,11 @@ use Rattle.hearing.proofs.HearingLaws.{asked, hear_range, hear_instance, hear_he
 use Rattle.hearing.proofs.hear.Goals as goal
 
 pub returns-then-not-receives : goal.returns-then-not-receives
-returns-then-not-receives c = c.unjudged.ensures ∙ hear_range c.args.c.now c.args.store.now c.args.instance (cc)
+returns-then-not-receives c = hear_range c.args.c.now c.args.store.now c.args.instance (cc)
 
 pub returns-then-count-instance : goal.returns-then-count-instance
 returns-then-count-instance c =
-    c.unjudged-then-count-instance.ensures ∙ hear_instance c.args.c.now c.args.store.now c.args.instance (cc) (omega arith)
+    hear_instance c.args.c.now c.args.store.now c.args.instance (cc) (omega arith)
 
 pub listen-requires : goal.listen-requires
 listen-requires c =

@@ -13,4 +13,4 @@ heard-requires c =
 pub returns : goal.returns
 returns c =
     let there = held_there _ c.args.store.now c.args.i _ _ c.requires.held c.base_of-base.result c.base_of-base.ensures in
-    rw (c.heard.ensures, c.is_open.ensures) (ap (λ (bs : List ℕ). heard (view_of c.args.c.now c.args.i bs)) there)
+    rw c.heard.ensures (ap (λ (bs : List ℕ). heard (view_of c.args.c.now c.args.i bs)) there)

@@ -13,8 +13,7 @@ use Rattle.range.specs.Ranges.{receives}
 use Rattle.range.specs.Besides.Ranges.{InReceive}
 use Rattle.judging.specs.declared.Outcome.{Outcome}
 use Rattle.judging.specs.declared.Outcome.TheVariants.{OutOfRange, NoInstance}
-use Rattle.judging.specs.declared.Judged.{Judged}
-use Rattle.judging.specs.Judging.{unjudged, led}
+use Rattle.judging.specs.Judging.{Judgement, unjudged, led}
 use Rattle.judging.specs.Besides.Hearing.{Unheard, Spells}
 use Rattle.hearing.specs.declared.Shown.{Shown}
 use Rattle.hearing.specs.Hearing.{seen, hear_of, shown_by, shut}
@@ -32,12 +31,12 @@ pub record Found (c : Connection) (store : List ℕ) (i n : ℕ) (m : Message) (
   pub spells : Spells (seen c store i) n m next
 
 -- a refusal or notice, or a message
-pub data Tells (c : Connection) (store : List ℕ) (i : ℕ) : Judged → Type 0 where
+pub data Tells (c : Connection) (store : List ℕ) (i : ℕ) : Judgement → Type 0 where
   refusal : {o : Outcome} → Unshown c store i o → Tells c store i (unjudged o)
   message : {n next : ℕ} {m : Message} → Found c store i n m next → Tells c store i (led n m next)
 
 abbrev pub HearExactly : Type 0
-HearExactly = (c : Connection) (store : List ℕ) (i : ℕ) (j : Judged) → (hear_of c store i ≡ j) ↔ Tells c store i j
+HearExactly = (c : Connection) (store : List ℕ) (i : ℕ) (j : Judgement) → (hear_of c store i ≡ j) ↔ Tells c store i j
 
 -- an answer without a message has a number, and with 14 an offset; and one with a message of n bytes
 abbrev pub bare : ℕ → ℕ → Shown

@@ -8,7 +8,7 @@ use Rattle.judging.proofs.judge.Goals as goal
 pub returns-in-Err : goal.returns-in-Err
 returns-in-Err c =
     let a = c.args in
-    c.unjudged.ensures ∙ judged_wrong a.p a.state (around a.s.now a.from a.n) c.in-Err.why (sym c.in-Err.is ∙ c.read.ensures)
+    judged_wrong a.p a.state (around a.s.now a.from a.n) c.in-Err.why (sym c.in-Err.is ∙ c.read.ensures)
 
 pub returns-in-Ok : goal.returns-in-Ok
 returns-in-Ok c =

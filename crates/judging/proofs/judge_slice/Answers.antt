@@ -17,4 +17,4 @@ returns-in-Err c =
     let xs : List ℕ = a.s.now in
     c.no_message.ensures
     ∙ judged_not_one a.p a.state xs
-    (ap (λ (v : Verdict). wholly v (length xs)) (sym c.measure_slice-v.ensures ∙ c.in-Err.is))
+    (ap (λ (v : Verdict). wholly v (length xs)) (sym c.measure_slice.ensures ∙ c.in-Err.is))

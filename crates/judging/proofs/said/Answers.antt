@@ -1,49 +1,46 @@
 -- `judging::said` meets its contract: each way out is told by a "when" that holds there.
-use mathlib.Core.Path.{sym, ap, ◌∙◌}
-use mathlib.Core.Bool.{Bool}
-use mathlib.Core.List.{List}
-use Prim.Native.Nat.{ℕ}
-use Rattle.wire.specs.declared.instances.Party.{Party}
+use Rattle.std.proofs.Common.{◌≡◌, true, false, not, sym, ap, ◌∙◌, arith}
+use Rattle.wire.proofs.InstanceLaws.{at_most}
 use Rattle.rows.specs.declared.Protocol.{Protocol}
 use Rattle.judging.specs.declared.Outcome.TheVariants.{NoAccept, Closed, NotOurTurn}
-use Rattle.judging.specs.Judging.{View, unjudged, judged_of}
+use Rattle.judging.specs.Judging.{view_of, unjudged, judged_of}
 use Rattle.judging.specs.Besides.Saying.{refusal, closed, no_accept, not_our_turn}
 use Rattle.judging.proofs.JudgingLaws.{ours_spoken}
 use Rattle.judging.proofs.SayingLaws.{said_exactly, said_bytes}
 use Rattle.judging.proofs.said.Goals as goal
 
--- the view that the call is of
-abbrev view : Party → ℕ → ℕ → Bool → Bool → List ℕ → View
-view party i state accepted shut bytes =
-    record { party = party; instance = i; state = state; accepted = accepted; closed = shut; bytes = bytes }
+pub offset_bounds-c-i : goal.offset_bounds-c-i
+offset_bounds-c-i c = record { fits = omega (arith, c.requires, at_most c.args.c.now.settings.party.bundle) }
 
-pub returns-then-closed : goal.returns-then-closed
-returns-then-closed c =
-    let a = c.args in
-    let v = view a.party a.i a.state a.accepted a.closed a.message.now in
-    c.unjudged.ensures ∙ sym ((said_exactly v (unjudged Closed)).1 (refusal (closed c.if-closed.true)))
+pub bounds-c-i : goal.bounds-c-i
+bounds-c-i c = omega (arith, c.requires, at_most c.args.c.now.settings.party.bundle)
+
+pub returns-then-not-is_open : goal.returns-then-not-is_open
+returns-then-not-is_open c =
+    let v = view_of c.args.c.now c.args.i c.args.message.now in
+    let shut : v.closed ≡ true = ap not (sym c.is_open.ensures ∙ c.if-not-is_open.true) in
+    sym ((said_exactly v (unjudged Closed)).1 (refusal (closed shut)))
 
 pub returns-then-barred : goal.returns-then-barred
 returns-then-barred c =
-    let a = c.args in
-    let v = view a.party a.i a.state a.accepted a.closed a.message.now in
+    let v = view_of c.args.c.now c.args.i c.args.message.now in
+    let unshut : v.closed ≡ false = ap not (sym c.is_open.ensures ∙ c.if-not-is_open.false) in
     let bars = sym c.barred.ensures ∙ c.if-barred.true in
-    c.unjudged-then-barred.ensures ∙ sym ((said_exactly v (unjudged NoAccept)).1 (refusal (no_accept c.if-closed.false bars)))
+    sym ((said_exactly v (unjudged NoAccept)).1 (refusal (no_accept unshut bars)))
 
 pub returns-then-ours : goal.returns-then-ours
 returns-then-ours c =
-    let a = c.args in
-    let v = view a.party a.i a.state a.accepted a.closed a.message.now in
+    let v = view_of c.args.c.now c.args.i c.args.message.now in
+    let unshut : v.closed ≡ false = ap not (sym c.is_open.ensures ∙ c.if-not-is_open.false) in
     let unbarred = sym c.barred.ensures ∙ c.if-barred.false in
-    let ours-now = sym (c.ours.ensures ∙ ours_spoken a.party a.i a.state _ c.protocol-p.ensures) ∙ c.if-ours.true in
-    c.judge_slice.ensures ∙ ap (λ (p : Protocol). judged_of p a.state a.message.now) c.protocol-p.ensures
-    ∙ sym (said_bytes v (record { unclosed = c.if-closed.false; allowed = unbarred; ours = ours-now }))
+    let ours-now = sym (c.ours.ensures ∙ ours_spoken v.party v.instance v.state _ c.protocol-p.ensures) ∙ c.if-ours.true in
+    c.judge_slice.ensures ∙ ap (λ (p : Protocol). judged_of p v.state v.bytes) c.protocol-p.ensures
+    ∙ sym (said_bytes v (record { unclosed = unshut; allowed = unbarred; ours = ours-now }))
 
 pub returns : goal.returns
 returns c =
-    let a = c.args in
-    let v = view a.party a.i a.state a.accepted a.closed a.message.now in
+    let v = view_of c.args.c.now c.args.i c.args.message.now in
+    let unshut : v.closed ≡ false = ap not (sym c.is_open.ensures ∙ c.if-not-is_open.false) in
     let unbarred = sym c.barred.ensures ∙ c.if-barred.false in
-    let theirs = sym (c.ours.ensures ∙ ours_spoken a.party a.i a.state _ c.protocol-p.ensures) ∙ c.if-ours.false in
-    c.unjudged-2.ensures
-    ∙ sym ((said_exactly v (unjudged NotOurTurn)).1 (refusal (not_our_turn c.if-closed.false unbarred theirs)))
+    let theirs = sym (c.ours.ensures ∙ ours_spoken v.party v.instance v.state _ c.protocol-p.ensures) ∙ c.if-ours.false in
+    sym ((said_exactly v (unjudged NotOurTurn)).1 (refusal (not_our_turn unshut unbarred theirs)))

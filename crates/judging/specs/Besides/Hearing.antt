@@ -10,8 +10,7 @@ use Rattle.messages.specs.Reading.{message_of}
 use Rattle.messages.specs.Besides.Theorem.{Says}
 use Rattle.judging.specs.declared.Outcome.{Outcome}
 use Rattle.judging.specs.declared.Outcome.TheVariants.{Waiting, OurTurn, Finished, BytesBad, NoMessage, NoRow, AfterDone, NoAccept, Closed}
-use Rattle.judging.specs.declared.Judged.{Judged}
-use Rattle.judging.specs.Judging.{View, spoken, ours_now, barred, unjudged, led, heard}
+use Rattle.judging.specs.Judging.{View, spoken, ours_now, barred, Judgement, unjudged, led, heard}
 use Rattle.judging.specs.Besides.Judging.{leads_to}
 
 -- They ask in an order: each of these supposes that nothing before it was refused. Handshake doesn't bar the instance, its protocol hasn't ended, and
@@ -44,9 +43,9 @@ pub data Unheard (v : View) : Outcome → Type 0 where
   no_row : {n : ℕ} {m : Message} → Awaited v → verdict v.bytes ≡ Ok n → Says (spoken v) (take n v.bytes) m → leads_to v m ≡ None → Unheard v NoRow
 
 -- a refusal or notice, or a message
-pub data Hears (v : View) : Judged → Type 0 where
+pub data Hears (v : View) : Judgement → Type 0 where
   refusal : {o : Outcome} → Unheard v o → Hears v (unjudged o)
   message : {n next : ℕ} {m : Message} → Spells v n m next → Hears v (led n m next)
 
 abbrev pub HeardExactly : Type 0
-HeardExactly = (v : View) (j : Judged) → (heard v ≡ j) ↔ Hears v j
+HeardExactly = (v : View) (j : Judgement) → (heard v ≡ j) ↔ Hears v j

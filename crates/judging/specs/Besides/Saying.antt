@@ -7,8 +7,7 @@ use Rattle.messages.specs.Reading.{message_of}
 use Rattle.messages.specs.Besides.Theorem.{Says}
 use Rattle.judging.specs.declared.Outcome.{Outcome}
 use Rattle.judging.specs.declared.Outcome.TheVariants.{NoMessage, NoRow, NoAccept, Closed, NotOurTurn}
-use Rattle.judging.specs.declared.Judged.{Judged}
-use Rattle.judging.specs.Judging.{View, spoken, ours_now, barred, unjudged, led, said}
+use Rattle.judging.specs.Judging.{View, spoken, ours_now, barred, Judgement, unjudged, led, said}
 use Rattle.judging.specs.Besides.Judging.{leads_to}
 
 -- Put asks in an order: each of these supposes that nothing before it was refused. Not closed; instance 0, or Handshake has ended in Accept; and our
@@ -35,9 +34,9 @@ pub data Unsaid (v : View) : Outcome → Type 0 where
   no_row : {m : Message} → OurTurn v → Says (spoken v) v.bytes m → leads_to v m ≡ None → Unsaid v NoRow
 
 -- a refusal, or a message
-pub data Utters (v : View) : Judged → Type 0 where
+pub data Utters (v : View) : Judgement → Type 0 where
   refusal : {o : Outcome} → Unsaid v o → Utters v (unjudged o)
   message : {next : ℕ} {m : Message} → Moves v m next → Utters v (led (length v.bytes) m next)
 
 abbrev pub SaidExactly : Type 0
-SaidExactly = (v : View) (j : Judged) → (said v ≡ j) ↔ Utters v j
+SaidExactly = (v : View) (j : Judgement) → (said v ≡ j) ↔ Utters v j
