@@ -1,4 +1,5 @@
 -- What only functions below the operation cite, here and in `build`: a message by the arguments of its heads.
+pub mod Message
 use Rattle.std.specs.Prelude.{ℕ, ◌+◌, ◌≡◌, Bool, true, false, cond, List, [], ◌∷◌, ◌++◌, length, get_or}
 use Rattle.std.proofs.lemmas.List.Edits.{sets}
 use Rattle.head.specs.Inside.{length_of}

@@ -24,7 +24,7 @@ pub struct Message<'a> {
 impl Message<'_> {
     ghost use Rattle.std.specs.Prelude.{◌≤◌, ◌^◌, SomeIff};
     ghost use Rattle.std.proofs.lemmas.List.Edits.{sets};
-    ghost use Rattle.layout.specs.Message.{field_heads, heads, body, whole};
+    ghost use Rattle.layout.specs.Inside.Message.{field_heads, heads, body, whole};
 
     // How long the fields' heads and breaks are together.
     fn field_heads(&self) -> usize

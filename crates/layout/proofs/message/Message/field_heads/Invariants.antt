@@ -1,7 +1,7 @@
 use Rattle.std.proofs.Common.{◌≡◌, ◌+◌, ◌*◌, ◌≤◌, drop}
 use Rattle.messages.specs.Inside.{form_at}
 use Rattle.layout.specs.Inside.{heads_of}
-use Rattle.layout.specs.Message.{field_heads}
+use Rattle.layout.specs.Inside.Message.{field_heads}
 use Rattle.layout.proofs.message.Message.field_heads.Given as goal
 
 abbrev pub invariant-loop-i : goal.invariant-loop-i

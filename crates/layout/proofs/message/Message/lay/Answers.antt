@@ -5,7 +5,7 @@ use Rattle.head.specs.Inside.{length_of}
 use Rattle.head.specs.Write.{shortest}
 use Rattle.elements.specs.Matching.{array}
 use Rattle.messages.specs.Inside.{form_at}
-use Rattle.layout.specs.Message.{body}
+use Rattle.layout.specs.Inside.Message.{body}
 use Rattle.layout.proofs.LayoutLaws.{whole_long, whole_there}
 use Rattle.layout.proofs.message.Message.lay.Goals as goal
 

@@ -4,7 +4,7 @@ use borrow.Author.Tests.{eq-eqb, ne_eqb}
 use Rattle.messages.specs.Inside.{form_at}
 use Rattle.parts.specs.Inside.{run_at, run_after}
 use Rattle.layout.specs.Inside.{piece_of}
-use Rattle.layout.specs.Message.{rest}
+use Rattle.layout.specs.Inside.Message.{rest}
 use Rattle.layout.proofs.LayoutLaws.{body_on, body_end, put_on}
 use Rattle.layout.proofs.message.Message.put_fields.Goals as goal
 use Rattle.layout.proofs.message.Message.put_fields.Goals.{Joined-r-eq0, then-r-eq0, else-r-eq0, then-not-is_number, else-not-is_number}

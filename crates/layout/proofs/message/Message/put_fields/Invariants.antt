@@ -1,6 +1,6 @@
 use Rattle.std.proofs.Common.{◌≡◌, ◌+◌, ◌≤◌, length}
 use Rattle.std.proofs.lemmas.List.Edits.{sets}
-use Rattle.layout.specs.Message.{body, rest}
+use Rattle.layout.specs.Inside.Message.{body, rest}
 use Rattle.layout.proofs.message.Message.put_fields.Given as goal
 
 abbrev pub invariant-loop-i : goal.invariant-loop-i
