@@ -21,6 +21,7 @@ use ring::view::View;
 // The kinds of levels, by what a level still wants: count items; count and 2^64 items; the elements of an array up to a
 // break; the pairs of a map up to a break, where an odd count is at a value; chunks of bytes, and of text. So one less of
 // the count is what is left after an item of any of the first four.
+// Kept: numbers, and no enum: a level is of items where its kind is below BYTES, and wants one where kind and count are not both 0, so contracts compare and add them.
 pub const ITEMS: u8 = 0;
 
 const MORE_ITEMS: u8 = 1;
