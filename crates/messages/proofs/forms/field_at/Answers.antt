@@ -1,22 +1,14 @@
--- `messages::forms::field_at` meets its contract: the form has the number that stands for the field.
-use mathlib.Core.Path.{ap, ◌∙◌}
-use Rattle.rows.specs.Inside.{entries}
-use Rattle.messages.specs.Inside.{field_of, marks}
-use Rattle.messages.proofs.FormLaws.{field_in}
-use borrow.Author.Rules.{rules}
+-- `messages::forms::field_at` meets its contract: the form has the field.
+use mathlib.Core.Path.{ap}
+use native.Mathlib.Omega.{arith}
+use lib.ListN.{get_or}
+use Rattle.elements.specs.declared.Field.TheVariants.{Item}
+use Rattle.messages.specs.Forms.{Form}
+use Rattle.messages.proofs.FormLaws.{form_is, at_most}
 use Rattle.messages.proofs.forms.field_at.Goals as goal
 
-pub offset_bounds-i : goal.offset_bounds-i
-unfolding entries
-offset_bounds-i c = search rules
-
-pub bounds-i : goal.bounds-i
-unfolding entries
-bounds-i c = search rules
+pub offset_bounds-table-j : goal.offset_bounds-table-j
+offset_bounds-table-j c = record { fits = omega (arith, at_most c.args.i c.requires.0) }
 
 pub returns : goal.returns
-unfolding entries marks
-returns c =
-    let a = c.args in
-    let pre = c.requires in
-    c.field_of.ensures ∙ ap field_of c.mark_in.ensures ∙ field_in a.i pre.0 a.j pre.1
+returns c = ap (λ (f : Form). get_or f.fields c.args.j Item) (form_is c.table.result.now _ c.args.i (omega arith) c.table.ensures.1)

@@ -1,24 +1,16 @@
--- `messages::forms::fields` meets its contract: the form has their number, and no form has more than there are columns for.
-use mathlib.Core.Path.{◌≡◌, ◌∙◌}
+-- `messages::forms::fields` meets its contract: the form has them, and no form has more.
+use Prim.Native.Nat.{◌≤◌}
+use Rattle.messages.specs.Inside.{most_fields}
+use mathlib.Core.Path.{sym, ap, subst}
 use native.Mathlib.Omega.{arith}
 use lib.ListN.{length}
-use Rattle.rows.specs.Inside.{entries}
-use Rattle.messages.specs.Inside.{form_at, marks}
-use Rattle.messages.proofs.FormLaws.{count_at, at_most}
-use borrow.Author.Rules.{rules}
+use Rattle.messages.specs.Forms.{Form}
+use Rattle.messages.proofs.FormLaws.{form_is, at_most}
 use Rattle.messages.proofs.forms.fields.Goals as goal
 
-pub offset_bounds-i : goal.offset_bounds-i
-unfolding entries
-offset_bounds-i c = search rules
-
-pub bounds-i : goal.bounds-i
-unfolding entries
-bounds-i c = search rules
-
 pub returns : goal.returns
-unfolding entries marks
 returns c =
-    let i = c.args.i in
-    let e : c.count_in.result ≡ length (form_at i).fields = c.count_in.ensures ∙ count_at i c.requires in
-    (e, omega (arith, at_most i c.requires))
+    let i = c.args.i in (
+      ap (λ (f : Form). length f.fields) (form_is c.table.result.now _ i (omega arith) c.table.ensures.1),
+      subst (λ (f : Form). length f.fields ≤ most_fields) (sym (form_is c.table.result.now _ i (omega arith) c.table.ensures.1)) (at_most i c.requires),
+    )
