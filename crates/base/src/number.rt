@@ -3,13 +3,6 @@ ghost use Rattle.std.specs.Prelude.{◌≡◌, ◌+◌, ◌≤◌, ◌<◌, ◌^
 ghost use Rattle.std.proofs.lemmas.List.Edits.{sets};
 ghost use Rattle.base.specs.Numbers.{number, octets};
 
-// A byte as a number.
-pub fn wide(x: u8) -> u64
-    ensures { (result ≡ x) × (result < 256) }
-{
-    x as u64
-}
-
 // The number that the k bytes at the place `at` spell.
 pub fn read(s: &[u8], at: usize, k: usize) -> u64
     requires { (at + k ≤ length s.now) × (k ≤ 8) }

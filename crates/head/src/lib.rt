@@ -10,6 +10,7 @@ ghost use Rattle.head.specs.Initial.{major_of, open_of, initial};
 
 // Major types by number, the upper three bits of an initial byte: integers from 0 on and below, strings, containers, tags,
 // and simple values with floats.
+// Kept: numbers, and not an enum: an initial byte is 32 times the one and the additional information, read and written.
 pub const UNSIGNED: u8 = 0;
 
 pub const NEGATIVE: u8 = 1;

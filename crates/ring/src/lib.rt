@@ -72,18 +72,6 @@ pub fn read(dst: &mut [u8], to: usize, store: &[u8], base: usize, cap: usize, n:
     }
 }
 
-// Byte j of the k bytes from place i on of a ring that is a slice of its own.
-pub fn byte_at(s: &[u8], i: usize, k: usize, j: usize) -> u8
-    requires { (i ≤ length s.now) × (k ≤ length s.now) × (j < k) }
-    ensures { result ≡ get_or (around s.now i k) j 0 }
-{
-    let ahead = s.len() - i;
-    if j < ahead {
-        return s[i + j];
-    }
-    s[j - ahead]
-}
-
 impl<'a> View<'a> {
     // All of a slice, from its front.
     pub fn all(bytes: &'a [u8]) -> View<'a>
