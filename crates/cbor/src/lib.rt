@@ -9,7 +9,7 @@
 ghost use Rattle.std.specs.Prelude.{◌≡◌, ◌≤◌, length, drop};
 ghost use Rattle.item.specs.Grammar.{nesting};
 ghost use Rattle.item.specs.Verdict.{judge, start, verdict};
-ghost use Rattle.ring.specs.View.{seen};
+ghost use Rattle.ring.specs.Inside.{seen};
 ghost use Rattle.cbor.specs.Inside.Walk.{Sound, Resumed, walk_of, first_at};
 ghost use Rattle.cbor.specs.Inside.Stops.{stopped_at};
 

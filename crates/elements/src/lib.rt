@@ -7,7 +7,7 @@
 #![tactic(auto)]
 
 ghost use Rattle.std.specs.Prelude.{◌≡◌, ℕ, ◌+◌, ◌^◌, ◌≤◌, ◌<◌, eqb, get_or, Option, Some, None};
-ghost use Rattle.ring.specs.View.{seen};
+ghost use Rattle.ring.specs.Inside.{seen};
 ghost use Rattle.item.specs.Grammar.{nesting};
 ghost use Rattle.elements.specs.Matching.{in_message, in_list, Break, past, opener};
 ghost use Rattle.elements.specs.Inside.{before};

@@ -2,7 +2,7 @@
 ghost use Rattle.std.specs.Prelude.{◌≡◌, ◌+◌, ◌≤◌, ◌<◌, ◌^◌, length};
 ghost use Rattle.base.specs.Numbers.{number};
 ghost use Rattle.ring.specs.Ring.{run};
-ghost use Rattle.ring.specs.View.{seen};
+ghost use Rattle.ring.specs.Inside.{seen};
 ghost use Rattle.head.specs.Read.{head_at, long_at, simple_at};
 
 use super::{INFOS, Initial, SIMPLE, initial_of};

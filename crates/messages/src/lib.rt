@@ -8,7 +8,7 @@
 pub mod forms;
 
 ghost use Rattle.std.specs.Prelude.{◌≡◌, ℕ, ◌≤◌, ◌<◌, length, Some, Ok};
-ghost use Rattle.ring.specs.View.{seen};
+ghost use Rattle.ring.specs.Inside.{seen};
 ghost use Rattle.item.specs.Verdict.{verdict};
 ghost use Rattle.elements.specs.Besides.Matching.{ItemsAt};
 ghost use Rattle.elements.specs.Matching.{in_message};

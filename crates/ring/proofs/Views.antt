@@ -1,7 +1,7 @@
 -- Laws of what a view shows.
 use Rattle.std.proofs.Common.{◌≡◌, length}
 use Rattle.ring.specs.declared.view.View.{View}
-use Rattle.ring.specs.View.{seen}
+use Rattle.ring.specs.Inside.{seen}
 use Rattle.ring.proofs.Around.{around_length}
 
 -- as many bytes as the view has

@@ -10,7 +10,7 @@ ghost use Rattle.std.specs.Prelude.{◌≡◌, ◌+◌, ◌%◌, ◌^◌, ◌≤
 ghost use Rattle.std.proofs.lemmas.List.Edits.{sets};
 ghost use Rattle.ring.specs.Ring.{base_of, stream, laid, run};
 ghost use Rattle.ring.specs.Inside.{around};
-ghost use Rattle.ring.specs.View.{seen};
+ghost use Rattle.ring.specs.Inside.{seen};
 
 use view::View;
 

@@ -8,7 +8,7 @@
 pub mod numbers;
 pub mod runs;
 
-ghost use Rattle.script.specs.Words.{LiesIn};
+ghost use Rattle.script.specs.Inside.{LiesIn};
 
 // A part of a line: from a place on, up to another.
 // Kept: two places and no slice, since `runs` makes a word bytes in place, and so changes the line that slices would borrow.

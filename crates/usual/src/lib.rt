@@ -4,7 +4,7 @@
 #![tactic(auto)]
 
 ghost use Rattle.std.specs.Prelude.{ℕ, ◌≡◌, ◌+◌, ◌-◌, ◌^◌, ◌≤◌, ◌<◌, length};
-ghost use Rattle.ring.specs.View.{seen};
+ghost use Rattle.ring.specs.Inside.{seen};
 ghost use Rattle.usual.specs.Inside.Pieces.{Spot, PieceAt};
 ghost use Rattle.usual.specs.Inside.Usual.{following, small_of, Quickly, Usually, UsualString};
 

@@ -1,7 +1,7 @@
 use Prim.Native.Nat.{◌+◌, ◌*◌, ◌-◌}
 use mathlib.Core.Path.{◌≡◌}
 use lib.ListN.{length}
-use Rattle.ring.specs.View.{seen}
+use Rattle.ring.specs.Inside.{seen}
 use Rattle.usual.specs.Inside.Pieces.{PieceAt}
 use Rattle.cbor.specs.Inside.Walk.{walk_of}
 use Rattle.cbor.proofs.Walking.{Under}

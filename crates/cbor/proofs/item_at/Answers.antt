@@ -1,5 +1,5 @@
 -- `cbor::item_at` meets its contract: a walk that begins at the place comes to the verdict there.
-use Rattle.ring.specs.View.{seen}
+use Rattle.ring.specs.Inside.{seen}
 use Rattle.cbor.specs.Inside.Walk.{first_at}
 use Rattle.cbor.proofs.Kept.{first_sound, first_told}
 use Rattle.cbor.proofs.item_at.Goals as goal

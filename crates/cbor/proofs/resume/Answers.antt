@@ -2,7 +2,7 @@
 use Prim.Native.Nat.{◌-◌}
 use mathlib.Core.Path.{refl}
 use native.Mathlib.Omega.{arith}
-use Rattle.ring.specs.View.{seen}
+use Rattle.ring.specs.Inside.{seen}
 use Rattle.ring.proofs.Views.{seen_length}
 use Rattle.cbor.proofs.Walking.{starts, starts_cut}
 use Rattle.cbor.proofs.resume.Goals as goal

@@ -1,6 +1,6 @@
 -- `elements::bool_at` meets its contract: past the end there is no byte.
 use native.Mathlib.Omega.{arith}
-use Rattle.ring.specs.View.{seen}
+use Rattle.ring.specs.Inside.{seen}
 use Rattle.ring.proofs.Views.{seen_length}
 use Rattle.elements.proofs.Steps.{bool_past}
 use Rattle.elements.proofs.bool_at.Goals as goal

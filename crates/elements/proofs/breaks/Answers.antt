@@ -2,7 +2,7 @@
 use mathlib.Core.Path.{◌∙◌}
 use native.Mathlib.Omega.{arith}
 use borrow.Author.Tests.{le-ltb}
-use Rattle.ring.specs.View.{seen}
+use Rattle.ring.specs.Inside.{seen}
 use Rattle.ring.proofs.Views.{seen_length}
 use Rattle.elements.proofs.Steps.{break_past}
 use Rattle.elements.proofs.breaks.Goals as goal

@@ -1,6 +1,6 @@
 -- `elements::item_end` meets its contract: past the end there is no item, else the verdict tells.
 use native.Mathlib.Omega.{arith}
-use Rattle.ring.specs.View.{seen}
+use Rattle.ring.specs.Inside.{seen}
 use Rattle.ring.proofs.Views.{seen_length}
 use Rattle.elements.proofs.ElementLaws.{item_past}
 use Rattle.elements.proofs.item_end.Goals as goal

@@ -1,7 +1,7 @@
 -- `elements::version_at` meets its contract: behind the key, if there is one, stands its value.
 use mathlib.Core.Path.{sym, ◌∙◌}
 use native.Mathlib.Omega.{arith}
-use Rattle.ring.specs.View.{seen}
+use Rattle.ring.specs.Inside.{seen}
 use Rattle.elements.proofs.ElementLaws.{key_small}
 use Rattle.elements.proofs.version_at.Goals as goal
 

@@ -4,7 +4,7 @@ use mathlib.Core.Path.{◌≡◌, sym, ap, subst, ◌∙◌}
 use Prim.Native.Nat.{ℕ, suc, ◌+◌, ◌-◌, ◌<◌}
 use native.Mathlib.Omega.{arith}
 use lib.ListN.{length, drop}
-use Rattle.ring.specs.View.{seen}
+use Rattle.ring.specs.Inside.{seen}
 use Rattle.ring.proofs.Views.{seen_length}
 use Rattle.messages.specs.declared.Message.{Message}
 use Rattle.elements.specs.Besides.Matching.{ItemsAt}

@@ -6,7 +6,7 @@ use borrow.Author.Tests.{eq-eqb}
 use lib.ListN.{length}
 use Rattle.std.specs.Prelude.{Option, Some, None, Ok, Err, ok_or}
 use Rattle.std.proofs.lemmas.Grind.{common_steps}
-use Rattle.ring.specs.View.{seen}
+use Rattle.ring.specs.Inside.{seen}
 use Rattle.ring.proofs.Views.{seen_length}
 use Rattle.messages.specs.declared.Unread.TheVariants.{UnknownKind}
 use Rattle.messages.specs.Reading.{numbered_of, message_of}

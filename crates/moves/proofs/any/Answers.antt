@@ -3,7 +3,7 @@ use mathlib.Core.Path.{refl, sym, ap, ◌∙◌}
 use native.Mathlib.Omega.{arith}
 use Rattle.head.specs.Initial.{initial}
 use Rattle.head.proofs.ReadLaws.{long_small}
-use Rattle.ring.specs.View.{seen}
+use Rattle.ring.specs.Inside.{seen}
 use Rattle.ring.proofs.Views.{seen_length}
 use Rattle.moves.proofs.AnyHead.{lacks, no_reserved}
 use Rattle.moves.proofs.any.Goals as goal

@@ -4,7 +4,7 @@ use mathlib.Core.Path.{◌≡◌, sym, ◌∙◌, subst⁻¹}
 use mathlib.Core.Bool.{true}
 use native.Mathlib.Omega.{arith}
 use Rattle.item.specs.Grammar.{content}
-use Rattle.ring.specs.View.{seen}
+use Rattle.ring.specs.Inside.{seen}
 use Rattle.moves.specs.Inside.Frames.{may_begin}
 use Rattle.moves.specs.Inside.Moves.{Asked}
 use Rattle.ring.proofs.Views.{seen_length}

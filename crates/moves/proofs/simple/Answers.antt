@@ -1,6 +1,6 @@
 -- `moves::simple` meets its contract: the second byte is not there, or below 32, or not.
 use native.Mathlib.Omega.{arith}
-use Rattle.ring.specs.View.{seen}
+use Rattle.ring.specs.Inside.{seen}
 use Rattle.ring.proofs.Views.{seen_length}
 use Rattle.moves.proofs.AnyHead.{no_simple, simple_cut, simple_low, simple_high}
 use Rattle.moves.proofs.simple.Goals as goal

@@ -4,7 +4,7 @@ use mathlib.Core.Path.{◌≡◌, sym, ◌∙◌}
 use Prim.Native.Nat.{ℕ, ◌+◌, ◌/◌, ◌≤◌}
 use native.Mathlib.Omega.{arith}
 use borrow.Author.Rules.{rules}
-use Rattle.ring.specs.View.{seen}
+use Rattle.ring.specs.Inside.{seen}
 use Rattle.ring.proofs.Views.{seen_length}
 use Rattle.head.specs.Read.{head_by, head_at}
 use Rattle.head.specs.declared.Major.{Major}

@@ -2,7 +2,7 @@
 use Rattle.std.proofs.Common.{◌≡◌, refl, arith, rules}
 use Rattle.base.specs.Numbers.{spelled}
 use Rattle.base.proofs.NumberLaws.{number_more, room, grows}
-use Rattle.ring.specs.View.{seen}
+use Rattle.ring.specs.Inside.{seen}
 use Rattle.ring.proofs.Views.{seen_length}
 use Rattle.head.proofs.read.number_at.Goals as goal
 

@@ -1,7 +1,7 @@
 use Rattle.std.proofs.Common.{◌≡◌, ◌<◌, ◌^◌}
 use Rattle.base.specs.Numbers.{number}
 use Rattle.ring.specs.Ring.{run}
-use Rattle.ring.specs.View.{seen}
+use Rattle.ring.specs.Inside.{seen}
 use Rattle.head.proofs.read.number_at.Given as goal
 
 abbrev pub invariant-loop-j : goal.invariant-loop-j

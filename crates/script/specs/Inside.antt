@@ -1,4 +1,4 @@
--- A word as a part of a line.
+-- What only functions below the programs cite: a word as a part of a line.
 use Rattle.std.specs.Prelude.{◌≤◌, ℕ, List, length}
 use Rattle.script.specs.declared.Word.{Word}
 
