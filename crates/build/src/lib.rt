@@ -14,6 +14,7 @@ use parts::given::Given;
 use rows::Protocol;
 
 // The number; where it is 0, how long the message is.
+// Kept: the number in front, which README promises of every answer (`build_of`).
 #[derive(Clone, Copy)]
 pub struct Built {
     pub number: u64,

@@ -117,6 +117,7 @@ fn advance(
         minus: 0,
         lim: 0,
     };
+    // Kept: no `for`, since a head says where the next begins, and no list is gone along.
     loop {
         if count == 0 {
             if kind == ITEMS {

@@ -12,6 +12,7 @@ pub mod closings;
 
 // Set at open: which end we are, the payload limit S, and the capacities by instance. Arrays by instance have room for
 // the largest bundle.
+// Kept: arrays by instance, one for each thing that is counted: document 01 names arrays by value of held and waiting counts.
 #[derive(Clone, Copy)]
 pub struct Settings {
     pub party: Party,

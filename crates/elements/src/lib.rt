@@ -233,6 +233,7 @@ pub fn walk(v: View<'_>, d: usize, e: Element, x: Extent, first: usize) -> Optio
     let mut k: u64 = 0;
     let mut low: u64 = 0;
     let mut at = first;
+    // Kept: no `for`, since the elements say where they close.
     while !x.is_closed(v, k, at) {
         let (next, q) = element_at(v, d, e, low, at)?;
         low = next;

@@ -21,6 +21,7 @@ use wire::instances::{INSTANCES, Party};
 use wire::segment::HEADER;
 
 // Feed's answer: the number, how many bytes were used, and the record.
+// Kept: the number in front, which README promises of every answer; and a record with each, for a fault hands back a closed one.
 #[derive(Clone, Copy)]
 pub struct Fed {
     pub number: u64,
@@ -104,6 +105,7 @@ fn steps(
 {
     let mut way = w;
     let mut at: usize = 0;
+    // Kept: no `for`, since a step uses as many bytes as it says.
     while at < input.len() {
         let t = part(party, caps, starts, held, way, store, input, at);
         way = t.way;

@@ -10,6 +10,7 @@ use ring::view::View;
 
 // What stands at a place: a head with its major type, 0 to 7, its argument and the place behind it; one of indefinite
 // length; a break; a head whose bytes are not all there; or bytes that begin no head.
+// Kept: five sorts in one enum, as RFC 8949 tells heads; a break is no failure where a list may end, nor a success where an item is due.
 #[derive(Clone, Copy)]
 pub enum Head {
     Definite {

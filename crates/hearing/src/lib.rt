@@ -21,6 +21,7 @@ use wire::instances::count;
 
 // The number; where it is 0, the message's length and what it says; where it is 14, the offset of the first byte after
 // which no item is possible, counted from the message's first byte.
+// Kept: the number in front, which README promises of every answer (`look_of`, `drop_of`).
 #[derive(Clone, Copy)]
 pub struct Shown {
     pub number: u64,

@@ -61,6 +61,7 @@ pub struct Judged {
 }
 
 // The number of Accept, among Handshake's messages.
+// Kept: a kind is the message's number on the wire (000), so that any number may be read.
 const ACCEPT: u64 = 1;
 
 // Whether agency is with us, as initiator or not.

@@ -19,6 +19,7 @@ use judging::{Judged, Outcome};
 use wire::instances::INSTANCES;
 
 // Where a message is shown: in the store from a place on, at the front of scratch, or not at all.
+// Kept: three places and no Option, since part is given any of them and README's look answers one always (`Shows`).
 #[derive(Clone, Copy)]
 pub enum Place {
     Store(usize),
@@ -127,6 +128,7 @@ pub fn part<'a>(store: &'a [u8], scratch: &'a [u8], place: Place, len: usize) ->
 }
 
 // The same, of a store and a scratch with a lifetime each, which meet in the part.
+// Kept beside `part`: document 01 names two lifetimes that meet in one part.
 pub fn meet<'a, 'b: 'a>(store: &'a [u8], scratch: &'b [u8], place: Place, len: usize) -> &'a [u8]
     ensures { Shows place len store.entry scratch.entry result }
 {

@@ -41,6 +41,7 @@ pub const MOST_PLACES: usize = 2;
 
 // What a message says: its number, the numbers in it, and the start and length of each item, list and map, in order.
 // `count` is how many numbers it has, and `parts` how many items, lists and maps. What is not set is 0.
+// Kept: arrays with a count beside, since nothing is allocated and the record that look and drop show goes by value.
 #[derive(Clone, Copy)]
 pub struct Message {
     pub kind: u64,

@@ -47,6 +47,7 @@ pub struct Level {
 
 // What a head does: from a place on the level is another; or a level is open within it; the bytes of a string go on
 // after all that are there; a byte is bad; the head is cut off.
+// Kept: five moves in one enum, for the walk matches them in one place, and a fault or a lack ends it as a skip does.
 #[derive(Clone, Copy)]
 pub enum Move {
     Stay(usize, Level),

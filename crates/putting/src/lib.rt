@@ -16,6 +16,7 @@ use range::{fits, sends};
 use wire::instances::{HANDSHAKE, count};
 
 // The number, and the record.
+// Kept: the number in front, which README promises of every answer (`put_of`).
 #[derive(Clone, Copy)]
 pub struct Queued {
     pub number: u64,

@@ -12,6 +12,7 @@ ghost use Rattle.ready.specs.Inside.{bit_set, chosen_in};
 use wire::instances::INSTANCES;
 
 // Status tells these: the word, how many instances are ready, and which is lowest, 255 if none.
+// Kept: 255 for none, which status shows (`status_of`).
 #[derive(Clone, Copy)]
 pub struct Ready {
     pub word: u64,

@@ -18,6 +18,7 @@ use wire::instances::{Party, count};
 use wire::segment::{HEADER, Segment};
 
 // The number; where it is 0, how long header and payload are together; and the record.
+// Kept: the number in front, which README promises of every answer (`next_of`).
 #[derive(Clone, Copy)]
 pub struct Made {
     pub number: u64,

@@ -12,6 +12,7 @@ use wire::instances::{INSTANCES, count};
 
 // The number, 0 or 23; the held and waiting counts; the ready word, how many are ready and which is lowest; and the
 // gate, which holds the closing.
+// Kept: the number in front, which README promises of every answer (`status_of`).
 #[derive(Clone, Copy)]
 pub struct Report {
     pub number: u64,

@@ -25,6 +25,7 @@ pub enum Side {
 }
 
 // Which of the two ends of a connection we are: the bundle that runs, by number, and our side.
+// Kept: a bundle by number, since a caller may give one that is none, which is 23 (`known`).
 #[derive(Clone, Copy)]
 pub struct Party {
     pub bundle: u64,
