@@ -5,6 +5,7 @@
 #![tactic(auto)]
 
 ghost use Rattle.std.specs.Prelude.{◌≡◌, ◌+◌, ◌≤◌, length, OnOk};
+ghost use Rattle.output.specs.Written.{EndsIn, EndsInDecimal, EndsInHex, OfLast};
 
 use std::io::{Stderr, Stdout};
 use text::DIGITS;
@@ -31,7 +32,9 @@ pub struct Writer<'a> {
 
 impl Writer<'_> {
     // At the start of a line.
-    pub fn new(stdout: Stdout, out: &mut [u8]) -> Writer<'_> {
+    pub fn new(stdout: Stdout, out: &mut [u8]) -> Writer<'_>
+        ensures { result.at ≡ 0 }
+    {
         Writer { stdout, out, at: 0 }
     }
 
@@ -58,14 +61,18 @@ impl Writer<'_> {
     }
 
     // One byte.
-    pub fn byte(&mut self, b: u8) -> Result<(), WriteFailed> {
+    pub fn byte(&mut self, b: u8) -> Result<(), WriteFailed>
+        ensures { OnOk result (EndsIn b self.new.out.now self.new.at) }
+    {
         self.reserve(1)?;
         self.at = text::byte(self.out, self.at, b);
         Ok(())
     }
 
     // The first word of a line, or several.
-    pub fn words(&mut self, words: &[u8]) -> Result<(), WriteFailed> {
+    pub fn words(&mut self, words: &[u8]) -> Result<(), WriteFailed>
+        ensures { OnOk result (OfLast (λ b. EndsIn b self.new.out.now self.new.at) words.now) }
+    {
         for b in words {
             self.byte(*b)?;
         }
@@ -73,20 +80,26 @@ impl Writer<'_> {
     }
 
     // A number in decimal.
-    pub fn decimal(&mut self, n: u64) -> Result<(), WriteFailed> {
+    pub fn decimal(&mut self, n: u64) -> Result<(), WriteFailed>
+        ensures { OnOk result (EndsInDecimal n self.new.out.now self.new.at) }
+    {
         self.reserve(DIGITS)?;
         self.at = text::decimal(self.out, self.at, n);
         Ok(())
     }
 
     // A space and a number.
-    pub fn number(&mut self, n: u64) -> Result<(), WriteFailed> {
+    pub fn number(&mut self, n: u64) -> Result<(), WriteFailed>
+        ensures { OnOk result (EndsInDecimal n self.new.out.now self.new.at) }
+    {
         self.byte(b' ')?;
         self.decimal(n)
     }
 
     // Numbers, each behind a space.
-    pub fn numbers(&mut self, numbers: &[u64]) -> Result<(), WriteFailed> {
+    pub fn numbers(&mut self, numbers: &[u64]) -> Result<(), WriteFailed>
+        ensures { OnOk result (OfLast (λ n. EndsInDecimal n self.new.out.now self.new.at) numbers.now) }
+    {
         for n in numbers {
             self.number(*n)?;
         }
@@ -94,7 +107,9 @@ impl Writer<'_> {
     }
 
     // A space and a list of numbers.
-    pub fn list(&mut self, numbers: &[u64]) -> Result<(), WriteFailed> {
+    pub fn list(&mut self, numbers: &[u64]) -> Result<(), WriteFailed>
+        ensures { OnOk result (OfLast (λ n. EndsInDecimal n self.new.out.now self.new.at) numbers.now) }
+    {
         self.byte(b' ')?;
         if numbers.is_empty() {
             return self.byte(b'-');
@@ -109,7 +124,9 @@ impl Writer<'_> {
     }
 
     // Bytes in hex.
-    pub fn hex(&mut self, bytes: &[u8]) -> Result<(), WriteFailed> {
+    pub fn hex(&mut self, bytes: &[u8]) -> Result<(), WriteFailed>
+        ensures { OnOk result (OfLast (λ b. EndsInHex b self.new.out.now self.new.at) bytes.now) }
+    {
         for b in bytes {
             self.reserve(HEX)?;
             self.at = text::hex(self.out, self.at, *b);
@@ -118,7 +135,9 @@ impl Writer<'_> {
     }
 
     // A space and a run of bytes.
-    pub fn run(&mut self, bytes: &[u8]) -> Result<(), WriteFailed> {
+    pub fn run(&mut self, bytes: &[u8]) -> Result<(), WriteFailed>
+        ensures { OnOk result (OfLast (λ b. EndsInHex b self.new.out.now self.new.at) bytes.now) }
+    {
         self.byte(b' ')?;
         if bytes.is_empty() {
             return self.byte(b'.');
@@ -127,7 +146,9 @@ impl Writer<'_> {
     }
 
     // Ends the line, and writes all out: the next one can begin.
-    pub fn end(&mut self) -> Result<(), WriteFailed> {
+    pub fn end(&mut self) -> Result<(), WriteFailed>
+        ensures { OnOk result (self.new.at ≡ 0) }
+    {
         self.byte(b'\n')?;
         self.flush()
     }
