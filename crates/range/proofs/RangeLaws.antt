@@ -19,8 +19,6 @@ use Rattle.connection.specs.declared.Receiving.{Receiving}
 use Rattle.connection.specs.declared.Talk.{Talk}
 use Rattle.connection.specs.declared.Connection.{Connection}
 use Rattle.connection.specs.Closings.{gate_ok}
-use Rattle.range.specs.declared.Range.{Range}
-use Rattle.range.specs.Inside.{Apart}
 use Rattle.range.specs.Ranges.{limit_ok, capacity_ok, capacities_ok, settings_ok, area_ok, state_ok, turn_ok, header_ok, accept_ok, instance_ok, in_range, receive_length, send_length, receives, sends}
 
 -- a sum within a capacity
@@ -219,16 +217,3 @@ receives_both c n e = and_equal {n = n} {m = receive_length c.settings} e
 
 pub sends_both : (c : Connection) (n : ℕ) → sends c n ≡ true → (in_range c ≡ true) × (n ≡ send_length c.settings)
 sends_both c n e = and_equal {n = n} {m = send_length c.settings} e
-
--- two tests of which the second is asked where the first passes
-pub and_so : {a b f g : Bool} → a ≡ b → (a ≡ true → f ≡ g) → (a && f) ≡ (b && g)
-and_so {a} e h = by_test a (λ q. rw (← e, q) (h q)) (λ q. rw (← e, q))
-
--- what a call asks of a record that is taken apart and of the store that it is lent
-pub receives_is : (c : Connection) (n : ℕ) {r : Range} → Apart (in_range c) (receive_length c.settings) (send_length c.settings) r
-    → (r.ok && eqb n r.receive) ≡ receives c n
-receives_is c n k = and_so k.ok (λ q. ap (eqb n) (k.receive q))
-
-pub sends_is : (c : Connection) (n : ℕ) {r : Range} → Apart (in_range c) (receive_length c.settings) (send_length c.settings) r
-    → (r.ok && eqb n r.send) ≡ sends c n
-sends_is c n k = and_so k.ok (λ q. ap (eqb n) (k.send q))

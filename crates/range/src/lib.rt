@@ -12,13 +12,13 @@ ghost use Rattle.wire.specs.Instances.{instances, most, handshake};
 ghost use Rattle.rows.specs.Rows.{done_of};
 ghost use Rattle.rows.specs.Spoken.{speaks};
 ghost use Rattle.range.specs.Ranges.{limit_ok, area_ok, header_ok, accept_ok, instance_ok, in_range, receive_length, send_length, receives, sends};
-ghost use Rattle.range.specs.Inside.{range_in, rest_ok, Spans, Apart};
+ghost use Rattle.range.specs.Inside.{rest_ok, Spans};
 
+use connection::Connection;
 use connection::closings::gate_ok;
-use connection::{Connection, Gate, Receiving, Sending, Settings, Talk};
 use rows::spoken::{done, last_states};
-use wire::instances::{HANDSHAKE, INSTANCES, Party, Side, count};
-use wire::segment::{HEADER, Header};
+use wire::instances::{HANDSHAKE, INSTANCES, count};
+use wire::segment::HEADER;
 
 // The payload limit S goes from 1 up to this.
 pub const MOST_LIMIT: u64 = 65535;
@@ -166,87 +166,5 @@ pub fn sends(c: &Connection, n: usize) -> bool
     match range_of(c) {
         Some(lengths) => n as u64 == lengths.send,
         None => false,
-    }
-}
-
-// ---- of a record that is taken apart
-
-// The numbers of a record that stand in no array by instance.
-#[derive(Clone, Copy)]
-pub struct Marks {
-    pub limit: u64,
-    pub turn: u64,
-    pub bytes: usize,
-    pub instance: u64,
-    pub rest: u64,
-    pub accepted: bool,
-    pub gate: Gate,
-}
-
-// Whether a record is in range, and, if it is, how long its stores are.
-#[derive(Clone, Copy)]
-pub struct Range {
-    pub ok: bool,
-    pub receive: u64,
-    pub send: u64,
-}
-
-// Whether a record is in range, and how long its stores are.
-pub fn in_range<'a>(
-    bundle: u64,
-    receive: &'a [u64; INSTANCES],
-    starts: &'a [u64; INSTANCES],
-    held: &'a [u64; INSTANCES],
-    send: &'a [u64; INSTANCES],
-    firsts: &'a [u64; INSTANCES],
-    waiting: &'a [u64; INSTANCES],
-    states: &'a [u64; INSTANCES],
-    m: Marks,
-) -> Range
-    ensures { Apart (range_in bundle receive.now starts.now held.now send.now firsts.now
-        waiting.now states.now m) (base_of receive.now (instances bundle)) (base_of send.now (instances bundle)) result }
-{
-    let c = Connection {
-        settings: Settings {
-            party: Party {
-                bundle,
-                side: Side::Dialler,
-            },
-            limit: m.limit,
-            receive: *receive,
-            send: *send,
-        },
-        receiving: Receiving {
-            starts: *starts,
-            held: *held,
-            header: Header {
-                bytes: [0; HEADER],
-                count: m.bytes,
-            },
-            instance: m.instance,
-            rest: m.rest,
-        },
-        sending: Sending {
-            starts: *firsts,
-            waiting: *waiting,
-            turn: m.turn,
-        },
-        talk: Talk {
-            states: *states,
-            accepted: m.accepted,
-        },
-        gate: m.gate,
-    };
-    match range_of(&c) {
-        Some(lengths) => Range {
-            ok: true,
-            receive: lengths.receive,
-            send: lengths.send,
-        },
-        None => Range {
-            ok: false,
-            receive: 0,
-            send: 0,
-        },
     }
 }
