@@ -5,7 +5,7 @@
 #![tactic(auto)]
 
 ghost use Rattle.std.specs.Prelude.{◌≡◌, ◌+◌, ◌≤◌, length, OnOk};
-ghost use Rattle.output.specs.Written.{EndsIn, EndsInDecimal, EndsInHex, OfLast};
+ghost use Rattle.output.specs.Inside.{EndsIn, EndsInDecimal, EndsInHex, OfLast};
 
 use std::io::{Stderr, Stdout};
 use text::DIGITS;

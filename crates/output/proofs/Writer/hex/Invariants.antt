@@ -1,5 +1,5 @@
 use Rattle.std.proofs.Common.{◌-◌, ◌<◌, get_or}
-use Rattle.output.specs.Written.{EndsInHex}
+use Rattle.output.specs.Inside.{EndsInHex}
 use Rattle.output.proofs.Writer.hex.Given as goal
 
 abbrev pub invariant-loop-b : goal.invariant-loop-b

@@ -1,5 +1,5 @@
 use Rattle.std.proofs.Common.{◌-◌, ◌<◌, get_or}
-use Rattle.output.specs.Written.{EndsInDecimal}
+use Rattle.output.specs.Inside.{EndsInDecimal}
 use Rattle.output.proofs.Writer.list.Given as goal
 
 abbrev pub invariant-loop-i : goal.invariant-loop-i

@@ -1,5 +1,5 @@
 use Rattle.std.proofs.Common.{◌-◌, ◌<◌, get_or}
-use Rattle.output.specs.Written.{EndsIn}
+use Rattle.output.specs.Inside.{EndsIn}
 use Rattle.output.proofs.Writer.words.Given as goal
 
 abbrev pub invariant-loop-b : goal.invariant-loop-b
