@@ -17,6 +17,7 @@ use connection::{Closing, Connection};
 use judging::{Judged, Outcome};
 use messages::Message;
 use range::receives;
+use ring::view::View;
 use wire::instances::count;
 
 // The number; where it is 0, the message's length and what it says; where it is 14, the offset of the first byte after
@@ -76,9 +77,12 @@ fn listen(c: &Connection, store: &[u8], i: usize) -> Result<Judged, Outcome>
     let caps = &c.settings.receive;
     let base = ring::base_of(caps, i);
     let end = base + caps[i] as usize;
-    let start = c.receiving.starts[i] as usize;
-    let held = c.receiving.held[i] as usize;
-    judging::heard(c, i, &store[base..end], start, held)
+    let held = View {
+        bytes: &store[base..end],
+        from: c.receiving.starts[i] as usize,
+        len: c.receiving.held[i] as usize,
+    };
+    judging::heard(c, i, held)
 }
 
 // What is heard of an instance: 23, 10, and then what `judging::heard` has.

@@ -7,7 +7,7 @@
 #![tactic(auto)]
 
 ghost use Rattle.std.specs.Prelude.{◌≡◌, not, ◌&&◌, cond, ◌≤◌, ◌<◌, eqb, length, Ok};
-ghost use Rattle.ring.specs.Inside.{around};
+ghost use Rattle.ring.specs.Inside.{seen};
 ghost use Rattle.wire.specs.Instances.{instances, handshake, initiates, role_of};
 ghost use Rattle.item.specs.Verdict.{verdict};
 ghost use Rattle.rows.specs.Rows.{agency_of};
@@ -141,20 +141,15 @@ fn by_row(len: usize, message: Message, next: Option<u64>) -> Result<Judged, Out
     }
 }
 
-// The n bytes from the place `from` on of a slice seen as a ring, which were measured, in a state of the protocol.
-fn judge(p: Protocol, state: u64, s: &[u8], from: usize, n: usize) -> Result<Judged, Outcome>
-    requires { (from ≤ length s.now) × (n ≤ length s.now) × (verdict (around s.now from n) ≡ Ok n) }
-    ensures { result ≡ judged_of p state (around s.now from n) }
+// Bytes that were measured, in a state of the protocol.
+fn judge(p: Protocol, state: u64, v: View<'_>) -> Result<Judged, Outcome>
+    requires { verdict (seen v) ≡ Ok v.len }
+    ensures { result ≡ judged_of p state (seen v.entry) }
 {
-    let v = View {
-        bytes: s,
-        from,
-        len: n,
-    };
     match messages::read(p, v) {
         Ok(message) => {
             let next = rows::find(p, state, message.kind, messages::flag(p, message));
-            by_row(n, message, next)
+            by_row(v.len, message, next)
         }
         Err(why) => Err(Outcome::NoMessage(why)),
     }
@@ -171,25 +166,15 @@ fn not_whole(closed: bool) -> Outcome
     }
 }
 
-// The first item among the n bytes from the place `start` on of an area, which is a ring, in a state of the protocol.
-fn measured(
-    p: Protocol,
-    state: u64,
-    closed: bool,
-    area: &[u8],
-    start: usize,
-    n: usize,
-) -> Result<Judged, Outcome>
-    requires { (start ≤ length area.now) × (n ≤ length area.now) }
-    ensures { result ≡ by_verdict p state closed (around area.now start n) (verdict (around area.now start n)) }
+// The first item among the bytes held, in a state of the protocol.
+fn measured(p: Protocol, state: u64, closed: bool, held: View<'_>) -> Result<Judged, Outcome>
+    ensures { result ≡ by_verdict p state closed (seen held.entry) (verdict (seen held.entry)) }
 {
-    let held = View {
-        bytes: area,
-        from: start,
-        len: n,
-    };
     match cbor::measure(held) {
-        Ok(len) => judge(p, state, area, start, len),
+        Ok(len) => {
+            let View { bytes, from, .. } = held;
+            judge(p, state, View { bytes, from, len })
+        }
         Err(NotWhole::Bad(at)) => Err(Outcome::BytesBad(at)),
         Err(NotWhole::Incomplete) => Err(not_whole(closed)),
     }
@@ -206,16 +191,10 @@ fn ended(n: usize) -> Outcome
     }
 }
 
-// What look and drop ask of instance i, of the n bytes held, from the place `start` on of an area.
-pub fn heard(
-    c: &Connection,
-    i: usize,
-    area: &[u8],
-    start: usize,
-    n: usize,
-) -> Result<Judged, Outcome>
-    requires { (i < instances c.now.settings.party.bundle) × (start ≤ length area.now) × (n ≤ length area.now) }
-    ensures { result ≡ heard (view_of c.now i (around area.now start n)) }
+// What look and drop ask of instance i, of the bytes held.
+pub fn heard(c: &Connection, i: usize, held: View<'_>) -> Result<Judged, Outcome>
+    requires { i < instances c.now.settings.party.bundle }
+    ensures { result ≡ heard (view_of c.now i (seen held.entry)) }
 {
     let party = c.settings.party;
     let state = c.talk.states[i];
@@ -224,39 +203,21 @@ pub fn heard(
     }
     let p = rows::spoken::protocol(party.bundle, i);
     if state == rows::done(p) {
-        return Err(ended(n));
+        return Err(ended(held.len));
     }
     if ours(party, i, p, state) {
         return Err(Outcome::OurTurn);
     }
-    measured(p, state, !is_open(c.gate), area, start, n)
+    measured(p, state, !is_open(c.gate), held)
 }
 
-// Bytes that are not exactly one item are no message.
-fn no_message() -> Result<Judged, Outcome>
-    ensures { result ≡ unjudged (Outcome.NoMessage Unread.NotArray) }
-{
-    Err(Outcome::NoMessage(Unread::NotArray))
-}
-
-// The slice, whose first n bytes are an item.
-fn judge_item(p: Protocol, state: u64, s: &[u8], n: usize) -> Result<Judged, Outcome>
-    requires { verdict s.now ≡ Ok n }
-    ensures { result ≡ judged_of p state s.now }
-{
-    if n == s.len() {
-        return judge(p, state, s, 0, n);
-    }
-    no_message()
-}
-
-// All bytes of a slice, in a state of the protocol.
+// All bytes of a slice, in a state of the protocol. Those that are not exactly one item are no message.
 fn judge_slice(p: Protocol, state: u64, s: &[u8]) -> Result<Judged, Outcome>
     ensures { result ≡ judged_of p state s.now }
 {
     match cbor::measure_slice(s) {
-        Ok(n) => judge_item(p, state, s, n),
-        Err(_) => no_message(),
+        Ok(n) if n == s.len() => judge(p, state, View::all(s)),
+        _ => Err(Outcome::NoMessage(Unread::NotArray)),
     }
 }
 
