@@ -29,21 +29,30 @@ const PROPOSE: u64 = 0;
 // Room for a line.
 const LINE: usize = 64;
 
-// A line of a word and numbers.
-fn say(stdout: Stdout, word: &[u8], numbers: &[u64]) -> Result<(), WriteFailed> {
+// Prints a line: what `write` puts in it, and its end.
+fn print<F: FnOnce(&mut Writer<'_>) -> Result<(), WriteFailed>>(
+    stdout: Stdout,
+    write: F,
+) -> Result<(), WriteFailed>
+    requires { F.IsAlwaysCallable write }
+{
     let mut space = [0u8; LINE];
     let mut out = Writer::new(stdout, &mut space);
-    out.words(word)?;
-    out.numbers(numbers)?;
+    write(&mut out)?;
     out.end()
+}
+
+// A line of a word and numbers.
+fn say(stdout: Stdout, word: &[u8], numbers: &[u64]) -> Result<(), WriteFailed> {
+    print(stdout, |out| {
+        out.words(word)?;
+        out.numbers(numbers)
+    })
 }
 
 // A line of bytes in hex.
 fn show(stdout: Stdout, bytes: &[u8]) -> Result<(), WriteFailed> {
-    let mut space = [0u8; LINE];
-    let mut out = Writer::new(stdout, &mut space);
-    out.hex(bytes)?;
-    out.end()
+    print(stdout, |out| out.hex(bytes))
 }
 
 // Node to node (bundle 0), as the one that dialled.

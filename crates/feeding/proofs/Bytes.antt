@@ -38,7 +38,7 @@ use Rattle.admitting.specs.declared.Step.{Step}
 use Rattle.feeding.specs.Feeding.{Reception, admitted, admission, instance_for, settled, headed, kept, step, fed, used}
 use Rattle.feeding.specs.Feeding.{told, refused, given, answered, feed_open, feed_of}
 use Rattle.admitting.specs.Inside.{reception, Heads}
-use Rattle.feeding.specs.Inside.{Sound, Under, Lays, Steps}
+use Rattle.feeding.specs.Inside.{Placed, Sound, Under, Lays, Steps}
 
 pub open_is : (g : Gate) → is_open g ≡ true → g ≡ Open
 open_is Open e = refl
@@ -159,17 +159,16 @@ lays caps starts held w store store' xs at n i more ends within e f =
 sound_settled : (b : ℕ) (caps : List ℕ) (s : Reception) (n : ℕ) (r : Route) → Within b r → Sound b caps s
     → Sound b caps (settled s (admitted caps s.receiving.held n r))
 sound_settled b caps s n (Err e) w r =
-    record { areas = r.areas; many = r.many; each = r.each; under = r.under }
+    record { areas = r.areas; many = r.many; under = r.under }
 sound_settled b caps s n (Ok i) w r =
     cond_cases (λ (a : Admission). Sound b caps (settled s a)) (leb (get_or s.receiving.held i 0 + n) (get_or caps i 0))
     (λ e.
     record {
       areas = r.areas;
       many = r.many;
-      each = r.each;
       under = λ more. rw (ne_eqb n 0 (λ z. omega arith)) (w, leb-true (get_or s.receiving.held i 0 + n) (get_or caps i 0) e);
     })
-    (λ e. record { areas = r.areas; many = r.many; each = r.each; under = r.under })
+    (λ e. record { areas = r.areas; many = r.many; under = r.under })
 
 pub sound_admission : (us : Party) (caps : List ℕ) (s : Reception) (h : Header) → Sound us.bundle caps s
     → Sound us.bundle caps (settled s (admission us caps s.receiving.held h))
@@ -184,7 +183,7 @@ sound_headed us caps s x r =
     let h = added s.receiving.header x in
     cond_cases (Sound us.bundle caps) (leb header_length h.count)
     (λ e. sound_admission us caps s h r)
-    (λ e. record { areas = r.areas; many = r.many; each = r.each; under = r.under })
+    (λ e. record { areas = r.areas; many = r.many; under = r.under })
 
 pub sound_kept : (b : ℕ) (caps : List ℕ) (s : Reception) (xs : List ℕ) → Sound b caps s → 0 < s.receiving.rest → length xs ≤ s.receiving.rest
     → Sound b caps (kept caps s xs)
@@ -198,23 +197,21 @@ sound_kept b caps s xs r more l =
     record {
       areas = laid_length s.store (base_of caps i) (get_or caps i 0) (get_or s.receiving.starts i 0 + get_or held i 0) xs ∙ r.areas;
       many = length-set held i (get_or held i 0 + length xs) ∙ r.many;
-      each = r.each;
       under = λ still. rw (ne_eqb (s.receiving.rest - length xs) 0 (λ z. omega arith)) (u.0, omega (arith, u.1, now));
     }
 
 -- a payload under way has its area, and room there
-pub sound_under : {b : ℕ} {caps starts held : List ℕ} {w : Way} {store : List ℕ} → Sound b caps (reception starts held w Open store) → 0 < w.rest
-    → Under caps starts held w (length store)
-sound_under {b} {caps} {w = w} {store} r more =
+pub sound_under : {b : ℕ} {caps starts held : List ℕ} {w : Way} {store : List ℕ} → Placed b caps starts
+    → Sound b caps (reception starts held w Open store) → 0 < w.rest
+    → Under b caps held w (length store)
+sound_under {b} {caps} {w = w} {store} p r more =
     let u = r.under more in
-    let e = r.each w.instance u.0 in
+    let e = p w.instance u.0 in
     record {
-      inside = omega (arith, u.0, at_most b);
+      inside = u.0;
       area = area_of caps (length store) w.instance (omega (arith, e.0)) (area_in_store store caps _ (instances b) r.areas u.0);
-      start = omega (arith, e.0, e.1);
       more = more;
       room = u.1;
-      small = e.1;
     }
 
 -- ---- the steps of feed's loop
@@ -333,9 +330,11 @@ sound_given c st e many =
     record {
       areas = p.1;
       many = many;
-      each = λ i h. ((k.receiving i h).0, (k.set.receive i h).1);
       under = λ more. let (none, inside, fit) = k.under_way more in (inside, fit);
     }
+
+pub placed_given : (c : Connection) → in_range c ≡ true → Placed c.settings.party.bundle c.settings.receive c.receiving.starts
+placed_given c e = let k : Ranged c = ranged c e in λ i h. ((k.receiving i h).0, (k.set.receive i h).1)
 
 -- the parts of a record that is open
 pub open_parts : (c : Connection) (st : List ℕ) → c.gate ≡ Open

@@ -10,23 +10,24 @@ use Rattle.admitting.specs.declared.Step.{Step}
 use Rattle.admitting.specs.Inside.{reception}
 use Rattle.feeding.specs.Feeding.{Reception, kept, fed, used}
 
--- What of the range feeding rests on: the store is its areas, each with its start; and there is room for the payload under way.
+-- Of a bundle b, the first held byte of each instance is inside its area, and an area is of at most 131,072 bytes.
+abbrev pub Placed : ℕ → List ℕ → List ℕ → Type 0
+Placed b caps starts = (i : ℕ) → i < instances b → (get_or starts i 0 < get_or caps i 0) × (get_or caps i 0 ≤ 131072)
+
+-- What else of the range feeding rests on: the store is its areas; and there is room for the payload under way.
 pub record Sound (b : ℕ) (caps : List ℕ) (s : Reception) : Type 0 where
   pub areas : length s.store ≡ base_of caps (instances b)
   pub many : length s.receiving.held ≡ most
-  pub each : (i : ℕ) → i < instances b → (get_or s.receiving.starts i 0 < get_or caps i 0) × (get_or caps i 0 ≤ 131072)
   pub under : 0 < s.receiving.rest
       → (s.receiving.instance < instances b)
       × (get_or s.receiving.held s.receiving.instance 0 + s.receiving.rest ≤ get_or caps s.receiving.instance 0)
 
--- the area of a payload under way, which has room for it
-pub record Under (caps starts held : List ℕ) (w : Way) (n : ℕ) : Type 0 where
-  pub inside : w.instance < most
+-- the area of a payload under way of a bundle b, which has room for it
+pub record Under (b : ℕ) (caps held : List ℕ) (w : Way) (n : ℕ) : Type 0 where
+  pub inside : w.instance < instances b
   pub area : Area caps n w.instance
-  pub start : get_or starts w.instance 0 < 131072
   pub more : 0 < w.rest
   pub room : get_or held w.instance 0 + w.rest ≤ get_or caps w.instance 0
-  pub small : get_or caps w.instance 0 ≤ 131072
 
 -- a step uses as many bytes of the run xs from `at` on as it says, at least one, and lays them in the store
 pub record Lays (caps starts held held' : List ℕ) (w : Way) (store store' xs : List ℕ) (at : ℕ) (t : Step) : Type 0 where

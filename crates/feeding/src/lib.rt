@@ -10,7 +10,7 @@ ghost use Rattle.std.specs.Prelude.{◌≡◌, ◌+◌, ◌-◌, ◌<◌, length
 ghost use Rattle.connection.specs.declared.Gate.TheVariants.{Open};
 ghost use Rattle.admitting.specs.Inside.{reception};
 ghost use Rattle.feeding.specs.Feeding.{fed, used, left, told, refused, feed_of};
-ghost use Rattle.feeding.specs.Inside.{Sound, Under, Lays, Steps};
+ghost use Rattle.feeding.specs.Inside.{Placed, Sound, Under, Lays, Steps};
 
 use admitting::{Step, Way, headed, header_whole, instance_for};
 use connection::areas::write;
@@ -29,95 +29,85 @@ pub struct Fed {
     pub connection: Connection,
 }
 
-// As many bytes of the payload under way as there are from place `at` on.
-fn kept(
-    caps: &[u64; INSTANCES],
-    starts: &[u64; INSTANCES],
-    held: &mut [u64; INSTANCES],
-    w: Way,
-    store: &mut [u8],
-    input: &[u8],
-    at: usize,
-) -> Step
-    requires { Under caps.now starts.now held.old w (length store.old) × (at < length input.now) }
-    ensures { Lays caps.now starts.now held.old held.new w store.old
-        store.new input.now at result }
-{
-    let i = w.instance as usize;
-    let n = (w.rest as usize).min(input.len() - at);
-    write(store, caps, i, starts[i] + held[i], input, at, n);
-    held[i] += n as u64;
-    let rest = w.rest - n as u64;
-    Step {
-        way: Way {
-            instance: instance_for(rest, w.instance),
-            rest,
-            ..w
-        },
-        gate: Gate::Open,
-        used: n,
-    }
+// What a call reads: which end we are, by instance the receive capacity and where in its area the first held byte is, and
+// the bytes that are fed.
+#[derive(Clone, Copy)]
+struct Intake<'a> {
+    party: Party,
+    caps: &'a [u64; INSTANCES],
+    starts: &'a [u64; INSTANCES],
+    input: &'a [u8],
+    ghost placed: { Placed party.bundle caps.now starts.now },
 }
 
-// One step: of the payload under way as many bytes as there are; else a header's eight bytes where none has come and all are
-// there, and one byte of it where not.
-fn part(
-    party: Party,
-    caps: &[u64; INSTANCES],
-    starts: &[u64; INSTANCES],
-    held: &mut [u64; INSTANCES],
-    w: Way,
-    store: &mut [u8],
-    input: &[u8],
-    at: usize,
-) -> Step
-    requires sound { Sound party.bundle caps.now (reception starts.now held.old w Open store.old) }
-    requires at_in_bounds { at < length input.now }
-    ensures { Steps party caps.now starts.now held.old held.new w store.old
-        store.new input.now at result }
-{
-    if 0 < w.rest {
-        return kept(caps, starts, held, w, store, input, at);
-    }
-    if w.header.count == 0 && HEADER <= input.len() - at {
-        return header_whole(party, caps, held, w, input, at);
-    }
-    headed(party, caps, held, w, input[at])
-}
-
-// All of input, or up to the byte that closes; used counts from its front.
-fn steps(
-    party: Party,
-    caps: &[u64; INSTANCES],
-    starts: &[u64; INSTANCES],
-    held: &mut [u64; INSTANCES],
-    w: Way,
-    store: &mut [u8],
-    input: &[u8],
-) -> Step
-    requires { Sound party.bundle caps.now (reception starts.now held.old w Open store.old) }
-    ensures store_after { reception starts.now held.new result.way result.gate store.new
-        ≡ fed party caps.now (reception starts.now held.old w Open store.old)
-        input.now }
-    ensures used_value { result.used
-        ≡ used party caps.now (reception starts.now held.old w Open store.old)
-        input.now }
-{
-    let mut way = w;
-    let mut at: usize = 0;
-    // Kept: no `for`, since a step uses as many bytes as it says.
-    while at < input.len() {
-        let t = part(party, caps, starts, held, way, store, input, at);
-        way = t.way;
-        at += t.used;
-        if !is_open(t.gate) {
-            return Step { used: at, ..t };
+impl Intake<'_> {
+    // As many bytes of the payload under way as there are from place `at` on.
+    #[tactic(auto, using(wire::proofs::InstanceLaws::at_most))]
+    fn kept(self, held: &mut [u64; INSTANCES], w: Way, store: &mut [u8], at: usize) -> Step
+        requires { Under self.party.bundle self.caps.now held.old w (length store.old) × (at < length self.input.now) }
+        ensures { Lays self.entry.caps.now self.entry.starts.now held.old held.new w store.old
+            store.new self.entry.input.now at result }
+    {
+        let i = w.instance as usize;
+        let n = (w.rest as usize).min(self.input.len() - at);
+        let place = self.starts[i] + held[i];
+        write(store, self.caps, i, place, self.input, at, n);
+        held[i] += n as u64;
+        let rest = w.rest - n as u64;
+        Step {
+            way: Way {
+                instance: instance_for(rest, w.instance),
+                rest,
+                ..w
+            },
+            gate: Gate::Open,
+            used: n,
         }
     }
-    Step {
-        way,
-        gate: Gate::Open,
-        used: at,
+
+    // One step: of the payload under way as many bytes as there are; else a header's eight bytes where none has come and all
+    // are there, and one byte of it where not.
+    fn part(self, held: &mut [u64; INSTANCES], w: Way, store: &mut [u8], at: usize) -> Step
+        requires sound { Sound self.party.bundle self.caps.now (reception self.starts.now held.old w Open store.old) }
+        requires at_in_bounds { at < length self.input.now }
+        ensures { Steps self.entry.party self.entry.caps.now self.entry.starts.now held.old held.new w store.old
+            store.new self.entry.input.now at result }
+    {
+        if 0 < w.rest {
+            return self.kept(held, w, store, at);
+        }
+        if w.header.count == 0 && HEADER <= self.input.len() - at {
+            return header_whole(self.party, self.caps, held, w, self.input, at);
+        }
+        headed(self.party, self.caps, held, w, self.input[at])
+    }
+
+    // All of the input, or up to the byte that closes; used counts from its front.
+    fn steps(self, held: &mut [u64; INSTANCES], w: Way, store: &mut [u8]) -> Step
+        requires { Sound self.party.bundle self.caps.now (reception self.starts.now held.old w Open store.old) }
+        ensures store_after { reception self.entry.starts.now held.new result.way result.gate store.new
+            ≡ fed self.entry.party self.entry.caps.now (reception self.entry.starts.now held.old w Open store.old)
+            self.entry.input.now }
+        ensures used_value { result.used
+            ≡ used self.entry.party self.entry.caps.now (reception self.entry.starts.now held.old w Open store.old)
+            self.entry.input.now }
+    {
+        let mut way = w;
+        let mut at: usize = 0;
+        // Kept: no `for`, since a step uses as many bytes as it says.
+        while at < self.input.len() {
+            let t = self.part(held, way, store, at);
+            way = t.way;
+            at += t.used;
+            if !is_open(t.gate) {
+                return Step { used: at, ..t };
+            }
+        }
+        Step {
+            way,
+            gate: Gate::Open,
+            used: at,
+        }
     }
 }
 
@@ -159,15 +149,13 @@ pub fn feed(c: Connection, store: &mut [u8], input: &[u8]) -> Fed
         instance: r.instance,
         rest: r.rest,
     };
-    let x = steps(
-        c.settings.party,
-        &c.settings.receive,
-        &r.starts,
-        &mut held,
-        way,
-        store,
+    let intake = Intake {
+        party: c.settings.party,
+        caps: &c.settings.receive,
+        starts: &r.starts,
         input,
-    );
+    };
+    let x = intake.steps(&mut held, way, store);
     let y = x.way;
     Fed {
         number: left(x.gate),

@@ -18,7 +18,7 @@ ghost use Rattle.std.specs.Prelude.{◌≤◌, length};
 
 use calls::{Kind, Row, WORDS};
 use input::Stop;
-use messages::{MOST_PLACES, Message, Unread};
+use messages::{Message, Unread};
 use output::{WriteFailed, Writer};
 use ring::view::View;
 use rows::Protocol;
@@ -165,10 +165,11 @@ fn print(out: &mut Writer, m: Message) -> Result<(), WriteFailed> {
         out.numbers(numbers)?;
     }
     out.byte(b';')?;
-    for i in 0..m.parts.min(MOST_PLACES) {
-        out.number(m.places[i * 2] as u64)?;
+    let (places, _) = m.places.as_chunks::<2>();
+    for [start, len] in places.iter().take(m.parts) {
+        out.number(*start as u64)?;
         out.byte(b'+')?;
-        out.decimal(m.places[i * 2 + 1] as u64)?;
+        out.decimal(*len as u64)?;
     }
     Ok(())
 }

@@ -10,13 +10,25 @@ use telling::Report;
 // How much of a line is written at once.
 const OUT: usize = 4096;
 
-// A line of a name and numbers.
-fn numbers(stdout: Stdout, name: &[u8], numbers: &[u64]) -> Result<(), WriteFailed> {
+// Prints a line: what `write` puts in it, and its end.
+fn line<F: FnOnce(&mut Writer<'_>) -> Result<(), WriteFailed>>(
+    stdout: Stdout,
+    write: F,
+) -> Result<(), WriteFailed>
+    requires { F.IsAlwaysCallable write }
+{
     let mut space = [0u8; OUT];
     let mut out = Writer::new(stdout, &mut space);
-    out.words(name)?;
-    out.numbers(numbers)?;
+    write(&mut out)?;
     out.end()
+}
+
+// A line of a name and numbers.
+fn numbers(stdout: Stdout, name: &[u8], numbers: &[u64]) -> Result<(), WriteFailed> {
+    line(stdout, |out| {
+        out.words(name)?;
+        out.numbers(numbers)
+    })
 }
 
 // The name of a call alone, with its number, and with its number and a count.
@@ -45,12 +57,11 @@ pub fn filled(
     count: usize,
     buf: &[u8],
 ) -> Result<(), WriteFailed> {
-    let mut space = [0u8; OUT];
-    let mut out = Writer::new(stdout, &mut space);
-    out.words(name)?;
-    out.numbers(&[n, count as u64])?;
-    out.run(buf)?;
-    out.end()
+    line(stdout, |out| {
+        out.words(name)?;
+        out.numbers(&[n, count as u64])?;
+        out.run(buf)
+    })
 }
 
 // What a look is answered: what it shows, where the message is, its bytes, and scratch.
@@ -61,35 +72,31 @@ pub fn looked(
     store: &[u8],
     scratch: &[u8],
 ) -> Result<(), WriteFailed> {
-    let mut space = [0u8; OUT];
-    let mut out = Writer::new(stdout, &mut space);
-    shown(&mut out, b"look", s)?;
-    let at = match place {
-        Place::Store(at) => {
-            out.words(b" store")?;
-            at
-        }
-        Place::Scratch => {
-            out.words(b" scratch")?;
-            0
-        }
-        Place::Nowhere => {
-            out.words(b" none")?;
-            0
-        }
-    };
-    out.number(at as u64)?;
-    out.run(looking::part(store, scratch, place, s.len))?;
-    out.run(scratch)?;
-    out.end()
+    line(stdout, |out| {
+        shown(out, b"look", s)?;
+        let at = match place {
+            Place::Store(at) => {
+                out.words(b" store")?;
+                at
+            }
+            Place::Scratch => {
+                out.words(b" scratch")?;
+                0
+            }
+            Place::Nowhere => {
+                out.words(b" none")?;
+                0
+            }
+        };
+        out.number(at as u64)?;
+        out.run(looking::part(store, scratch, place, s.len))?;
+        out.run(scratch)
+    })
 }
 
 // What a drop is answered.
 pub fn dropped(stdout: Stdout, s: Shown) -> Result<(), WriteFailed> {
-    let mut space = [0u8; OUT];
-    let mut out = Writer::new(stdout, &mut space);
-    shown(&mut out, b"drop", s)?;
-    out.end()
+    line(stdout, |out| shown(out, b"drop", s))
 }
 
 // What both say of a message: the number, its kind, its length, the offset, and its numbers and places.
@@ -113,14 +120,13 @@ fn listed(out: &mut Writer, numbers: &[u64], n: usize) -> Result<(), WriteFailed
 // What status tells, with so many counts.
 pub fn status(stdout: Stdout, r: Report, n: usize) -> Result<(), WriteFailed> {
     let [closed, number, instance] = closing(r.gate);
-    let mut space = [0u8; OUT];
-    let mut out = Writer::new(stdout, &mut space);
-    out.words(b"status")?;
-    out.numbers(&[r.number, r.ready.word, r.ready.count, r.ready.lowest])?;
-    out.numbers(&[closed, number, instance])?;
-    listed(&mut out, &r.held, n)?;
-    listed(&mut out, &r.waiting, n)?;
-    out.end()
+    line(stdout, |out| {
+        out.words(b"status")?;
+        out.numbers(&[r.number, r.ready.word, r.ready.count, r.ready.lowest])?;
+        out.numbers(&[closed, number, instance])?;
+        listed(out, &r.held, n)?;
+        listed(out, &r.waiting, n)
+    })
 }
 
 // Whether closed, the number and the instance.
@@ -134,10 +140,9 @@ fn closing(gate: Gate) -> [u64; 3] {
 
 // The lent parts of both stores.
 pub fn stores(stdout: Stdout, receive: &[u8], send: &[u8]) -> Result<(), WriteFailed> {
-    let mut space = [0u8; OUT];
-    let mut out = Writer::new(stdout, &mut space);
-    out.words(b"stores")?;
-    out.run(receive)?;
-    out.run(send)?;
-    out.end()
+    line(stdout, |out| {
+        out.words(b"stores")?;
+        out.run(receive)?;
+        out.run(send)
+    })
 }

@@ -98,21 +98,32 @@ const CALLS: [Row<'static, Call>; 11] = [
 // record out of range, whichever bundles there are.
 const NINE: usize = 9;
 
-// How many bytes of each store are lent.
-#[derive(Clone, Copy)]
-struct Lent {
-    receive: usize,
-    send: usize,
+// A store, and how many of its bytes are lent, from its front on: all where there are fewer.
+#[derive(Drop)]
+struct Lent<'a> {
+    store: &'a mut [u8],
+    count: usize,
 }
 
-// What goes from line to line: the stores, and how many bytes of each are lent; the bundle; the record that the last call
-// handed back; and how many lines were read.
+impl Lent<'_> {
+    // The bytes that are lent, to be read and to be written.
+    fn bytes(&self) -> &[u8] {
+        &self.store[..self.count.min(self.store.len())]
+    }
+
+    fn bytes_mut(&mut self) -> &mut [u8] {
+        let count = self.count.min(self.store.len());
+        &mut self.store[..count]
+    }
+}
+
+// What goes from line to line: the stores, and how much of each is lent; the bundle; the record that the last call handed
+// back; and how many lines were read.
 #[derive(Drop)]
 pub struct Desk<'a> {
     stdout: Stdout,
-    receive: &'a mut [u8],
-    send: &'a mut [u8],
-    lent: Lent,
+    receive: Lent<'a>,
+    send: Lent<'a>,
     bundle: u64,
     connection: Connection,
     lines: u64,
@@ -124,11 +135,13 @@ impl Desk<'_> {
         let refused = opening::open(settings(0, &[0; WORDS]), b"", b"");
         Desk {
             stdout,
-            receive,
-            send,
-            lent: Lent {
-                receive: 0,
-                send: 0,
+            receive: Lent {
+                store: receive,
+                count: 0,
+            },
+            send: Lent {
+                store: send,
+                count: 0,
             },
             bundle: 0,
             connection: refused.connection,
@@ -170,10 +183,8 @@ impl Desk<'_> {
             }
             Call::Open => self.open(words),
             Call::Lend => {
-                self.lent = Lent {
-                    receive: words[0] as usize,
-                    send: words[1] as usize,
-                };
+                self.receive.count = words[0] as usize;
+                self.send.count = words[1] as usize;
                 answering::name(self.stdout, b"lend")
             }
             Call::Feed => self.feed(calls::bytes(line, words, 0)),
@@ -183,35 +194,25 @@ impl Desk<'_> {
             Call::Put => self.put(words[0], calls::bytes(line, words, 1)),
             Call::Next => self.next((words[0] % 4294967296) as u32, words[1] as usize),
             Call::Status => self.status(),
-            Call::Stores => answering::stores(self.stdout, self.receive(), self.send()),
+            Call::Stores => {
+                answering::stores(self.stdout, self.receive.bytes(), self.send.bytes())
+            }
         }
-    }
-
-    // The bytes of the stores that are lent.
-    fn receive(&self) -> &[u8] {
-        &self.receive[..self.lent.receive.min(self.receive.len())]
-    }
-
-    fn send(&self) -> &[u8] {
-        &self.send[..self.lent.send.min(self.send.len())]
     }
 
     // open SIDE S R.. W..
     fn open(&mut self, words: &[u64; WORDS]) -> Result<(), WriteFailed> {
         let settings = settings(self.bundle, words);
-        self.lent = Lent {
-            receive: sum(self.bundle, settings.receive),
-            send: sum(self.bundle, settings.send),
-        };
-        let o = opening::open(settings, self.receive(), self.send());
+        self.receive.count = sum(self.bundle, settings.receive);
+        self.send.count = sum(self.bundle, settings.send);
+        let o = opening::open(settings, self.receive.bytes(), self.send.bytes());
         self.connection = o.connection;
         answering::number(self.stdout, b"open", o.number)
     }
 
     // feed RUN
     fn feed(&mut self, run: &[u8]) -> Result<(), WriteFailed> {
-        let n = self.lent.receive.min(self.receive.len());
-        let f = feeding::feed(self.connection, &mut self.receive[..n], run);
+        let f = feeding::feed(self.connection, self.receive.bytes_mut(), run);
         self.connection = f.connection;
         answering::counted(self.stdout, b"feed", f.number, f.used)
     }
@@ -220,14 +221,14 @@ impl Desk<'_> {
     fn look(&mut self, i: u64, len: usize) -> Result<(), WriteFailed> {
         let mut room = [FILL; LENT];
         let scratch = first(&mut room, len);
-        let l = looking::look(self.connection, self.receive(), i, scratch);
+        let l = looking::look(self.connection, self.receive.bytes(), i, scratch);
         self.connection = l.connection;
-        answering::looked(self.stdout, l.shown, l.place, self.receive(), scratch)
+        answering::looked(self.stdout, l.shown, l.place, self.receive.bytes(), scratch)
     }
 
     // drop I
     fn drop(&mut self, i: u64) -> Result<(), WriteFailed> {
-        let d = dropping::drop(self.connection, self.receive(), i);
+        let d = dropping::drop(self.connection, self.receive.bytes(), i);
         self.connection = d.connection;
         answering::dropped(self.stdout, d.shown)
     }
@@ -253,8 +254,7 @@ impl Desk<'_> {
 
     // put I RUN
     fn put(&mut self, i: u64, run: &[u8]) -> Result<(), WriteFailed> {
-        let n = self.lent.send.min(self.send.len());
-        let q = putting::put(self.connection, &mut self.send[..n], i, run);
+        let q = putting::put(self.connection, self.send.bytes_mut(), i, run);
         self.connection = q.connection;
         answering::number(self.stdout, b"put", q.number)
     }
@@ -263,7 +263,7 @@ impl Desk<'_> {
     fn next(&mut self, time: u32, len: usize) -> Result<(), WriteFailed> {
         let mut room = [FILL; LENT];
         let buf = first(&mut room, len);
-        let m = sending::next_segment(self.connection, self.send(), time, buf);
+        let m = sending::next_segment(self.connection, self.send.bytes(), time, buf);
         self.connection = m.connection;
         answering::filled(self.stdout, b"next", m.number, m.len, buf)
     }

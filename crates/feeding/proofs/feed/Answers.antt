@@ -5,12 +5,13 @@ use lib.ListN.{length}
 use Rattle.wire.specs.Instances.{most}
 use Rattle.connection.specs.Closings.{is_open}
 use Rattle.connection.specs.Parts.{with_receiving}
-use Rattle.range.specs.Ranges.{receives}
+use Rattle.base.proofs.Conds.{and_equal}
+use Rattle.range.specs.Ranges.{in_range, receives}
 use Rattle.feeding.specs.declared.Fed.{Fed}
 use Rattle.feeding.specs.Feeding.{Reception, told, answered}
 use Rattle.admitting.specs.Inside.{reception}
 use Rattle.feeding.specs.Inside.{Sound}
-use Rattle.feeding.proofs.Bytes.{open_is, open_parts, sound_given, open_by, feed_range, feed_closed, feed_open_lem}
+use Rattle.feeding.proofs.Bytes.{open_is, open_parts, sound_given, placed_given, open_by, feed_range, feed_closed, feed_open_lem}
 use borrow.Author.Rules.{rules}
 use Rattle.feeding.proofs.feed.Goals as goal
 use Rattle.feeding.proofs.feed.Goals.{Else-not-receives, Else-not-is_open}
@@ -43,6 +44,12 @@ steps-x-requires c =
     let many : length k.receiving.held ≡ most = search rules in
     subst (Sound k.settings.party.bundle k.settings.receive) (sym (open_parts k st (open_is _ (stands_open (goal.at.steps-x-requires c).Else-not-is_open))))
     (sound_given k st (is_in_range (goal.at.steps-x-requires c).Else-not-receives) many)
+
+pub invariant_of-intake : goal.invariant_of-intake
+invariant_of-intake c =
+    let k = c.args.c in
+    let ranged = (and_equal {a = in_range k} (is_in_range (goal.at.invariant_of-intake c).Else-not-receives)).0 in
+    record { placed = placed_given k ranged }
 
 pub returns : goal.returns
 returns c =

@@ -1,4 +1,4 @@
--- `feeding::part` meets its contract: a run of payload bytes, a whole header or a header byte leads on.
+-- `feeding::Intake::part` meets its contract: a run of payload bytes, a whole header or a header byte leads on.
 use mathlib.Core.Path.{◌≡◌}
 use lib.ListN.{length}
 use native.Mathlib.Omega.{arith}
@@ -6,12 +6,12 @@ use Rattle.wire.specs.Segments.{header_length}
 use Rattle.feeding.proofs.Bytes.{sound_under, steps_header, steps_kept}
 use Rattle.feeding.proofs.Headers.{steps_whole}
 use borrow.Author.Rules.{rules}
-use Rattle.feeding.proofs.part.Goals as goal
+use Rattle.feeding.proofs.Intake.part.Goals as goal
 
 pub kept-requires : goal.kept-requires
 kept-requires c =
     let s = c in
-    (sound_under {w = s.args.w} s.requires.sound (search rules), s.requires.at_in_bounds)
+    (sound_under {w = s.args.w} s.args.self.placed s.requires.sound (search rules), s.requires.at_in_bounds)
 
 pub returns-then-w-gt0 : goal.returns-then-w-gt0
 returns-then-w-gt0 c =
@@ -21,8 +21,8 @@ returns-then-w-gt0 c =
 pub header_whole-requires : goal.header_whole-requires
 header_whole-requires c = omega arith
 
-pub returns-then-input-at-ge-HEADER : goal.returns-then-input-at-ge-HEADER
-returns-then-input-at-ge-HEADER c =
+pub returns-then-self-at-ge-HEADER : goal.returns-then-self-at-ge-HEADER
+returns-then-self-at-ge-HEADER c =
     let s = c in
     let wide : length s.args.w.header.bytes ≡ header_length = search rules in
     steps_whole s.requires.sound (omega arith) (omega arith) (omega arith) wide c.header_whole.ensures

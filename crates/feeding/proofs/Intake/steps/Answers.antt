@@ -1,11 +1,11 @@
--- `feeding::steps` meets its contract: each step leads to a reception from which what is left leaves the same.
+-- `feeding::Intake::steps` meets its contract: each step leads to a reception from which what is left leaves the same.
 use mathlib.Core.Path.{refl, sym, ◌∙◌}
 use Prim.Native.Nat.{zero-le}
 use native.Mathlib.Omega.{arith}
 use native.Mathlib.Nat.{zero-add}
 use Rattle.feeding.proofs.Bytes.{run_more, run_shut, run_end}
 use borrow.Author.Rules.{rules}
-use Rattle.feeding.proofs.steps.Goals as goal
+use Rattle.feeding.proofs.Intake.steps.Goals as goal
 
 pub loop-at-init : goal.loop-at-init
 loop-at-init c = record { ends = zero-le; long = refl; sound = c.requires; leaves = refl; counts = sym (zero-add _) }
