@@ -1,9 +1,10 @@
 -- What only this crate's own functions cite: why no message is made, and a message by the plan of its parts.
-use Rattle.std.specs.Prelude.{ℕ, Bool, List, Option, Some, Result, Ok, Err}
+use Rattle.std.specs.Prelude.{ℕ, Bool, false, ◌≡◌, List, Option, Some, Result, Ok, Err, MatchOption}
 use Rattle.elements.specs.declared.Field.{Field}
 use Rattle.parts.specs.declared.given.Given.{Given}
+use Rattle.parts.specs.Given.{all_given}
 use Rattle.parts.specs.Counting.{on_some}
-use Rattle.parts.specs.Inside.{planned, nothing}
+use Rattle.parts.specs.Inside.{planned, nothing, Holds}
 use Rattle.layout.specs.Inside.{whole_of}
 use Rattle.build.specs.declared.Built.{Built}
 use Rattle.build.specs.declared.Refusal.{Refusal}
@@ -31,3 +32,7 @@ made_by asked ns runs first second fs kind =
 
 abbrev pub made_of : Bool → Given → List Field → ℕ → Option (List ℕ)
 made_of asked g fs kind = made_by asked g.numbers.now g.runs g.first.now g.second.now fs kind
+
+-- what is given is these parts; or they are not given as they should be
+abbrev pub AreGiven : Option Given → List ℕ → ℕ → List ℕ → List ℕ → Type 0
+AreGiven o ns runs first second = MatchOption o (all_given runs first second ≡ false) (λ g. Holds g ns runs first second)

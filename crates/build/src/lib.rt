@@ -4,14 +4,13 @@
 // of parts reads back as the message that says them.
 #![tactic(auto)]
 
-ghost use Rattle.std.specs.Prelude.{◌≡◌, ◌<◌};
+ghost use Rattle.std.specs.Prelude.{◌≡◌, ◌<◌, ℕ, List};
 ghost use Rattle.messages.specs.Inside.{form_count, form_at};
-ghost use Rattle.build.specs.Building.{told, bytes_of, handed, build_of};
-ghost use Rattle.build.specs.Inside.{number_of, answer, made_of};
+ghost use Rattle.build.specs.Building.{told, handed, build_of};
+ghost use Rattle.build.specs.Inside.{number_of, answer, made_of, AreGiven};
 
 use layout::message::Message;
 use parts::given::Given;
-use rows::Protocol;
 
 // The number; where it is 0, how long the message is.
 // Kept: the number in front, which README promises of every answer (`build_of`).
@@ -71,37 +70,18 @@ fn build_form(
     }
 }
 
-// A message of the protocol, by its kind.
-fn build_kind(
-    p: Protocol,
-    kind: u64,
-    asked: bool,
-    numbers: &[u64],
-    runs: u64,
-    first: &[u8],
-    second: &[u8],
-    buf: &mut [u8],
-) -> Result<usize, Refusal>
-    ensures { told (answer result) buf.new ≡ handed buf.old (bytes_of p kind asked numbers.now runs first.now second.now) }
-{
-    let given = Given::of(numbers, runs, first, second).ok_or(Refusal::NoMessage)?;
-    let row = messages::forms::find(p, kind).ok_or(Refusal::NoMessage)?;
-    build_form(row, kind, asked, given, buf)
-}
-
-// A message of the protocol that an instance of the bundle speaks.
+// A message of the protocol that an instance of the bundle speaks. Parts that are not given as they should be are refused only where the bundle
+// has the instance.
 fn build_spoken(
     bundle: u64,
     instance: u64,
     kind: u64,
     asked: bool,
-    numbers: &[u64],
-    runs: u64,
-    first: &[u8],
-    second: &[u8],
+    given: Option<Given<'_>>,
     buf: &mut [u8],
 ) -> Result<usize, Refusal>
-    ensures { told (answer result) buf.new ≡ build_of bundle instance kind asked numbers.now runs first.now second.now buf.old }
+    ensures { (ns : List ℕ) (runs : ℕ) (first : List ℕ) (second : List ℕ) → AreGiven given.entry ns runs first second
+        → told (answer result) buf.new ≡ build_of bundle instance kind asked ns runs first second buf.old }
 {
     if !wire::instances::known(bundle) {
         return Err(Refusal::UnknownBundle);
@@ -109,8 +89,10 @@ fn build_spoken(
     if wire::instances::count(bundle) as u64 <= instance {
         return Err(Refusal::NoInstance);
     }
+    let given = given.ok_or(Refusal::NoMessage)?;
     let p = rows::spoken::protocol(bundle, instance as usize);
-    build_kind(p, kind, asked, numbers, runs, first, second, buf)
+    let row = messages::forms::find(p, kind).ok_or(Refusal::NoMessage)?;
+    build_form(row, kind, asked, given, buf)
 }
 
 // Makes a message of the protocol that an instance of the bundle speaks, at the front of the lent buffer, from its kind, its
@@ -129,9 +111,8 @@ pub fn build(
 ) -> Built
     ensures { told result buf.new ≡ build_of bundle instance kind asked numbers.now runs first.now second.now buf.old }
 {
-    match build_spoken(
-        bundle, instance, kind, asked, numbers, runs, first, second, buf,
-    ) {
+    let given = Given::of(numbers, runs, first, second);
+    match build_spoken(bundle, instance, kind, asked, given, buf) {
         Ok(len) => Built { number: 0, len },
         Err(refusal) => Built {
             number: refusal.number(),
