@@ -32,7 +32,8 @@ use Rattle.build.specs.declared.Refusal.{Refusal}
 use Rattle.build.specs.declared.Refusal.TheVariants.{NoMessage}
 use Rattle.build.specs.Made.{made, encoded}
 use Rattle.build.specs.Building.{told, given, bytes_of, handed, build_of}
-use Rattle.build.specs.Inside.{refusal, answer, made_by, made_of}
+use Rattle.build.specs.Inside.{refusal, answer, made_by, made_of, AreGiven}
+use Rattle.std.specs.Prelude.{IfSome}
 use Rattle.build.proofs.PlanLaws.{lent, plan_makes, plan_long, all_lent}
 
 -- ---- the message of a form
@@ -92,12 +93,18 @@ module _ (asked : Bool) (g : Given) (kind : ℕ) (fs : List Field) where
     planned_so = rw e
 
     -- it is as long as its heads and all runs
-    pub heads_and_runs : length (whole_of asked g.first.now g.second.now fs kind args)
+    pub heads_and_runs : all_given g.runs g.first.now g.second.now ≡ true → length (whole_of asked g.first.now g.second.now fs kind args)
         ≡ all_heads asked fs kind args + (length g.first.now + length g.second.now)
-    heads_and_runs =
+    heads_and_runs complete =
         let body = subst (Found (λ _. length (body_of asked g.first.now g.second.now fs args 0 0) ≡ _)) e
-        (plan_long asked g.numbers.now g.runs g.first.now g.second.now (at_most_two g.runs g.first.now g.second.now g.complete) fs args) in
-        omega (arith, whole_long asked g.first.now g.second.now fs kind args, all_lent g.runs g.first.now g.second.now g.complete)
+        (plan_long asked g.numbers.now g.runs g.first.now g.second.now (at_most_two g.runs g.first.now g.second.now complete) fs args) in
+        omega (arith, whole_long asked g.first.now g.second.now fs kind args, all_lent g.runs g.first.now g.second.now complete)
+
+-- what was given as it should be is complete
+pub complete_of : (ns : List ℕ) (runs : ℕ) (first second : List ℕ) (o : Option Given) → AreGiven o ns runs first second
+    → IfSome o (λ g. all_given g.runs g.first.now g.second.now ≡ true)
+complete_of ns runs first second None are = tt
+complete_of ns runs first second (Some g) are = let same = are.1 in rw (same.1, same.2, same.3) are.0
 
 -- ---- a kind, and its row
 
@@ -109,13 +116,10 @@ module _ (p : Protocol) (kind : ℕ) (asked : Bool) (ns : List ℕ) (runs : ℕ)
   unfolding bytes_of given
   kind_not_given g = rw g
 
-  complete : (g : Given) → Holds g ns runs first second → all_given runs first second ≡ true
-  complete g holds = let c = g.complete in rw (← holds.1, ← holds.2, ← holds.3) c
-
-  module _ (g : Given) (holds : Holds g ns runs first second) {w : Option ℕ} (found : Finds p kind w) where
+  module _ (g : Given) (holds : Holds g ns runs first second) (complete : all_given runs first second ≡ true) {w : Option ℕ} (found : Finds p kind w) where
     pub kind_unknown : w ≡ None → message ≡ None
     unfolding bytes_of given encoded
-    kind_unknown e = rw (complete g holds, subst (Finds p kind) e found)
+    kind_unknown e = rw (complete, subst (Finds p kind) e found)
 
     pub kind_known : {row : ℕ} → w ≡ Some row → made_of asked g (form_at row).fields kind ≡ message
     unfolding bytes_of given encoded
@@ -123,8 +127,8 @@ module _ (p : Protocol) (kind : ℕ) (asked : Bool) (ns : List ℕ) (runs : ℕ)
         let row-found : Finds p kind (Some row) = subst (Finds p kind) e found in
         rw (holds.0, holds.1, holds.2, holds.3)
         (sym
-        (rw (complete g holds, row-found.1)
-        (plan_whole asked ns runs first second kind (form_at row).fields (at_most_two runs first second (complete g holds)) (at_most row row-found.0))))
+        (rw (complete, row-found.1)
+        (plan_whole asked ns runs first second kind (form_at row).fields (at_most_two runs first second complete) (at_most row row-found.0))))
 
 -- ---- the bundle, and its instance
 

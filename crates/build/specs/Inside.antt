@@ -1,5 +1,5 @@
 -- What only this crate's own functions cite: why no message is made, and a message by the plan of its parts.
-use Rattle.std.specs.Prelude.{ℕ, Bool, false, ◌≡◌, List, Option, Some, Result, Ok, Err, MatchOption}
+use Rattle.std.specs.Prelude.{ℕ, Bool, true, false, ◌≡◌, List, Option, Some, Result, Ok, Err, MatchOption}
 use Rattle.elements.specs.declared.Field.{Field}
 use Rattle.parts.specs.declared.given.Given.{Given}
 use Rattle.parts.specs.Given.{all_given}
@@ -35,4 +35,4 @@ made_of asked g fs kind = made_by asked g.numbers.now g.runs g.first.now g.secon
 
 -- what is given is these parts; or they are not given as they should be
 abbrev pub AreGiven : Option Given → List ℕ → ℕ → List ℕ → List ℕ → Type 0
-AreGiven o ns runs first second = MatchOption o (all_given runs first second ≡ false) (λ g. Holds g ns runs first second)
+AreGiven o ns runs first second = MatchOption o (all_given runs first second ≡ false) (λ g. (all_given runs first second ≡ true) × Holds g ns runs first second)

@@ -4,7 +4,8 @@
 // of parts reads back as the message that says them.
 #![tactic(auto)]
 
-ghost use Rattle.std.specs.Prelude.{◌≡◌, ◌<◌, ℕ, List};
+ghost use Rattle.std.specs.Prelude.{◌≡◌, ◌<◌, ℕ, List, true, IfSome};
+ghost use Rattle.parts.specs.Given.{all_given};
 ghost use Rattle.messages.specs.Inside.{form_count, form_at};
 ghost use Rattle.build.specs.Building.{told, handed, build_of};
 ghost use Rattle.build.specs.Inside.{number_of, answer, made_of, AreGiven};
@@ -50,7 +51,7 @@ fn build_form(
     given: Given<'_>,
     buf: &mut [u8],
 ) -> Result<usize, Refusal>
-    requires { row < form_count }
+    requires { (row < form_count) × (all_given given.runs given.first.now given.second.now ≡ true) }
     ensures { told (answer result) buf.new ≡ handed buf.old (made_of asked given.entry (form_at row).fields kind) }
 {
     let arguments = parts::judge(row, given).ok_or(Refusal::NoMessage)?;
@@ -80,6 +81,7 @@ fn build_spoken(
     given: Option<Given<'_>>,
     buf: &mut [u8],
 ) -> Result<usize, Refusal>
+    requires { IfSome given (λ g. all_given g.runs g.first.now g.second.now ≡ true) }
     ensures { (ns : List ℕ) (runs : ℕ) (first : List ℕ) (second : List ℕ) → AreGiven given.entry ns runs first second
         → told (answer result) buf.new ≡ build_of bundle instance kind asked ns runs first second buf.old }
 {

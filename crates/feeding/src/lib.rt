@@ -21,7 +21,7 @@ use wire::instances::{INSTANCES, Party};
 use wire::segment::HEADER;
 
 // Feed's answer: the number, how many bytes were used, and the record.
-// Kept: the number in front, which README promises of every answer; and a record with each, for a fault hands back a closed one.
+// Kept: the number in front, which README promises of every answer; and a record with each, for a fault hands back a closed one (`feed_of`).
 #[derive(Clone, Copy)]
 pub struct Fed {
     pub number: u64,

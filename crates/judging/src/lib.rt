@@ -131,7 +131,7 @@ impl Outcome {
     }
 }
 
-// Where a message of n bytes leads, if it has a row.
+// Where a message of so many bytes leads, if it has a row.
 fn by_row(len: usize, message: Message, next: Option<u64>) -> Result<Judged, Outcome>
     ensures { result ≡ by_row len message next }
 {

@@ -1,7 +1,6 @@
 // A message by what its form, its own heads and its runs are.
 ghost use Rattle.std.specs.Prelude.{◌≡◌, ◌+◌, ◌<◌, length};
-ghost use Rattle.messages.specs.Inside.{form_count, form_at};
-ghost use Rattle.layout.specs.Inside.{all_heads, whole_of};
+ghost use Rattle.messages.specs.Inside.{form_count};
 
 use head::{ARRAY, UNSIGNED};
 use messages::forms::MOST_FIELDS;
@@ -9,7 +8,7 @@ use parts::given::Given;
 use parts::is_number;
 
 // A message of the form in a row, of a kind, with the argument of each field's head, from what is given. `asked` is whether its list is to be
-// of indefinite length. All of both runs is in it.
+// of indefinite length.
 #[derive(Clone, Copy)]
 pub struct Message<'a> {
     pub row: usize,
@@ -18,7 +17,6 @@ pub struct Message<'a> {
     pub arguments: [u64; MOST_FIELDS],
     pub given: Given<'a>,
     pub ghost listed: { row < form_count },
-    pub ghost taken: { length (whole_of asked given.first.now given.second.now (form_at row).fields kind arguments) ≡ all_heads asked (form_at row).fields kind arguments + (length given.first.now + length given.second.now) },
 }
 
 impl Message<'_> {
@@ -39,15 +37,16 @@ impl Message<'_> {
     }
 
     // How long all heads and breaks of the message are together: the array's, the kind's and the fields'.
-    fn heads(&self) -> usize
+    pub fn heads(&self) -> usize
         ensures { (result ≡ heads self.now) × (result ≤ 45) }
     {
         let array = head::write::head_len(messages::forms::fields(self.row) as u64 + 1);
         array + head::write::head_len(self.kind) + self.field_heads()
     }
 
-    // How long the message is, if that is a number of 64 bits.
+    // How long the message is that has all of both runs, if that is a number of 64 bits.
     pub fn len(&self) -> Option<usize>
+        requires { length (whole self.now) ≡ heads self.now + (length self.now.given.first.now + length self.now.given.second.now) }
         ensures { SomeIff result (length (whole self.now) < 2 ^ 64) (length (whole self.now)) }
     {
         let first = self.heads().checked_add(self.given.first.len())?;

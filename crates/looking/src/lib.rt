@@ -19,7 +19,7 @@ use judging::{Judged, Outcome};
 use wire::instances::INSTANCES;
 
 // Where a message is shown: in the store from a place on, at the front of scratch, or not at all.
-// Kept: three places and no Option, since part is given any of them and README's look answers one always (`Shows`).
+// Kept: three places and no Option, since `part` is given any of them (`Shows`), and `look_of` answers one always.
 #[derive(Clone, Copy)]
 pub enum Place {
     Store(usize),
@@ -128,7 +128,7 @@ pub fn part<'a>(store: &'a [u8], scratch: &'a [u8], place: Place, len: usize) ->
 }
 
 // The same, of a store and a scratch with a lifetime each, which meet in the part.
-// Kept beside `part`: document 01 names two lifetimes that meet in one part.
+// Kept: beside `part`, since document 01 names two lifetimes that meet in one part.
 pub fn meet<'a, 'b: 'a>(store: &'a [u8], scratch: &'b [u8], place: Place, len: usize) -> &'a [u8]
     ensures { Shows place len store.entry scratch.entry result }
 {

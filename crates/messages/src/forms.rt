@@ -95,7 +95,6 @@ static FORMS: [Form; FORM_COUNT] = [
 ];
 
 // By protocol: its first row, and its number of rows.
-// Kept: `rows::number_of` reads one number for each protocol; a table of pairs would need another such function, and be no plainer.
 const START: [u8; PROTOCOLS] = [0, 3, 11, 17, 23, 26, 30];
 
 const COUNT: [u8; PROTOCOLS] = [3, 8, 6, 6, 3, 4, 10];

@@ -12,7 +12,7 @@ use wire::instances::{INSTANCES, Party, Side};
 use wire::segment::Header;
 
 // The number, 0 or 23, and the record.
-// Kept: the number in front, which README promises of every answer; and a record with each, on which every call then answers 23.
+// Kept: the number in front, which README promises of every answer; and a record with each, on which every call then answers 23 (`open_of`).
 #[derive(Clone, Copy)]
 pub struct Opened {
     pub number: u64,

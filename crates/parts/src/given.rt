@@ -2,14 +2,13 @@
 ghost use Rattle.std.specs.Prelude.{◌≡◌, ◌≤◌, ◌<◌, true, false, MatchOption};
 ghost use Rattle.parts.specs.Given.{all_given};
 
-// Numbers, and none, the first or both of two runs, for the fields in their order. A run that is not given is empty.
+// Numbers, and so many runs, none, the first or both, for the fields in their order.
 #[derive(Clone, Copy)]
 pub struct Given<'a> {
     pub numbers: &'a [u64],
     pub runs: usize,
     pub first: &'a [u8],
     pub second: &'a [u8],
-    pub ghost complete: { all_given runs first.now second.now ≡ true },
 }
 
 impl<'a> Given<'a> {
@@ -17,7 +16,8 @@ impl<'a> Given<'a> {
 
     // At most two runs are given, and what is lent above their count is empty; or it is no such thing.
     pub fn of(numbers: &'a [u64], runs: u64, first: &'a [u8], second: &'a [u8]) -> Option<Given<'a>>
-        ensures { MatchOption result (all_given runs first.now second.now ≡ false) (λ g. Holds g numbers.now runs first.now second.now) }
+        ensures { MatchOption result (all_given runs first.now second.now ≡ false)
+            (λ g. (all_given runs first.now second.now ≡ true) × Holds g numbers.now runs first.now second.now) }
     {
         let empty = (1 <= runs || first.is_empty()) && (2 <= runs || second.is_empty());
         if runs <= 2 && empty {

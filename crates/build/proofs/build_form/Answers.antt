@@ -15,10 +15,10 @@ returns-in_err-arguments c =
       unplanned a.asked a.given a.kind (form_at a.row).fields (sym c.judge.ensures ∙ none.ok_part),
     )
 
-pub invariant_of-message : goal.invariant_of-message
-invariant_of-message c =
+pub len-requires : goal.len-requires
+len-requires c =
     let a = c.args in
-    record { listed = c.requires; taken = heads_and_runs a.asked a.given a.kind (form_at a.row).fields (sym c.judge.ensures ∙ c.in_ok-arguments.ensures.ok_part) }
+    heads_and_runs a.asked a.given a.kind (form_at a.row).fields (sym c.judge.ensures ∙ c.in_ok-arguments.ensures.ok_part) c.requires.1
 
 pub returns-in-Some : goal.returns-in-Some
 returns-in-Some c =

@@ -47,13 +47,16 @@ returns-in_err-row c ns runs first second are =
     let e = c.in_ok-given.ensures.ok_part in
     let none = c.in_err-row.ensures in
     let found = rw c.protocol-p.ensures at c.find.ensures in
-    let no-message = kind_unknown (speaks a.bundle a.instance) a.kind a.asked ns runs first second c.in_ok-given.given (rw e at are) found none.ok_part in
+    let no-message = kind_unknown (speaks a.bundle a.instance) a.kind a.asked ns runs first second c.in_ok-given.given (let now = rw e at are in now.1) (let now = rw e at are in now.0) found none.ok_part in
     ap (λ (b : Built). told b buf) (no_message _ _ _ c.from_residual-in_err-row.ensures.1 none.value none.ok_part)
     ∙ ap (handed buf) (sym no-message)
     ∙ build_spoken a.bundle a.instance a.kind a.asked ns runs first second buf (sym c.known.ensures ∙ c.if-not-known.false) (omega (arith, c.count.ensures.0))
 
 pub build_form-requires : goal.build_form-requires
-build_form-requires c = let e = c.in_ok-row.ensures.ok_part in (rw e at c.find.ensures).0
+build_form-requires c =
+    let e = c.in_ok-row.ensures.ok_part in
+    let given = c.in_ok-given.ensures.ok_part in
+    ((rw e at c.find.ensures).0, rw given at c.requires)
 
 pub returns : goal.returns
 returns c ns runs first second are =
@@ -63,5 +66,5 @@ returns c ns runs first second are =
     let found = rw c.protocol-p.ensures at c.find.ensures in
     c.build_form.ensures
     ∙ ap (handed buf)
-    (kind_known (speaks a.bundle a.instance) a.kind a.asked ns runs first second c.in_ok-given.given (rw e at are) found c.in_ok-row.ensures.ok_part)
+    (kind_known (speaks a.bundle a.instance) a.kind a.asked ns runs first second c.in_ok-given.given (let now = rw e at are in now.1) (let now = rw e at are in now.0) found c.in_ok-row.ensures.ok_part)
     ∙ build_spoken a.bundle a.instance a.kind a.asked ns runs first second buf (sym c.known.ensures ∙ c.if-not-known.false) (omega (arith, c.count.ensures.0))

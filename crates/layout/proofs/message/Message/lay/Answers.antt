@@ -9,6 +9,18 @@ use Rattle.layout.specs.Inside.Message.{body}
 use Rattle.layout.proofs.LayoutLaws.{whole_long, whole_there}
 use Rattle.layout.proofs.message.Message.lay.Goals as goal
 
+pub write_head-number-requires : goal.write_head-number-requires
+write_head-number-requires c =
+    let m = c.args.self.now in
+    let e = ap (λ (k : ℕ). length_of (k + 1)) c.fields.ensures.0 in
+    (omega arith, omega (arith, e, whole_long m.asked m.given.first.now m.given.second.now (form_at m.row).fields m.kind m.arguments))
+
+pub write_head-fields-requires : goal.write_head-fields-requires
+write_head-fields-requires c =
+    let m = c.args.self.now in
+    let e = ap (λ (k : ℕ). length_of (k + 1)) c.fields.ensures.0 in
+    (omega arith, omega (arith, e, c.write_head-number.ensures.0, whole_long m.asked m.given.first.now m.given.second.now (form_at m.row).fields m.kind m.arguments))
+
 pub put_fields-requires : goal.put_fields-requires
 put_fields-requires c =
     let m = c.args.self.now in
