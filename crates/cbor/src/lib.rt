@@ -107,7 +107,8 @@ fn advance(
     ensures { Resumed (seen v.entry) (walk_of at 0 heads level.kind level.count depth kinds.old counts.old)
         result.verdict (stopped_at result kinds.new counts.new) }
 {
-    // Kind and count apart, so that both stay in scalars.
+    // Kind and count apart, so that both stay in scalars. Below a level is made of the two wherever one is handed on: one
+    // that is handed on whole goes by way of memory, with what lies between its parts.
     let Level {
         mut kind,
         mut count,
@@ -176,9 +177,12 @@ fn advance(
                 None => {}
             }
         }
-        z = piece_of(v, at);
-        let level = Level { kind, count };
-        match any(v, at, Wanting { level, depth }) {
+        z = piece_of(v.bytes.len(), v.from, v.len, at);
+        let wanting = Wanting {
+            level: Level { kind, count },
+            depth,
+        };
+        match any(v, at, wanting) {
             Move::Stay(p, l) => {
                 at = p;
                 kind = l.kind;
@@ -200,7 +204,10 @@ fn advance(
                     at: v.len,
                     skip,
                     heads: heads + 1,
-                    level: l,
+                    level: Level {
+                        kind: l.kind,
+                        count: l.count,
+                    },
                     depth,
                 };
             }
@@ -210,7 +217,7 @@ fn advance(
                     at,
                     skip: 0,
                     heads,
-                    level,
+                    level: Level { kind, count },
                     depth,
                 };
             }
@@ -220,7 +227,7 @@ fn advance(
                     at,
                     skip: 0,
                     heads,
-                    level,
+                    level: Level { kind, count },
                     depth,
                 };
             }

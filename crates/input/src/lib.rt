@@ -88,8 +88,10 @@ impl Reader<'_> {
         Ok(false)
     }
 
-    // The line, without its line feed.
-    pub fn line(&mut self) -> Result<&mut [u8], TooLong> {
+    // The line, without its line feed, as a part of the space.
+    pub fn line(&mut self) -> Result<&mut [u8], TooLong>
+        ensures { IfOk result (λ line. length line.now ≤ length self.old.space.now) }
+    {
         if self.long {
             return Err(TooLong);
         }

@@ -1,4 +1,4 @@
--- What only this crate's own functions cite: what a record in range with its send store has of one of its instances.
+-- What only this crate's proofs cite: what a record in range with its send store has of one of its instances.
 use Rattle.std.specs.Prelude.{ℕ, ◌+◌, ◌<◌, ◌≤◌, List, length, get_or}
 use Rattle.ring.specs.Ring.{base_of}
 use Rattle.wire.specs.Instances.{instances, most}

@@ -6,7 +6,7 @@
 
 ghost use Rattle.std.specs.Prelude.{◌≡◌, ◌&&◌, eqb, ltb};
 ghost use Rattle.wire.specs.Instances.{handshake};
-ghost use Rattle.putting.specs.Inside.{Waits};
+ghost use Rattle.range.specs.Besides.Ranges.{InSend};
 ghost use Rattle.putting.specs.Putting.{told, refused, queue, put_of};
 
 use connection::Connection;
@@ -42,8 +42,9 @@ fn too_long(c: &Connection, i: usize, n: u64) -> bool
 
 // Queues a message of instance i, of which this was judged: 24, a Handshake message above S, 22, one that its area has no
 // room for behind what waits, and else it is queued.
+#[tactic(auto, using(wire::proofs::InstanceLaws::at_most))]
 fn queue(mut c: Connection, store: &mut [u8], i: usize, message: &[u8], j: Judged) -> Queued
-    requires { Waits c store.old i }
+    requires { InSend c store.old i }
     ensures { told result store.new ≡ queue c store.old i message.now j }
 {
     let n = message.len() as u64;

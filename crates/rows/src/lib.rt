@@ -57,15 +57,13 @@ macro_rules! row {
     };
 }
 
-// Handshake: Propose 0, Confirm 1, Done 2
-static HANDSHAKE: [Row; 3] = [
+// All rows, a protocol after the other, as document 01 lists them and then K1.
+static ROWS: [Row; 44] = [
+    // Handshake: Propose 0, Confirm 1, Done 2
     row!(0, C, 0, 1), // Propose
     row!(1, S, 1, 2), // Accept
     row!(1, S, 2, 2), // Refuse
-];
-
-// Chain-Sync: Idle 0, CanAwait 1, MustReply 2, Intersect 3, Done 4
-static CHAIN_SYNC: [Row; 10] = [
+    // Chain-Sync: Idle 0, CanAwait 1, MustReply 2, Intersect 3, Done 4
     row!(0, C, 0, 1), // RequestNext
     row!(0, C, 4, 3), // FindIntersect
     row!(0, C, 7, 4), // Done
@@ -76,20 +74,14 @@ static CHAIN_SYNC: [Row; 10] = [
     row!(2, S, 3, 0), // RollBackward
     row!(3, S, 5, 0), // IntersectFound
     row!(3, S, 6, 0), // IntersectNotFound
-];
-
-// Block-Fetch: Idle 0, Busy 1, Streaming 2, Done 3
-static BLOCK_FETCH: [Row; 6] = [
+    // Block-Fetch: Idle 0, Busy 1, Streaming 2, Done 3
     row!(0, C, 0, 1), // RequestRange
     row!(0, C, 1, 3), // ClientDone
     row!(1, S, 2, 2), // StartBatch
     row!(1, S, 3, 0), // NoBlocks
     row!(2, S, 4, 2), // Block
     row!(2, S, 5, 0), // BatchDone
-];
-
-// TxSubmission: Init 0, Idle 1, Blocking 2, NonBlocking 3, Txs 4, Done 5
-static TX_SUBMISSION: [Row; 8] = [
+    // TxSubmission: Init 0, Idle 1, Blocking 2, NonBlocking 3, Txs 4, Done 5
     row!(0, C, 6, 1), // Init
     row!(1, S, 0, true, 2), // RequestTxIds, blocking
     row!(1, S, 0, 3), // RequestTxIds, not blocking
@@ -98,25 +90,16 @@ static TX_SUBMISSION: [Row; 8] = [
     row!(2, C, 4, 5), // Done
     row!(3, C, 1, 1), // ReplyTxIds
     row!(4, C, 3, 1), // ReplyTxs
-];
-
-// Keep-alive: Client 0, Server 1, Done 2
-static KEEP_ALIVE: [Row; 3] = [
+    // Keep-alive: Client 0, Server 1, Done 2
     row!(0, C, 0, 1), // KeepAlive
     row!(0, C, 2, 2), // Done
     row!(1, S, 1, 0), // Response
-];
-
-// Local TxSubmission: Idle 0, Busy 1, Done 2
-static LOCAL_TX_SUBMISSION: [Row; 4] = [
+    // Local TxSubmission: Idle 0, Busy 1, Done 2
     row!(0, C, 0, 1), // Submit
     row!(0, C, 3, 2), // Done
     row!(1, S, 1, 0), // Accept
     row!(1, S, 2, 0), // Reject
-];
-
-// Local State Query: Idle 0, Acquiring 1, Acquired 2, Querying 3, Done 4
-static LOCAL_STATE_QUERY: [Row; 10] = [
+    // Local State Query: Idle 0, Acquiring 1, Acquired 2, Querying 3, Done 4
     row!(0, C, 0, 1), // Acquire
     row!(0, C, 8, 1), // Acquire of no item
     row!(0, C, 7, 4), // Done
@@ -167,13 +150,13 @@ fn rows(p: Protocol) -> &'static [Row]
     ensures { result.now ≡ rows_of p }
 {
     match p {
-        Protocol::Handshake => &HANDSHAKE,
-        Protocol::ChainSync => &CHAIN_SYNC,
-        Protocol::BlockFetch => &BLOCK_FETCH,
-        Protocol::TxSubmission => &TX_SUBMISSION,
-        Protocol::KeepAlive => &KEEP_ALIVE,
-        Protocol::LocalTxSubmission => &LOCAL_TX_SUBMISSION,
-        Protocol::LocalStateQuery => &LOCAL_STATE_QUERY,
+        Protocol::Handshake => &ROWS[0..3],
+        Protocol::ChainSync => &ROWS[3..13],
+        Protocol::BlockFetch => &ROWS[13..19],
+        Protocol::TxSubmission => &ROWS[19..27],
+        Protocol::KeepAlive => &ROWS[27..30],
+        Protocol::LocalTxSubmission => &ROWS[30..34],
+        Protocol::LocalStateQuery => &ROWS[34..44],
     }
 }
 

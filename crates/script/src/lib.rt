@@ -8,6 +8,7 @@
 pub mod numbers;
 pub mod runs;
 
+ghost use Rattle.std.specs.Prelude.{◌≡◌, ◌≤◌, length};
 ghost use Rattle.script.specs.Inside.{LiesIn};
 
 // A part of a line: from a place on, up to another.
@@ -28,7 +29,8 @@ impl Word {
 
     // The part from a place on, up to the first such byte. Behind the end it is empty.
     pub fn part(line: &[u8], from: usize, by: u8) -> Word
-        ensures { LiesIn line.now result }
+        ensures lies { LiesIn line.now result }
+        ensures begins { from ≤ length line.now → result.from ≡ from }
     {
         let n = line.len();
         if n < from {

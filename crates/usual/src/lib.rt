@@ -171,21 +171,22 @@ pub fn usual(v: View<'_>, at: usize, p: usize, depth: usize) -> Option<Quick>
     simple(b, at)
 }
 
-// The piece that a place is in.
-pub fn piece_of(v: View<'_>, at: usize) -> Piece
-    ensures { PieceAt (length v.entry.bytes.now) v.entry.from v.entry.len at result }
+// The piece that a place is in, of the n bytes from the place `from` on of a ring of len bytes.
+pub fn piece_of(len: usize, from: usize, n: usize, at: usize) -> Piece
+    requires { (from ≤ len) × (n ≤ len) }
+    ensures { PieceAt len from n at result }
 {
-    let room = v.bytes.len() - v.from;
+    let room = len - from;
     if at < room {
         return Piece {
-            plus: v.from,
+            plus: from,
             minus: 0,
-            lim: v.len.min(room).saturating_sub(LONGEST),
+            lim: n.min(room).saturating_sub(LONGEST),
         };
     }
     Piece {
         plus: 0,
         minus: room,
-        lim: v.len.saturating_sub(LONGEST),
+        lim: n.saturating_sub(LONGEST),
     }
 }
