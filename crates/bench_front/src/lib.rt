@@ -207,11 +207,12 @@ fn heard(
 ) -> Connection {
     let instance = instance as u64;
     let end = n.min(wire.len());
-    let mut last = feed(c, store, &wire[..end]).connection;
+    let fed = feed(c, store, &wire[..end]).connection;
     if 0 < looks {
-        last = look(last, store, instance, scratch).connection;
+        let looked = look(fed, store, instance, scratch).connection;
+        return drop(looked, store, instance).connection;
     }
-    drop(last, store, instance).connection
+    drop(fed, store, instance).connection
 }
 
 // A Keep-alive message and its answer: each is put, sent, fed to the other end and dropped there, at once (0 looks) or after

@@ -154,6 +154,9 @@ pub fn usual(v: View<'_>, at: usize, p: usize, depth: usize) -> Option<Quick>
         return Some(Quick::Ends(at + 1));
     }
     if b < STRINGS {
+        if i < ONE_BYTE {
+            return Some(Quick::Past(at + 1));
+        }
         if RESERVED <= i {
             return None;
         }
