@@ -56,6 +56,9 @@ pub struct Piece {
 fn following(i: u8) -> usize
     ensures { result ≡ following i }
 {
+    if i < ONE_BYTE {
+        return 0;
+    }
     match i {
         ONE_BYTE => 1,
         TWO_BYTES => 2,
@@ -154,9 +157,6 @@ pub fn usual(v: View<'_>, at: usize, p: usize, depth: usize) -> Option<Quick>
         return Some(Quick::Ends(at + 1));
     }
     if b < STRINGS {
-        if i < ONE_BYTE {
-            return Some(Quick::Past(at + 1));
-        }
         if RESERVED <= i {
             return None;
         }

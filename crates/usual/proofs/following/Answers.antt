@@ -1,6 +1,6 @@
 -- `usual::following` meets its contract: the definition goes by the same numbers.
 use native.Mathlib.Omega.{arith}
-use Rattle.usual.proofs.UsualHeads.{width_24, width_25, width_26, width_27, width_other}
+use Rattle.usual.proofs.UsualHeads.{width_short, width_24, width_25, width_26, width_27, width_other}
 use Rattle.usual.proofs.following.Goals as goal
 
 pub returns-in-24 : goal.returns-in-24
@@ -22,3 +22,6 @@ returns-in-27 c =
 pub returns-in_default : goal.returns-in_default
 returns-in_default c =
     width_other c.args.i (λ q. omega arith) (λ q. omega arith) (λ q. omega arith) (λ q. omega arith)
+
+pub returns-then-i-lt-ONE_BYTE : goal.returns-then-i-lt-ONE_BYTE
+returns-then-i-lt-ONE_BYTE c = width_short c.args.i c.if-i-lt-ONE_BYTE.true

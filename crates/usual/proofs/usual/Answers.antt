@@ -31,12 +31,6 @@ returns-then-b c =
     let s = (goal.at.returns-then-b c).Start in
     is_break (bytes s) s.args.at s.args.depth _ (near s).0 (first s) c.if-b.true
 
-pub returns-then-i-lt-ONE_BYTE : goal.returns-then-i-lt-ONE_BYTE
-returns-then-i-lt-ONE_BYTE c =
-    let s = (goal.at.returns-then-i-lt-ONE_BYTE c).Start in
-    let none = width_short (info s) c.if-i-lt-ONE_BYTE.true in
-    pass_number (bytes s) s.args.at s.args.depth _ (near s).0 (first s) (s.args.at + 1) (omega (arith, none)) (omega arith) (omega arith)
-
 pub returns-then-b-lt-STRINGS : goal.returns-then-b-lt-STRINGS
 returns-then-b-lt-STRINGS c =
     let s = (goal.at.returns-then-b-lt-STRINGS c).Start in
